@@ -1,0 +1,148 @@
+-- The calls as wholes: set-up, write and read. Each is one equation between everything handed in and everything handed back or left
+-- in an area that was lent.
+use Prim.Native.Nat.{ℕ, zero, suc, _+_, _*_}
+use mathlib.Core.Bool.{Bool, true, false, cond, not, _||_}
+use mathlib.Core.List.{List, [], _∷_}
+use lib.ListN.{length, take, set}
+use Rattle.rules.specs.declared.Channel.{Channel}
+use Rattle.rules.specs.declared.Lane.{Lane}
+use Rattle.rules.specs.declared.Setting.{Setting}
+use Rattle.rules.specs.declared.Reader.{Reader}
+use Rattle.rules.specs.declared.Writer.{Writer}
+use Rattle.rules.specs.declared.Outcome.{Outcome}
+use Rattle.rules.specs.declared.Outcome.the-variants.{Done, Refused}
+use Rattle.rules.specs.declared.Class.{Class}
+use Rattle.rules.specs.declared.Answer.{Answer}
+use Rattle.rules.specs.declared.Taken.{Taken}
+use Rattle.rules.specs.declared.Listener.{Listener}
+use Rattle.rules.specs.declared.Sender.{Sender}
+use Rattle.rules.specs.declared.Verdict.{Verdict}
+use Rattle.rules.specs.declared.Gap.{Gap}
+use Rattle.rules.specs.Tests.{_≤?_, _<?_, _≠?_, Refusal, refuse, given}
+use Rattle.rules.specs.Areas.{laid, joined, part}
+use Rattle.rules.specs.Settings.{channel, lane, channelOf, heldBy, count, number, zone, ocfOctets, settingOk, readerOk, writerOk, freshReader, freshWriter, noReader, noWriter}
+use Rattle.rules.specs.Frames.{countIn, ruleIn, pointerIn, zoneIn, pointsTo}
+use Rattle.rules.specs.Writing.{batchOk, frames, frameOf, writerAfter}
+use Rattle.rules.specs.Reading.{gap, Made, laneStep, recordsFrom, infoOf}
+use Rattle.rules.specs.Refusals.{judge}
+
+-- ---- the paper's number for each case of an answer; 0 where none is refused
+
+unfoldable pub refusalOf : Outcome → ℕ
+refusalOf Done = 0
+refusalOf (Refused n) = n
+
+unfoldable pub classRefusal : Class → ℕ
+classRefusal Class.Idle = 0
+classRefusal Class.Counted = 0
+classRefusal Class.Read = 0
+classRefusal (Class.Refused n) = n
+
+-- ---- set-up: "A refused set-up returns a state of zeros."
+
+unfoldable pub setUpReader : Setting → Listener
+setUpReader s = cond (settingOk s) (record { outcome = Done; state = freshReader s }) (record { outcome = Refused 1; state = noReader })
+
+unfoldable pub setUpWriter : Setting → Sender
+setUpWriter s = cond (settingOk s) (record { outcome = Done; state = freshWriter s }) (record { outcome = Refused 1; state = noWriter })
+
+-- ---- write: "A call names a lane and lends its batch, insert octets, OCF octets and a frame area."
+
+-- What a write hands back, and the frame area after it.
+pub record Sent : Type 0 where
+  pub sender : Sender
+  pub area : List ℕ
+
+-- "Writer 1, 2, 13 to 16."
+unfoldable pub writeRefusals : Writer → ℕ → List ℕ → List ℕ → List ℕ → List ℕ → List Refusal
+writeRefusals w l batch insert ocf area =
+    refuse 1 (not (writerOk w))
+    ∷ refuse 2 (length area <? w .setting .length)
+    ∷ refuse 13 (w .setting .numbered ≤? l)
+    ∷ refuse 14 (not (batchOk ((lane (w .setting) l) .kind) ((lane (w .setting) l) .longest) batch))
+    ∷ refuse 15 (length insert ≠? w .setting .insert || length ocf ≠? ocfOctets (channelOf (w .setting) l))
+    ∷ refuse 16 (frames (zone (w .setting) (channelOf (w .setting) l)) batch ≤? number w l)
+    ∷ []
+
+-- "The call writes the lane's next frame into the first F octets and leaves later ones untouched." Refused by this number; 0 is none.
+unfoldable pub written : Writer → ℕ → List ℕ → List ℕ → List ℕ → List ℕ → ℕ → Sent
+written w l batch insert ocf area zero =
+    record {
+      sender = record { outcome = Done; state = writerAfter w l batch };
+      area = laid area 0 (frameOf (w .setting) l (count w ((lane (w .setting) l) .channel)) batch insert ocf (number w l))
+    }
+written w l batch insert ocf area (suc n) = record { sender = record { outcome = Refused (suc n); state = w }; area = area }
+
+unfoldable pub write : Writer → ℕ → List ℕ → List ℕ → List ℕ → List ℕ → Sent
+write w l batch insert ocf area = written w l batch insert ocf area (given (writeRefusals w l batch insert ocf area))
+
+-- ---- read: "Areas lent: held octets, 65,536; units, at least 12,288; records, at least 9,600."
+
+-- What a read hands back, and the three areas after it.
+pub record Got : Type 0 where
+  pub taken : Taken
+  pub heldArea : List ℕ
+  pub unitArea : List ℕ
+  pub recordArea : List ℕ
+
+unfoldable pub areasShort : List ℕ → List ℕ → List ℕ → Bool
+areasShort h u c = length h ≠? 65536 || length u <? 12288 || length c <? 9600
+
+-- A class whose counts are all 0.
+abbrev pub bare : Class → Answer
+bare k = record { class = k; units = 0; octets = 0; missing = 0; idle = 0; fill = 0; dropped = 0 }
+
+-- "Its count is taken and its data field is not read."
+abbrev pub counted : Gap → Answer
+counted g = record { class = Class.Counted; units = 0; octets = 0; missing = g .missing; idle = 0; fill = 0; dropped = g .dropped }
+
+-- After a gap, what lane l makes, laid into the areas. "In the held area only the octets that the Read lane holds after the call may
+-- change." "Dropped octets (all lanes together)."
+unfoldable pub laidOut : Gap → ℕ → ℕ → Made → List ℕ → List ℕ → List ℕ → Got
+laidOut g l k m h u c =
+    record {
+      taken =
+          record {
+            answer =
+                record { class = Class.Read; units = length (m .units); octets = length (joined (m .units)); missing = g .missing;
+                  idle = m .idle; fill = m .fill; dropped = g .dropped + m .dropped };
+            state = record { setting = g .state .setting; expects = g .state .expects; held = set (g .state .held) l (length (m .held)) }
+          };
+      heldArea = laid h (8192 * l) (m .held);
+      unitArea = laid u 0 (joined (m .units));
+      recordArea = laid c 0 (recordsFrom (infoOf (g .state .setting) l k) 0 (m .units))
+    }
+
+-- What lane l makes of a frame of its channel c, after a gap.
+unfoldable pub madeBy : Gap → ℕ → Channel → List ℕ → List ℕ → Made
+madeBy g l c f h =
+    laneStep ((lane (g .state .setting) l) .kind) ((lane (g .state .setting) l) .longest) (ruleIn (g .state .setting) c f)
+    (take (heldBy (g .state) l) (part l h))
+    (pointsTo (pointerIn (g .state .setting) c f)) (zoneIn (g .state .setting) c f)
+
+unfoldable pub readOn : Gap → ℕ → Channel → List ℕ → List ℕ → List ℕ → List ℕ → Got
+readOn g l c f h u r = laidOut g l (countIn c f) (madeBy g l c f h) h u r
+
+-- "Each returns its number and zero counts; states and areas stay unchanged." "Idle: the state stays and all counts are 0."
+unfoldable pub onVerdict : Verdict → Reader → List ℕ → List ℕ → List ℕ → List ℕ → Got
+onVerdict (Verdict.Refused n) r f h u c =
+    record { taken = record { answer = bare (Class.Refused n); state = r }; heldArea = h; unitArea = u; recordArea = c }
+onVerdict Verdict.Idle r f h u c =
+    record { taken = record { answer = bare Class.Idle; state = r }; heldArea = h; unitArea = u; recordArea = c }
+onVerdict (Verdict.Counted ch) r f h u c =
+    record {
+      taken =
+          record { answer = counted (gap r ch (countIn (channel (r .setting) ch) f)); state = (gap r ch (countIn (channel (r .setting) ch) f)) .state };
+      heldArea = h;
+      unitArea = u;
+      recordArea = c
+    }
+onVerdict (Verdict.Read l) r f h u c =
+    readOn (gap r ((lane (r .setting) l) .channel) (countIn (channelOf (r .setting) l) f)) l (channelOf (r .setting) l) f h u c
+
+-- "Reader 1 to 12."
+unfoldable pub verdict : Reader → List ℕ → List ℕ → List ℕ → List ℕ → Verdict
+verdict r f h u c = cond (not (readerOk r)) (Verdict.Refused 1) (cond (areasShort h u c) (Verdict.Refused 2) (judge (r .setting) f))
+
+unfoldable pub read : Reader → List ℕ → List ℕ → List ℕ → List ℕ → Got
+read r f h u c = onVerdict (verdict r f h u c) r f h u c

@@ -1,0 +1,218 @@
+-- "Reading": counts, then what a lane makes of a zone, then the records.
+use Prim.Native.Nat.{ℕ, zero, suc, _+_, _-_, _*_, _/_, _%_, _^_}
+use mathlib.Core.Bool.{Bool, true, false, cond, not, _&&_, _||_}
+use mathlib.Core.List.{List, [], _∷_, _++_}
+use lib.ListN.{length, take, drop, set}
+use Rattle.rules.specs.declared.Kind.{Kind}
+use Rattle.rules.specs.declared.Kind.the-variants.{Packets, Access}
+use Rattle.rules.specs.declared.Channel.{Channel}
+use Rattle.rules.specs.declared.Lane.{Lane}
+use Rattle.rules.specs.declared.Setting.{Setting}
+use Rattle.rules.specs.declared.Expect.{Expect}
+use Rattle.rules.specs.declared.Reader.{Reader}
+use Rattle.rules.specs.declared.Place.{Place}
+use Rattle.rules.specs.declared.Place.the-variants.{At, Nowhere}
+use Rattle.rules.specs.declared.Measure.{Measure}
+use Rattle.rules.specs.declared.Measure.the-variants.{Lacks, Packet, Idle, Unreadable}
+use Rattle.rules.specs.declared.Next.{Next}
+use Rattle.rules.specs.declared.Next.the-variants.{Give, Skip, Keep, Lose}
+use Rattle.rules.specs.declared.Fate.{Fate}
+use Rattle.rules.specs.declared.Fate.the-variants.{Hand, Blank, Hold, Drop}
+use Rattle.rules.specs.declared.Gap.{Gap}
+use Rattle.rules.specs.declared.Info.{Info}
+use Rattle.rules.specs.Tests.{_≤?_, _<?_, _=?_}
+use Rattle.rules.specs.Octets.{be}
+use Rattle.rules.specs.Settings.{channel, lane, channelOf, expect}
+use Rattle.rules.specs.Packets.{measure}
+
+-- ---- counts, over n
+
+-- "Missing = (count - expected) modulo 256^n, and 0 if none was expected."
+unfoldable pub missing : ℕ → Expect → ℕ → ℕ
+missing n e k = cond (e .known) ((k + 256 ^ n - e .count) % 256 ^ n) 0
+
+-- "Expected becomes count + 1 modulo 256^n."
+unfoldable pub expected : ℕ → ℕ → Expect
+expected n k = record { known = true; count = (k + 1) % 256 ^ n }
+
+-- ---- a gap
+
+-- How many octets each lane holds once those that pass have dropped theirs, and how many octets that drops.
+unfoldable pub emptied : (Lane → Bool) → List Lane → List ℕ → List ℕ
+emptied p [] hs = hs
+emptied p (l ∷ ls) [] = []
+emptied p (l ∷ ls) (h ∷ hs) = cond (p l) 0 h ∷ emptied p ls hs
+
+unfoldable pub lost : (Lane → Bool) → List Lane → List ℕ → ℕ
+lost p [] hs = 0
+lost p (l ∷ ls) [] = 0
+lost p (l ∷ ls) (h ∷ hs) = cond (p l) h 0 + lost p ls hs
+
+abbrev pub lanesOf : Setting → List Lane
+lanesOf s = take (s .numbered) (s .lanes)
+
+-- "If missing is not 0, every lane of that channel first drops what it holds."
+unfoldable pub gapBy : Reader → ℕ → ℕ → Gap
+gapBy r c zero = record { state = r; missing = 0; dropped = 0 }
+gapBy r c (suc m) =
+    record {
+      state = record { setting = r .setting; expects = r .expects; held = emptied (λ (l : Lane). l .channel =? c) (lanesOf (r .setting)) (r .held) };
+      missing = suc m;
+      dropped = lost (λ (l : Lane). l .channel =? c) (lanesOf (r .setting)) (r .held)
+    }
+
+-- "For Counted and Read": a frame of channel c with count k.
+unfoldable pub gap : Reader → ℕ → ℕ → Gap
+gap r c k =
+    gapBy
+    (record { setting = r .setting; expects = set (r .expects) c (expected ((channel (r .setting) c) .octets) k); held = r .held })
+    c (missing ((channel (r .setting) c) .octets) (expect r c) k)
+
+-- ---- what a lane makes of octets
+
+-- The units that it hands out, what it holds afterwards, and how many octets were idle, fill or dropped.
+pub record Made : Type 0 where
+  pub units : List (List ℕ)
+  pub held : List ℕ
+  pub idle : ℕ
+  pub fill : ℕ
+  pub dropped : ℕ
+
+abbrev pub nothing : Made
+nothing = record { units = []; held = []; idle = 0; fill = 0; dropped = 0 }
+
+abbrev pub holds : List ℕ → Made
+holds xs = record { units = []; held = xs; idle = 0; fill = 0; dropped = 0 }
+
+abbrev pub drops : ℕ → Made
+drops n = record { units = []; held = []; idle = 0; fill = 0; dropped = n }
+
+abbrev pub fills : ℕ → Made
+fills n = record { units = []; held = []; idle = 0; fill = n; dropped = 0 }
+
+-- A unit, and then what is made of the octets after it.
+abbrev pub hands : List ℕ → Made → Made
+hands u m = record { units = u ∷ m .units; held = m .held; idle = m .idle; fill = m .fill; dropped = m .dropped }
+
+-- Idle octets, and then what is made of those after them.
+abbrev pub idles : ℕ → Made → Made
+idles n m = record { units = m .units; held = m .held; idle = n + m .idle; fill = m .fill; dropped = m .dropped }
+
+-- One after the other, where the first leaves nothing held.
+unfoldable pub both : Made → Made → Made
+both a b =
+    record {
+      units = a .units ++ b .units;
+      held = b .held;
+      idle = a .idle + b .idle;
+      fill = a .fill + b .fill;
+      dropped = a .dropped + b .dropped
+    }
+
+-- What octets become, all of them together.
+abbrev pub become : Fate → List ℕ → Made
+become Hand xs = hands xs nothing
+become Blank xs = idles (length xs) nothing
+become Hold xs = holds xs
+become Drop xs = drops (length xs)
+
+-- ---- "Packet lane": held octets and lead
+
+-- "With a pointer above 0, the packet must end exactly where the lead does. With FFFF it may also go on, to be held, but not end
+-- sooner. If it fails this, ... or is longer than the lane's longest, held octets and lead are dropped." A packet of `size` octets
+-- of which n are there; `on` says that it may go on, `done` what it is when it ends here.
+unfoldable pub endFate : ℕ → Bool → ℕ → ℕ → Fate → Fate
+endFate longest on size n done =
+    cond (size ≤? longest) (cond (size =? n) done (cond on (cond (n <? size) Hold Drop) Drop)) Drop
+
+-- "If it ... is unreadable, ... held octets and lead are dropped; a finished idle one counts as idle octets. The longest binds idle
+-- packets too."
+unfoldable pub joinedFate : ℕ → Bool → Measure → ℕ → Fate
+joinedFate longest on Lacks n = cond on Hold Drop
+joinedFate longest on (Packet size) n = endFate longest on size n Hand
+joinedFate longest on (Idle size) n = endFate longest on size n Blank
+joinedFate longest on Unreadable n = Drop
+
+-- "With nothing held, the lead is dropped. Otherwise the lead follows the held octets." "Pointer 0 fails": there is no lead.
+unfoldable pub leadFate : ℕ → Bool → Measure → ℕ → ℕ → Fate
+leadFate longest on m h n = cond (h =? 0) Drop (cond (n =? 0) Drop (joinedFate longest on m (h + n)))
+
+unfoldable pub lead : ℕ → Bool → List ℕ → List ℕ → Made
+lead longest on held xs = become (leadFate longest on (measure (held ++ xs)) (length held) (length xs)) (held ++ xs)
+
+-- ---- "Packet lane": the packets from the pointer on
+
+-- A packet of `size` octets at the front of n: longer than the longest, whole, or cut by the zone's end.
+unfoldable pub sizedNext : ℕ → ℕ → ℕ → Next → Next
+sizedNext longest size n done = cond (size ≤? longest) (cond (size ≤? n) done Keep) Lose
+
+-- "Idle ones are left out, a packet cut by the zone's end is held (fewer than 6 octets of it too), an unreadable or too long one
+-- drops itself and the rest of the zone."
+unfoldable pub nextOf : ℕ → Measure → ℕ → Next
+nextOf longest Lacks n = Keep
+nextOf longest (Packet size) n = sizedNext longest size n (Give size)
+nextOf longest (Idle size) n = sizedNext longest size n (Skip size)
+nextOf longest Unreadable n = Lose
+
+-- The packet at the front, and then what the octets after it make.
+abbrev pub front : Next → List ℕ → (List ℕ → Made) → Made
+front (Give n) xs rest = hands (take n xs) (rest (drop n xs))
+front (Skip n) xs rest = idles n (rest (drop n xs))
+front Keep xs rest = holds xs
+front Lose xs rest = drops (length xs)
+
+-- At most n packets.
+unfoldable pub walkUpTo : ℕ → ℕ → List ℕ → Made
+walkUpTo longest zero xs = nothing
+walkUpTo longest (suc n) xs = front (nextOf longest (measure xs) (length xs)) xs (λ (ys : List ℕ). walkUpTo longest n ys)
+
+-- "From the pointer on, packets are read one after another." There are no more than octets.
+unfoldable pub walk : ℕ → List ℕ → Made
+walk longest xs = walkUpTo longest (length xs) xs
+
+-- "The lead is the octets before the pointer, or the whole zone for FFFF." Told where the first packet starts, or that none does.
+unfoldable pub packetLane : ℕ → List ℕ → Place → List ℕ → Made
+packetLane longest held (At p) z = both (lead longest false held (take p z)) (walk longest (drop p z))
+packetLane longest held Nowhere z = lead longest true held z
+
+-- ---- "Access lane"
+
+-- "A unit that reaches its last octet is handed out. One above the longest, or at the longest and still unfinished, is dropped
+-- whole." Of n octets so far.
+unfoldable pub unitFate : ℕ → Bool → ℕ → Fate
+unitFate longest finished n = cond finished (cond (n ≤? longest) Hand Drop) (cond (n <? longest) Hold Drop)
+
+-- "010 follows what is held; if nothing is, its octets up to the last are dropped."
+unfoldable pub followFate : ℕ → Bool → ℕ → ℕ → Fate
+followFate longest finished h n = cond (h =? 0) Drop (unitFate longest finished (h + n))
+
+-- "Rule 001 drops what is held and begins."
+unfoldable pub portion : ℕ → Bool → Bool → List ℕ → List ℕ → Made
+portion longest finished true held xs = both (drops (length held)) (become (unitFate longest finished (length xs)) xs)
+portion longest finished false held xs = become (followFate longest finished (length held) (length xs)) (held ++ xs)
+
+-- "Octets after the last are fill." Told where the unit's last octet is, or that it goes on.
+unfoldable pub accessLane : ℕ → Bool → List ℕ → Place → List ℕ → Made
+accessLane longest begins held (At p) z = both (fills (length z - (p + 1))) (portion longest true begins held (take (p + 1) z))
+accessLane longest begins held Nowhere z = portion longest false begins held z
+
+-- ---- a lane of either kind: its longest, the construction rule, what it holds, what the pointer points to, and the zone
+
+unfoldable pub laneStep : Kind → ℕ → ℕ → List ℕ → Place → List ℕ → Made
+laneStep Packets longest rule held p z = packetLane longest held p z
+laneStep Access longest rule held p z = accessLane longest (rule =? 0b001) held p z
+
+-- ---- records
+
+-- "Record, sizes in octets: lane 1, virtual channel 1, map 1, service 1, start 4, length 4, finishing frame's count modulo 2^32 4."
+unfoldable pub recordOf : Info → ℕ → ℕ → List ℕ
+recordOf i start size = i .lane ∷ i .vc ∷ i .map ∷ i .service ∷ be 4 start ++ be 4 size ++ be 4 (i .count)
+
+-- "Units stand back to back from the start of the unit area, each with one 16-octet record."
+unfoldable pub recordsFrom : Info → ℕ → List (List ℕ) → List ℕ
+recordsFrom i start [] = []
+recordsFrom i start (u ∷ us) = recordOf i start (length u) ++ recordsFrom i (start + length u) us
+
+unfoldable pub infoOf : Setting → ℕ → ℕ → Info
+infoOf s l k =
+    record { lane = l; vc = (channelOf s l) .vc; map = (lane s l) .map; service = (channelOf s l) .service; count = k }

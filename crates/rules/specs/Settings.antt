@@ -1,0 +1,142 @@
+-- "The setting."
+use Prim.Native.Nat.{ℕ, zero, suc, _+_, _-_, _^_}
+use mathlib.Core.Bool.{Bool, true, false, cond, not, _&&_, Bool·beq}
+use mathlib.Core.List.{List, [], _∷_}
+use lib.ListN.{getD, replicate}
+use Rattle.rules.specs.declared.Kind.{Kind}
+use Rattle.rules.specs.declared.Kind.the-variants.{Packets, Access}
+use Rattle.rules.specs.declared.Channel.{Channel}
+use Rattle.rules.specs.declared.Lane.{Lane}
+use Rattle.rules.specs.declared.Setting.{Setting}
+use Rattle.rules.specs.declared.Expect.{Expect}
+use Rattle.rules.specs.declared.Reader.{Reader}
+use Rattle.rules.specs.declared.Writer.{Writer}
+use Rattle.rules.specs.Tests.{_≤?_, _<?_, _=?_, _≠?_, all, every}
+
+-- ---- slots: a slot that a list does not have is one of zeros
+
+abbrev pub noChannel : Channel
+noChannel = record { vc = 0; service = 0; octets = 0; ocf = false }
+
+abbrev pub noLane : Lane
+noLane = record { channel = 0; map = 0; kind = Packets; longest = 0; upid = 0 }
+
+abbrev pub noExpect : Expect
+noExpect = record { known = false; count = 0 }
+
+abbrev pub channel : Setting → ℕ → Channel
+channel s c = getD (s .channels) c noChannel
+
+abbrev pub lane : Setting → ℕ → Lane
+lane s l = getD (s .lanes) l noLane
+
+-- Lane l's channel.
+abbrev pub channelOf : Setting → ℕ → Channel
+channelOf s l = channel s ((lane s l) .channel)
+
+abbrev pub expect : Reader → ℕ → Expect
+expect r c = getD (r .expects) c noExpect
+
+-- How many octets lane l holds.
+abbrev pub heldBy : Reader → ℕ → ℕ
+heldBy r l = getD (r .held) l 0
+
+abbrev pub count : Writer → ℕ → ℕ
+count w c = getD (w .counts) c 0
+
+-- Lane l's next frame number.
+abbrev pub number : Writer → ℕ → ℕ
+number w l = getD (w .next) l 0
+
+-- ---- the zone
+
+abbrev pub ocfOctets : Channel → ℕ
+ocfOctets c = cond (c .ocf) 4 0
+
+abbrev pub checkOctets : Setting → ℕ
+checkOctets s = cond (s .check) 2 0
+
+-- "The zone of a channel is Z = F - 7 - n - I - 3, less 4 with OCF, less 2 with frame check."
+unfoldable pub zone : Setting → Channel → ℕ
+zone s c = s .length - (7 + c .octets + s .insert + 3 + ocfOctets c + checkOctets s)
+
+-- ---- a valid setting
+
+-- "Frame length F: 32 to 4,096. Spacecraft number 0 to 65,535; source-or-destination bit. Insert zone I: 0 to 64 octets. Frame
+-- check: yes or no."
+unfoldable pub rangesOk : Setting → Bool
+rangesOk s = all (32 ≤? s .length ∷ s .length ≤? 4096 ∷ s .craft ≤? 65535 ∷ s .bit ≤? 1 ∷ s .insert ≤? 64 ∷ [])
+
+-- "A channel is a virtual channel (0 to 62) with a service (0 sequence-controlled, 1 expedited), a count length n of 1 to 7
+-- octets, and OCF yes or no." "Z is at least 1 for every channel."
+unfoldable pub channelOk : Setting → Channel → Bool
+channelOk s c = all (c .vc ≤? 62 ∷ c .service ≤? 1 ∷ 1 ≤? c .octets ∷ c .octets ≤? 7 ∷ 1 ≤? zone s c ∷ [])
+
+-- "No pair is listed twice. Two channels of one virtual channel agree about the OCF."
+unfoldable pub channelsAgree : Channel → Channel → Bool
+channelsAgree a b = cond (a .vc =? b .vc) (a .service ≠? b .service && Bool·beq (a .ocf) (b .ocf)) true
+
+-- "1 to 8 channels."
+unfoldable pub channelsOk : Setting → Bool
+channelsOk s =
+    all (1 ≤? s .listed ∷ s .listed ≤? 8 ∷ every (s .listed) (λ (i : ℕ). channelOk s (channel s i))
+    ∷ every (s .listed) (λ (i : ℕ). every i (λ (j : ℕ). channelsAgree (channel s j) (channel s i))) ∷ [])
+
+-- "Packet lane: longest 7 to 8,192, UPID 0. Access lane: longest 1 to 8,192, UPID 1 to 30."
+unfoldable pub kindOk : Kind → ℕ → ℕ → Bool
+kindOk Packets longest upid = all (7 ≤? longest ∷ longest ≤? 8192 ∷ upid =? 0 ∷ [])
+kindOk Access longest upid = all (1 ≤? longest ∷ longest ≤? 8192 ∷ 1 ≤? upid ∷ upid ≤? 30 ∷ [])
+
+-- "A lane is a listed channel, a map number 0 to 15, a kind, a longest unit and a protocol number (UPID)."
+unfoldable pub laneOk : Setting → Lane → Bool
+laneOk s l = all (l .channel <? s .listed ∷ l .map ≤? 15 ∷ kindOk (l .kind) (l .longest) (l .upid) ∷ [])
+
+-- "No two lanes share channel and map."
+unfoldable pub lanesDiffer : Lane → Lane → Bool
+lanesDiffer a b = not (a .channel =? b .channel && a .map =? b .map)
+
+-- "1 to 8 lanes, numbered from 0."
+unfoldable pub lanesOk : Setting → Bool
+lanesOk s =
+    all (1 ≤? s .numbered ∷ s .numbered ≤? 8 ∷ every (s .numbered) (λ (i : ℕ). laneOk s (lane s i))
+    ∷ every (s .numbered) (λ (i : ℕ). every i (λ (j : ℕ). lanesDiffer (lane s j) (lane s i))) ∷ [])
+
+unfoldable pub settingOk : Setting → Bool
+settingOk s = all (rangesOk s ∷ channelsOk s ∷ lanesOk s ∷ [])
+
+-- ---- states
+
+-- "A fresh reader expects no count, and no lane holds octets."
+unfoldable pub freshReader : Setting → Reader
+freshReader s = record { setting = s; expects = replicate 8 noExpect; held = replicate 8 0 }
+
+-- "A fresh writer has every count and every lane's next frame number at 0."
+unfoldable pub freshWriter : Setting → Writer
+freshWriter s = record { setting = s; counts = replicate 8 0; next = replicate 8 0 }
+
+-- "A state handed in is valid when its setting is, each count is below 256^n, each lane holds fewer octets than its longest unit,
+-- and next frame numbers are at most 32,767."
+unfoldable pub readerOk : Reader → Bool
+readerOk r =
+    all (settingOk (r .setting)
+    ∷ every (r .setting .listed) (λ (c : ℕ). (expect r c) .count <? 256 ^ (channel (r .setting) c) .octets)
+    ∷ every (r .setting .numbered) (λ (l : ℕ). heldBy r l <? (lane (r .setting) l) .longest) ∷ [])
+
+unfoldable pub writerOk : Writer → Bool
+writerOk w =
+    all (settingOk (w .setting)
+    ∷ every (w .setting .listed) (λ (c : ℕ). count w c <? 256 ^ (channel (w .setting) c) .octets)
+    ∷ every (w .setting .numbered) (λ (l : ℕ). number w l ≤? 32767) ∷ [])
+
+-- ---- "a state of zeros"
+
+unfoldable pub noSetting : Setting
+noSetting =
+    record { length = 0; craft = 0; bit = 0; insert = 0; check = false; listed = 0; channels = replicate 8 noChannel;
+      numbered = 0; lanes = replicate 8 noLane }
+
+unfoldable pub noReader : Reader
+noReader = record { setting = noSetting; expects = replicate 8 noExpect; held = replicate 8 0 }
+
+unfoldable pub noWriter : Writer
+noWriter = record { setting = noSetting; counts = replicate 8 0; next = replicate 8 0 }

@@ -1,0 +1,159 @@
+// The types that document 01 speaks of. Plain data, all of it, handed in and out by value.
+//
+// The first case of each enum is the one that a state of zeros has.
+
+// What a lane carries: Space Packets that span frames, or access units (MAPA_SDU).
+pub enum Kind {
+    Packets,
+    Access,
+}
+
+// A virtual channel with a service (0 sequence-controlled, 1 expedited), how many octets its count has, and whether its
+// frames have an operational control field.
+pub struct Channel {
+    pub vc: u8,
+    pub service: u8,
+    pub octets: usize,
+    pub ocf: bool,
+}
+
+// A listed channel, by its place in the list; a map; what the lane carries; the longest unit; the protocol number.
+pub struct Lane {
+    pub channel: usize,
+    pub map: u8,
+    pub kind: Kind,
+    pub longest: usize,
+    pub upid: u8,
+}
+
+// Frame length, spacecraft number, source-or-destination bit, octets of the insert zone, whether there is a frame check;
+// then how many of the channels are listed, and how many of the lanes are numbered: later slots say nothing.
+pub struct Setting {
+    pub length: usize,
+    pub craft: u16,
+    pub bit: u8,
+    pub insert: usize,
+    pub check: bool,
+    pub listed: usize,
+    pub channels: [Channel; 8],
+    pub numbered: usize,
+    pub lanes: [Lane; 8],
+}
+
+// Whether a count is expected, and which.
+pub struct Expect {
+    pub known: bool,
+    pub count: u64,
+}
+
+// A reader's state: for each channel the count it expects, for each lane how many octets it holds.
+pub struct Reader {
+    pub setting: Setting,
+    pub expects: [Expect; 8],
+    pub held: [usize; 8],
+}
+
+// A writer's state: for each channel the count of its next frame, for each lane the number of its next frame in its batch.
+pub struct Writer {
+    pub setting: Setting,
+    pub counts: [u64; 8],
+    pub next: [usize; 8],
+}
+
+// How set-up and write end: done, or refused with the paper's number.
+pub enum Outcome {
+    Done,
+    Refused(u8),
+}
+
+// What the reader's set-up answers.
+pub struct Listener {
+    pub outcome: Outcome,
+    pub state: Reader,
+}
+
+// What the writer's set-up and each write answer.
+pub struct Sender {
+    pub outcome: Outcome,
+    pub state: Writer,
+}
+
+// The class of a frame.
+pub enum Class {
+    Idle,
+    Counted,
+    Read,
+    Refused(u8),
+}
+
+// What a read answers: class, units, unit octets, missing frames, and octets that were idle, fill or dropped.
+pub struct Answer {
+    pub class: Class,
+    pub units: usize,
+    pub octets: usize,
+    pub missing: u64,
+    pub idle: usize,
+    pub fill: usize,
+    pub dropped: usize,
+}
+
+// A read's answer, and the state after it.
+pub struct Taken {
+    pub answer: Answer,
+    pub state: Reader,
+}
+
+// A place, or none: of a channel in the list, of a lane, of the octet where a packet starts or a unit ends.
+pub enum Place {
+    At(usize),
+    Nowhere,
+}
+
+// What the octets from a packet's first on say of it.
+pub enum Measure {
+    Lacks,
+    Packet(usize),
+    Idle(usize),
+    Unreadable,
+}
+
+// What becomes of the packet at the front of a zone: handed out whole, left out as idle, held for it is cut, or dropped with
+// the rest of the zone.
+pub enum Next {
+    Give(usize),
+    Skip(usize),
+    Keep,
+    Lose,
+}
+
+// What becomes of held octets with those that follow them: all handed out, all idle, all held, or all dropped.
+pub enum Fate {
+    Hand,
+    Blank,
+    Hold,
+    Drop,
+}
+
+// What the checks say of a frame: refused, idle, counted on a channel, or read by a lane.
+pub enum Verdict {
+    Refused(u8),
+    Idle,
+    Counted(usize),
+    Read(usize),
+}
+
+// After a frame's count was taken: the state, how many frames are missing, how many held octets that dropped.
+pub struct Gap {
+    pub state: Reader,
+    pub missing: u64,
+    pub dropped: usize,
+}
+
+// What the records of one read have in common: lane, virtual channel, map, service, and the finishing frame's count.
+pub struct Info {
+    pub lane: u8,
+    pub vc: u8,
+    pub map: u8,
+    pub service: u8,
+    pub count: u64,
+}
