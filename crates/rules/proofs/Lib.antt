@@ -1,3 +1,10 @@
 pub mod Worked
 pub mod Tests
 pub mod Valid
+pub mod Octets
+pub mod Counts
+pub mod Lanes
+pub mod Judged
+pub mod States
+pub mod Calls
+pub mod Written

@@ -1,0 +1,263 @@
+-- The calls: outcomes allowed for one input are equal; a refusal changes nothing; a valid state stays valid; units and records of any
+-- frame fit their areas.
+use mathlib.Core.Path.{_≡_, refl, sym, ap, _∙_, subst}
+use mathlib.Core.Logic.{_≢_}
+use Prim.Native.Nat.{ℕ, zero, suc, _+_, _-_, _*_, _≤_, _<_}
+use native.Mathlib.Nat.{zero-lt-suc, le-trans}
+use native.Mathlib.Omega.{arith}
+use mathlib.Core.Bool.{Bool, true, false, cond, not, _||_}
+use mathlib.Core.List.{List, [], _∷_}
+use lib.ListN.{length, take, drop, length-take}
+use borrow.Author.Tests.{leb-false, ltb-false, eqb-true, not-false}
+use Rattle.rules.specs.declared.Channel.{Channel}
+use Rattle.rules.specs.declared.Setting.{Setting}
+use Rattle.rules.specs.declared.Reader.{Reader}
+use Rattle.rules.specs.declared.Writer.{Writer}
+use Rattle.rules.specs.declared.Outcome.{Outcome}
+use Rattle.rules.specs.declared.Outcome.the-variants.{Done, Refused}
+use Rattle.rules.specs.declared.Class.{Class}
+use Rattle.rules.specs.declared.Answer.{Answer}
+use Rattle.rules.specs.declared.Listener.{Listener}
+use Rattle.rules.specs.declared.Sender.{Sender}
+use Rattle.rules.specs.declared.Verdict.{Verdict}
+use Rattle.rules.specs.declared.Gap.{Gap}
+use Rattle.rules.specs.Tests.{given}
+use Rattle.rules.specs.Areas.{joined, part}
+use Rattle.rules.specs.Settings.{channel, lane, channelOf, heldBy, number, zone, ocfOctets, settingOk, readerOk, writerOk, freshReader, freshWriter, noReader, noWriter}
+use Rattle.rules.specs.Frames.{countIn, ruleIn, pointerIn, zoneIn, pointsTo}
+use Rattle.rules.specs.Writing.{batchOk, frames}
+use Rattle.rules.specs.Reading.{gap, Made, laneStep}
+use Rattle.rules.specs.Refusals.{judge}
+use Rattle.rules.specs.Calls.{setUpReader, setUpWriter, Sent, writeRefusals, written, write, Got, areasShort, bare, laidOut, madeBy, readOn, onVerdict, verdict, read}
+use Rattle.rules.proofs.Tests.{or-none, given-zero}
+use Rattle.rules.proofs.Valid.{Good, GoodChannel, GoodKind, GoodReader, good-reader, GoodWriter, good-writer, good-channelOf}
+use Rattle.rules.proofs.Lanes.{total, lane-total, lane-below, lane-few}
+use Rattle.rules.proofs.Judged.{Judged, Reads, judge-facts}
+use Rattle.rules.proofs.States.{reader-ok, writer-ok, fresh-reader, fresh-writer, no-reader, no-writer, gap-setting, good-gap, good-held, frames-few, GoodBatch, good-batch, good-after}
+
+-- ---- outcomes allowed for one input are equal
+
+pub reader-setup-once : (s : Setting) (a b : Listener) → a ≡ setUpReader s → b ≡ setUpReader s → a ≡ b
+reader-setup-once s a b p q = p ∙ sym q
+
+pub writer-setup-once : (s : Setting) (a b : Sender) → a ≡ setUpWriter s → b ≡ setUpWriter s → a ≡ b
+writer-setup-once s a b p q = p ∙ sym q
+
+pub write-once : (w : Writer) (l : ℕ) (batch insert ocf area : List ℕ) (a b : Sent) → a ≡ write w l batch insert ocf area
+    → b ≡ write w l batch insert ocf area → a ≡ b
+write-once w l batch insert ocf area a b p q = p ∙ sym q
+
+pub read-once : (r : Reader) (f h u c : List ℕ) (a b : Got) → a ≡ read r f h u c → b ≡ read r f h u c → a ≡ b
+read-once r f h u c a b p q = p ∙ sym q
+
+-- ---- set-up
+
+-- An accepted setting: a fresh state, which is valid. Any other: refusal 1 and a state of zeros, which is not.
+pub setup-accepted : (s : Setting) → settingOk s ≡ true
+    → (setUpReader s ≡ record { outcome = Done; state = freshReader s }) × (setUpWriter s ≡ record { outcome = Done; state = freshWriter s })
+      × (readerOk (freshReader s) ≡ true) × (writerOk (freshWriter s) ≡ true)
+unfolding setUpReader setUpWriter
+setup-accepted s e = (rw e, rw e, fresh-reader s e, fresh-writer s e)
+
+pub setup-refused : (s : Setting) → settingOk s ≡ false
+    → (setUpReader s ≡ record { outcome = Refused 1; state = noReader }) × (setUpWriter s ≡ record { outcome = Refused 1; state = noWriter })
+      × (readerOk noReader ≡ false) × (writerOk noWriter ≡ false)
+unfolding setUpReader setUpWriter
+setup-refused s e = (rw e, rw e, no-reader, no-writer)
+
+-- ---- write
+
+-- What an accepted write is handed.
+pub record Accepted (w : Writer) (l : ℕ) (b i o area : List ℕ) : Type 0 where
+  pub good : GoodWriter w
+  pub room : w .setting .length ≤ length area
+  pub numbered : l < w .setting .numbered
+  pub batch : batchOk ((lane (w .setting) l) .kind) ((lane (w .setting) l) .longest) b ≡ true
+  pub insert : length i ≡ w .setting .insert
+  pub ocf : length o ≡ ocfOctets (channelOf (w .setting) l)
+  pub below : number w l < frames (zone (w .setting) (channelOf (w .setting) l)) b
+
+module _ (w : Writer) (l : ℕ) (batch insert ocf area : List ℕ) where
+  pub none-refused : given (writeRefusals w l batch insert ocf area) ≡ 0 → Accepted w l batch insert ocf area
+  unfolding writeRefusals
+  none-refused e =
+      let r₁ = given-zero _ _ (zero-lt-suc 0) e in
+      let r₂ = given-zero _ _ (zero-lt-suc 1) (r₁ .1) in
+      let r₁₃ = given-zero _ _ (zero-lt-suc 12) (r₂ .1) in
+      let r₁₄ = given-zero _ _ (zero-lt-suc 13) (r₁₃ .1) in
+      let r₁₅ = given-zero _ _ (zero-lt-suc 14) (r₁₄ .1) in
+      let r₁₆ = given-zero _ _ (zero-lt-suc 15) (r₁₅ .1) in
+      let o = or-none _ _ (r₁₅ .0) in
+      record {
+        good = good-writer w (not-false _ (r₁ .0));
+        room = ltb-false _ _ (r₂ .0);
+        numbered = leb-false _ _ (r₁₃ .0);
+        batch = not-false _ (r₁₄ .0);
+        insert = eqb-true _ _ (not-false _ (o .0));
+        ocf = eqb-true _ _ (not-false _ (o .1));
+        below = leb-false _ _ (r₁₆ .0)
+      }
+
+  pub accepted : (write w l batch insert ocf area) .sender .outcome ≡ Done → given (writeRefusals w l batch insert ocf area) ≡ 0
+  unfolding write
+  accepted e = go (given (writeRefusals w l batch insert ocf area)) e
+    where
+      go : (n : ℕ) → (written w l batch insert ocf area n) .sender .outcome ≡ Done → n ≡ 0
+      go zero q = refl
+      go (suc n) q = unfold written in let z : _≡_ {A = ℕ} 0 1 = cc in absurd (omega arith)
+
+  -- A refusal changes no octet and no state.
+  pub write-refused : (n : ℕ) → (write w l batch insert ocf area) .sender .outcome ≡ Refused n
+      → write w l batch insert ocf area ≡ record { sender = record { outcome = Refused n; state = w }; area = area }
+  unfolding write
+  write-refused n e = go (given (writeRefusals w l batch insert ocf area)) e
+    where
+      go : (m : ℕ) → (written w l batch insert ocf area m) .sender .outcome ≡ Refused n
+          → written w l batch insert ocf area m ≡ record { sender = record { outcome = Refused n; state = w }; area = area }
+      go zero q = unfold written in let z : _≡_ {A = ℕ} 0 1 = cc in absurd (omega arith)
+      go (suc m) q = unfold written in ap (λ (o : Outcome). record { sender = record { outcome = o; state = w }; area = area }) q
+
+  -- A valid state stays valid.
+  pub write-valid : writerOk w ≡ true → writerOk ((write w l batch insert ocf area) .sender .state) ≡ true
+  unfolding write
+  write-valid ok = go (given (writeRefusals w l batch insert ocf area)) refl
+    where
+      go : (n : ℕ) → given (writeRefusals w l batch insert ocf area) ≡ n → writerOk ((written w l batch insert ocf area n) .sender .state) ≡ true
+      go zero e =
+          unfold written in
+          let a = none-refused e in
+          let k = good-kind-of (a .good .setting) (a .numbered) in
+          let b = good-batch _ _ batch (k .most) (a .batch) in
+          let c = good-channelOf (a .good .setting) l (a .numbered) in
+          writer-ok _ (good-after w (a .good) l batch (a .below) (le-trans (frames-few _ batch (c .room) (b .some)) (b .most)))
+        where
+          good-kind-of : Good (w .setting) → l < w .setting .numbered
+              → GoodKind ((lane (w .setting) l) .kind) ((lane (w .setting) l) .longest) ((lane (w .setting) l) .upid)
+          good-kind-of g h = g .lanes l h .kind
+      go (suc n) e = unfold written in ok
+
+-- ---- read
+
+-- What is known of the verdict of a read: where none of refusals 1 and 2 applies, state and areas are in order.
+pub record Ordered (r : Reader) (f h u c : List ℕ) (v : Verdict) : Type 0 where
+  pub good : GoodReader r
+  pub areas : areasShort h u c ≡ false
+  pub judged : Judged (r .setting) f v
+
+abbrev pub Ruled : Reader → List ℕ → List ℕ → List ℕ → List ℕ → Verdict → Type 0
+Ruled r f h u c (Verdict.Refused n) = Unit {0}
+Ruled r f h u c Verdict.Idle = Ordered r f h u c Verdict.Idle
+Ruled r f h u c (Verdict.Counted k) = Ordered r f h u c (Verdict.Counted k)
+Ruled r f h u c (Verdict.Read l) = Ordered r f h u c (Verdict.Read l)
+
+module _ (r : Reader) (f h u c : List ℕ) where
+  ruled : (v : Verdict) → Ordered r f h u c v → Ruled r f h u c v
+  ruled (Verdict.Refused n) o = tt
+  ruled Verdict.Idle o = o
+  ruled (Verdict.Counted k) o = o
+  ruled (Verdict.Read l) o = o
+
+  pub verdict-facts : Ruled r f h u c (verdict r f h u c)
+  unfolding verdict
+  verdict-facts = go (readerOk r) refl (areasShort h u c) refl
+    where
+      go : (a : Bool) → readerOk r ≡ a → (b : Bool) → areasShort h u c ≡ b
+          → Ruled r f h u c (cond (not a) (Verdict.Refused 1) (cond b (Verdict.Refused 2) (judge (r .setting) f)))
+      go true e true q = tt
+      go true e false q = ruled (judge (r .setting) f) (record { good = good-reader r e; areas = q; judged = judge-facts (r .setting) f })
+      go false e b q = tt
+
+  -- A refusal changes no octet and no state, and all its counts are 0.
+  pub read-refused : (n : ℕ) → (read r f h u c) .taken .answer .class ≡ Class.Refused n
+      → read r f h u c ≡ record { taken = record { answer = bare (Class.Refused n); state = r }; heldArea = h; unitArea = u; recordArea = c }
+  unfolding read
+  read-refused n e = go (verdict r f h u c) e
+    where
+      go : (v : Verdict) → (onVerdict v r f h u c) .taken .answer .class ≡ Class.Refused n
+          → onVerdict v r f h u c ≡ record { taken = record { answer = bare (Class.Refused n); state = r }; heldArea = h; unitArea = u; recordArea = c }
+      go (Verdict.Refused m) q =
+          unfold onVerdict in ap (λ (k : Class). record { taken = record { answer = bare k; state = r }; heldArea = h; unitArea = u; recordArea = c }) q
+      go Verdict.Idle q = unfold onVerdict in let z : _≡_ {A = ℕ} 0 1 = cc in absurd (omega arith)
+      go (Verdict.Counted k) q = unfold onVerdict in let z : _≡_ {A = ℕ} 0 1 = cc in absurd (omega arith)
+      go (Verdict.Read l) q = unfold onVerdict readOn laidOut in let z : _≡_ {A = ℕ} 0 1 = cc in absurd (omega arith)
+
+-- ---- what a lane that reads makes
+
+module _ (r : Reader) (f h : List ℕ) (l : ℕ) (g : GoodReader r) (lh : l < r .setting .numbered) (k : ℕ) where
+  abbrev after : Gap
+  after = gap r ((lane (r .setting) l) .channel) k
+
+  good-gapped : GoodReader (after .state)
+  good-gapped = good-gap r g ((lane (r .setting) l) .channel) k
+
+  same-setting : after .state .setting ≡ r .setting
+  same-setting = gap-setting r ((lane (r .setting) l) .channel) k
+
+  still-numbered : l < after .state .setting .numbered
+  still-numbered = rw same-setting lh
+
+  lane-kind : GoodKind ((lane (after .state .setting) l) .kind) ((lane (after .state .setting) l) .longest) ((lane (after .state .setting) l) .upid)
+  lane-kind = good-gapped .setting .lanes l still-numbered .kind
+
+  -- It holds fewer octets than its longest unit.
+  pub made-below : (c : Channel) → length ((madeBy after l c f h) .held) < (lane (after .state .setting) l) .longest
+  unfolding madeBy
+  made-below c = lane-below _ _ _ _ _ _ (lane-kind .enough)
+
+  -- Its units and their records fit.
+  pub record Fits (m : Made) : Type 0 where
+    pub octets : length (joined (m .units)) ≤ 12288
+    pub records : 16 * length (m .units) ≤ 9600
+
+  few-held : length (take (heldBy (after .state) l) (part l h)) ≤ 8191
+  few-held =
+      let a = length-take (heldBy (after .state) l) (part l h) in
+      let b = good-gapped .held l still-numbered in
+      omega (arith, a, b, lane-kind .most)
+
+  small-zone : (c : Channel) → length (zoneIn (after .state .setting) c f) ≤ 4086
+  unfolding zoneIn zone
+  small-zone c =
+      let a = length-take (zone (after .state .setting) c) (drop 3 (drop (7 + c .octets + after .state .setting .insert) f)) in
+      omega (arith, a, good-gapped .setting .high)
+
+  pub made-fits : (c : Channel) → Fits (madeBy after l c f h)
+  unfolding madeBy total
+  made-fits c =
+      let t = lane-total ((lane (after .state .setting) l) .kind) ((lane (after .state .setting) l) .longest) (ruleIn (after .state .setting) c f) (take (heldBy (after .state) l) (part l h)) (pointsTo (pointerIn (after .state .setting) c f)) (zoneIn (after .state .setting) c f) in
+      let n = lane-few ((lane (after .state .setting) l) .kind) ((lane (after .state .setting) l) .longest) (ruleIn (after .state .setting) c f) (take (heldBy (after .state) l) (part l h)) (pointsTo (pointerIn (after .state .setting) c f)) (zoneIn (after .state .setting) c f) in
+      let z = small-zone c in
+      record { octets = omega (arith, t, few-held, z); records = omega (arith, n, z) }
+
+-- ---- a valid state stays valid, and what is handed out fits, over every read
+
+pub read-valid : (r : Reader) (f h u c : List ℕ) → readerOk r ≡ true → readerOk ((read r f h u c) .taken .state) ≡ true
+unfolding read
+read-valid r f h u c ok = go (verdict r f h u c) (verdict-facts r f h u c)
+  where
+    go : (v : Verdict) → Ruled r f h u c v → readerOk ((onVerdict v r f h u c) .taken .state) ≡ true
+    go (Verdict.Refused n) o = unfold onVerdict in ok
+    go Verdict.Idle o = unfold onVerdict in ok
+    go (Verdict.Counted k) o = unfold onVerdict in reader-ok _ (good-gap r (o .good) k (countIn (channel (r .setting) k) f))
+    go (Verdict.Read l) o =
+        unfold onVerdict readOn laidOut in
+        let k : ℕ = countIn (channelOf (r .setting) l) f in
+        reader-ok _ (good-held _ (good-gap r (o .good) ((lane (r .setting) l) .channel) k) l _ (made-below r f h l (o .good) (o .judged .numbered) k (channelOf (r .setting) l)))
+
+-- Units and records of any frame fit 12,288 and 9,600 octets.
+pub record Small (a : Answer) : Type 0 where
+  pub octets : a .octets ≤ 12288
+  pub records : 16 * a .units ≤ 9600
+
+pub read-fits : (r : Reader) (f h u c : List ℕ) → Small ((read r f h u c) .taken .answer)
+unfolding read
+read-fits r f h u c = go (verdict r f h u c) (verdict-facts r f h u c)
+  where
+    go : (v : Verdict) → Ruled r f h u c v → Small ((onVerdict v r f h u c) .taken .answer)
+    go (Verdict.Refused n) o = unfold onVerdict in record { octets = omega arith; records = omega arith }
+    go Verdict.Idle o = unfold onVerdict in record { octets = omega arith; records = omega arith }
+    go (Verdict.Counted k) o = unfold onVerdict in record { octets = omega arith; records = omega arith }
+    go (Verdict.Read l) o =
+        unfold onVerdict readOn laidOut in
+        let m = made-fits r f h l (o .good) (o .judged .numbered) (countIn (channelOf (r .setting) l) f) (channelOf (r .setting) l) in
+        record { octets = m .octets; records = m .records }

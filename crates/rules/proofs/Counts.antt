@@ -1,0 +1,88 @@
+-- Facts about counts, once over n: counts are taken modulo 256^n.
+use mathlib.Core.Path.{_≡_, refl, sym, ap, _∙_}
+use Prim.Native.Nat.{ℕ, zero, suc, _+_, _-_, _*_, _%_, _^_, _≤_, _<_}
+use native.Mathlib.Nat.{mod-lt, mod-eq-of-lt, mod-self, mod-add-mod, add-mod-right}
+use native.Mathlib.Omega.{arith}
+use mathlib.Core.Bool.{Bool, true, false, cond}
+use Rattle.rules.specs.declared.Expect.{Expect}
+use Rattle.rules.specs.Reading.{missing, expected}
+use Rattle.rules.specs.Writing.{countAfter}
+use Rattle.rules.proofs.Tests.{split}
+use Rattle.rules.proofs.Octets.{pow256-pos}
+
+abbrev pub expects : ℕ → Expect
+expects v = record { known = true; count = v }
+
+-- ---- over any modulus
+
+-- A number g past v, less v, is g.
+past : (m v g : ℕ) → 0 < m → v < m → g < m → ((v + g) % m + m - v) % m ≡ g
+past m v g p hv hg =
+    let e : (v + g) % m + m - v ≡ (v + g) % m + (m - v) = omega arith in
+    let q : v + g + (m - v) ≡ g + m = omega arith in
+    ap (λ (x : ℕ). x % m) e ∙ mod-add-mod (v + g) m (m - v) ∙ ap (λ (x : ℕ). x % m) q ∙ add-mod-right g m ∙ mod-eq-of-lt hg
+
+no-less : (m v k : ℕ) → v < m → k < m → (k + m - v) % m ≡ 0 → k ≡ v
+no-less m v k hv hk e =
+    split v k
+    (λ h.
+      let q : k + m - v ≡ k - v + m = omega arith in
+      let z : k - v ≡ 0 = sym (mod-eq-of-lt (omega arith)) ∙ sym (add-mod-right (k - v) m) ∙ ap (λ (x : ℕ). x % m) (sym q) ∙ e in
+      omega arith)
+    (λ h.
+      let z : k + m - v ≡ 0 = sym (mod-eq-of-lt (omega arith)) ∙ e in
+      absurd (omega arith))
+
+-- ---- missing
+
+-- "0 if none was expected."
+pub missing-unknown : (n v k : ℕ) → missing n (record { known = false; count = v }) k ≡ 0
+unfolding missing
+missing-unknown n v k = refl
+
+-- Where g frames are gone, fewer than there are counts, g are missing.
+pub missing-gone : (n v g : ℕ) → v < 256 ^ n → g < 256 ^ n → missing n (expects v) ((v + g) % 256 ^ n) ≡ g
+unfolding missing
+missing-gone n v g hv hg = past (256 ^ n) v g (pow256-pos n) hv hg
+
+-- None is missing exactly when the count is the expected one.
+pub missing-none : (n v : ℕ) → v < 256 ^ n → missing n (expects v) v ≡ 0
+missing-none n v hv =
+    let e : (v + 0) % 256 ^ n ≡ v = ap (λ (x : ℕ). x % 256 ^ n) (native.Mathlib.Nat.add-zero v) ∙ mod-eq-of-lt hv in
+    ap (missing n (expects v)) (sym e) ∙ missing-gone n v 0 hv (pow256-pos n)
+
+pub none-missing : (n v k : ℕ) → v < 256 ^ n → k < 256 ^ n → missing n (expects v) k ≡ 0 → k ≡ v
+unfolding missing
+none-missing n v k hv hk e = no-less (256 ^ n) v k hv hk e
+
+pub missing-below : (n : ℕ) (e : Expect) (k : ℕ) → missing n e k < 256 ^ n
+unfolding missing
+missing-below n e k = go (e .known)
+  where
+    go : (t : Bool) → cond t ((k + 256 ^ n - e .count) % 256 ^ n) 0 < 256 ^ n
+    go true = mod-lt (k + 256 ^ n - e .count) (pow256-pos n)
+    go false = pow256-pos n
+
+-- ---- the next count
+
+pub expected-below : (n k : ℕ) → (expected n k) .count < 256 ^ n
+unfolding expected
+expected-below n k = mod-lt (k + 1) (pow256-pos n)
+
+-- Both ends count alike.
+pub expected-after : (n k : ℕ) → expected n k ≡ expects (countAfter n k)
+unfolding expected countAfter
+expected-after n k = refl
+
+-- After the highest count comes 0.
+pub wrap-around : (n : ℕ) → countAfter n (256 ^ n - 1) ≡ 0
+unfolding countAfter
+wrap-around n =
+    let p : 0 < 256 ^ n = pow256-pos n in
+    let e : 256 ^ n - 1 + 1 ≡ 256 ^ n = omega arith in
+    ap (λ (x : ℕ). x % 256 ^ n) e ∙ mod-self (256 ^ n)
+
+-- Before it, one more.
+pub no-wrap : (n k : ℕ) → k + 1 < 256 ^ n → countAfter n k ≡ k + 1
+unfolding countAfter
+no-wrap n k h = mod-eq-of-lt h

@@ -1,0 +1,317 @@
+-- What a lane makes of a zone: every octet goes somewhere, few units come out, and fewer octets are held than the longest unit has.
+use mathlib.Core.Path.{_≡_, refl, sym, ap, ap₂, _∙_}
+use Prim.Native.Nat.{ℕ, zero, suc, _+_, _-_, _*_, _/_, _%_, _≤_, _<_}
+use native.Mathlib.Nat.{not-suc-le-zero, le-refl, le-trans, zero-add, add-zero}
+use native.Mathlib.Omega.{arith}
+use mathlib.Core.Bool.{Bool, true, false, cond, false≢true}
+use mathlib.Core.List.{List, [], _∷_, _++_, append-nil, append-assoc}
+use lib.ListN.{length, getD, take, drop, length-append, length-take, length-drop, take-append-drop}
+use lib.Seq.{length-take-le}
+use borrow.Author.Tests.{leb-true, leb-false, ltb-true, eqb-true, eqb-false}
+use Rattle.rules.specs.declared.Kind.{Kind}
+use Rattle.rules.specs.declared.Kind.the-variants.{Packets, Access}
+use Rattle.rules.specs.declared.Place.{Place}
+use Rattle.rules.specs.declared.Place.the-variants.{At, Nowhere}
+use Rattle.rules.specs.declared.Measure.{Measure}
+use Rattle.rules.specs.declared.Measure.the-variants.{Lacks, Packet, Idle, Unreadable}
+use Rattle.rules.specs.declared.Next.{Next}
+use Rattle.rules.specs.declared.Next.the-variants.{Give, Skip, Keep, Lose}
+use Rattle.rules.specs.declared.Fate.{Fate}
+use Rattle.rules.specs.declared.Fate.the-variants.{Hand, Blank, Hold, Drop}
+use Rattle.rules.specs.Tests.{_≤?_, _<?_, _=?_}
+use Rattle.rules.specs.Areas.{joined}
+use Rattle.rules.specs.Packets.{sized, measured, measure}
+use Rattle.rules.specs.Reading.{Made, nothing, holds, drops, fills, hands, idles, both, become, endFate, joinedFate, leadFate, lead, sizedNext, nextOf, front, walkUpTo, walk, packetLane, unitFate, followFate, portion, accessLane, laneStep}
+use Rattle.rules.proofs.Valid.{least}
+
+-- ---- what the decisions can be: to show something of one, show it of each case with what holds there
+
+-- What the front of some octets can be.
+pub measure-cases : (P : Measure → Type 0) (xs : List ℕ) → (length xs < 6 → P Lacks) → ((n : ℕ) → 7 ≤ n → P (Packet n))
+    → ((n : ℕ) → 1 ≤ n → P (Idle n)) → P Unreadable → P (measure xs)
+unfolding measure measured sized
+measure-cases P xs lacks packet idle bad =
+    go (length xs =? 0) refl (getD xs 0 0 / 32 =? 0b000) (length xs <? 6) refl ((getD xs 0 0 * 256 + getD xs 1 0) % 2048 =? 2047) (getD xs 0 0 =? 0xE0)
+  where
+    size : ℕ
+    size = 7 + (getD xs 4 0 * 256 + getD xs 5 0)
+    go : (p : Bool) → length xs =? 0 ≡ p → (q r : Bool) → length xs <? 6 ≡ r → (s u : Bool)
+        → P (cond p Lacks (cond q (cond r Lacks (cond s (Idle size) (Packet size))) (cond u (Idle 1) Unreadable)))
+    go true e q r f s u = let z : length xs ≡ 0 = eqb-true _ _ e in lacks (omega arith)
+    go false e true true f s u = lacks (ltb-true _ _ f)
+    go false e true false f true u = idle size (omega arith)
+    go false e true false f false u = packet size (omega arith)
+    go false e false r f s true = idle 1 (omega arith)
+    go false e false r f s false = bad
+
+-- What becomes of the packet at the front of some octets. One that is held has fewer octets here than the longest.
+sized-cases : (P : Next → Type 0) (longest k n : ℕ) (done : Next) → (k ≤ longest → k ≤ n → P done) → (n < longest → P Keep) → P Lose
+    → P (sizedNext longest k n done)
+unfolding sizedNext
+sized-cases P longest k n done whole keep lose = go (k ≤? longest) refl (k ≤? n) refl
+  where
+    go : (p : Bool) → k ≤? longest ≡ p → (q : Bool) → k ≤? n ≡ q → P (cond p (cond q done Keep) Lose)
+    go true e true f = whole (leb-true _ _ e) (leb-true _ _ f)
+    go true e false f = let a : k ≤ longest = leb-true _ _ e in let b : n < k = leb-false _ _ f in keep (omega arith)
+    go false e q f = lose
+
+pub next-cases : (P : Next → Type 0) (longest : ℕ) (xs : List ℕ) → ((n : ℕ) → 7 ≤ n → n ≤ length xs → n ≤ longest → P (Give n))
+    → ((n : ℕ) → 1 ≤ n → n ≤ length xs → n ≤ longest → P (Skip n)) → ((7 ≤ longest → length xs < longest) → P Keep) → P Lose
+    → P (nextOf longest (measure xs) (length xs))
+unfolding nextOf
+next-cases P longest xs give skip keep lose =
+    measure-cases (λ (m : Measure). P (nextOf longest m (length xs))) xs (λ h. keep (λ k. omega arith))
+    (λ n h. sized-cases P longest n (length xs) (Give n) (λ a b. give n h b a) (λ h. keep (λ k. h)) lose)
+    (λ n h. sized-cases P longest n (length xs) (Skip n) (λ a b. skip n h b a) (λ h. keep (λ k. h)) lose)
+    lose
+
+-- What becomes of n octets, held ones and a lead. They are held only where the packet may go on.
+end-cases : (P : Fate → Type 0) (longest : ℕ) (on : Bool) (k n : ℕ) (done : Fate) → (n ≤ longest → P done)
+    → (on ≡ true → n < longest → P Hold) → P Drop → P (endFate longest on k n done)
+unfolding endFate
+end-cases P longest on k n done whole hold drop = go (k ≤? longest) refl (k =? n) refl on refl (n <? k) refl
+  where
+    go : (p : Bool) → k ≤? longest ≡ p → (q : Bool) → k =? n ≡ q → (o : Bool) → on ≡ o → (r : Bool) → n <? k ≡ r
+        → P (cond p (cond q done (cond o (cond r Hold Drop) Drop)) Drop)
+    go true e true f o g r i = let a : k ≤ longest = leb-true _ _ e in let b : k ≡ n = eqb-true _ _ f in whole (omega arith)
+    go true e false f true g true i = let a : k ≤ longest = leb-true _ _ e in let b : n < k = ltb-true _ _ i in hold g (omega arith)
+    go true e false f true g false i = drop
+    go true e false f false g r i = drop
+    go false e q f o g r i = drop
+
+pub lead-cases : (P : Fate → Type 0) (longest : ℕ) (on : Bool) (held xs : List ℕ) → (length held + length xs ≤ longest → P Hand) → P Blank
+    → (on ≡ true → (7 ≤ longest → length held + length xs < longest) → P Hold) → P Drop
+    → P (leadFate longest on (measure (held ++ xs)) (length held) (length xs))
+unfolding leadFate joinedFate
+lead-cases P longest on held xs hand blank hold drop = go (length held =? 0) (length xs =? 0)
+  where
+    both-long : length (held ++ xs) ≡ length held + length xs
+    both-long = length-append held xs
+    lack : (o : Bool) → on ≡ o → length (held ++ xs) < 6 → P (cond o Hold Drop)
+    lack true g h = hold g (λ k. omega (arith, both-long))
+    lack false g h = drop
+    go : (a b : Bool) → P (cond a Drop (cond b Drop (joinedFate longest on (measure (held ++ xs)) (length held + length xs))))
+    go true b = drop
+    go false true = drop
+    go false false =
+        measure-cases (λ (m : Measure). P (joinedFate longest on m (length held + length xs))) (held ++ xs) (lack on refl)
+        (λ n h. end-cases P longest on n (length held + length xs) Hand hand (λ g l. hold g (λ k. l)) drop)
+        (λ n h. end-cases P longest on n (length held + length xs) Blank (λ l. blank) (λ g l. hold g (λ k. l)) drop)
+        drop
+
+-- What becomes of n octets of an access unit.
+pub unit-cases : (P : Fate → Type 0) (longest : ℕ) (finished : Bool) (n : ℕ) → (n ≤ longest → P Hand) → (n < longest → P Hold) → P Drop
+    → P (unitFate longest finished n)
+unfolding unitFate
+unit-cases P longest finished n hand hold drop = go finished (n ≤? longest) refl (n <? longest) refl
+  where
+    go : (a b : Bool) → n ≤? longest ≡ b → (c : Bool) → n <? longest ≡ c → P (cond a (cond b Hand Drop) (cond c Hold Drop))
+    go true true e c f = hand (leb-true _ _ e)
+    go true false e c f = drop
+    go false b e true f = hold (ltb-true _ _ f)
+    go false b e false f = drop
+
+pub follow-cases : (P : Fate → Type 0) (longest : ℕ) (finished : Bool) (h n : ℕ) → (h + n ≤ longest → P Hand) → (h + n < longest → P Hold) → P Drop
+    → P (followFate longest finished h n)
+unfolding followFate
+follow-cases P longest finished h n hand hold drop = go (h =? 0)
+  where
+    go : (a : Bool) → P (cond a Drop (unitFate longest finished (h + n)))
+    go true = drop
+    go false = unit-cases P longest finished (h + n) hand hold drop
+
+-- ---- the walk's own equation: no count of packets in it
+
+module _ (longest : ℕ) where
+  front-same : (xs : List ℕ) (f g : List ℕ → Made) → ((ys : List ℕ) → length ys < length xs → f ys ≡ g ys)
+      → front (nextOf longest (measure xs) (length xs)) xs f ≡ front (nextOf longest (measure xs) (length xs)) xs g
+  front-same xs f g h =
+      next-cases (λ (s : Next). front s xs f ≡ front s xs g) longest xs
+      (λ n a b c. ap (hands (take n xs)) (h (drop n xs) (rw length-drop (omega arith))))
+      (λ n a b c. ap (idles n) (h (drop n xs) (rw length-drop (omega arith)))) (λ k. refl) refl
+
+  none-left : (n : ℕ) (xs : List ℕ) → length xs ≤ 0 → walkUpTo longest n xs ≡ nothing
+  unfolding walkUpTo nextOf measure measured
+  none-left zero xs h = refl
+  none-left (suc n) [] h = refl
+  none-left (suc n) (x ∷ xs) h = absurd (not-suc-le-zero h)
+
+  enough : (n m : ℕ) (xs : List ℕ) → length xs ≤ n → length xs ≤ m → walkUpTo longest n xs ≡ walkUpTo longest m xs
+  unfolding walkUpTo
+  enough zero m xs h k = sym (none-left m xs h)
+  enough (suc n) zero xs h k = none-left (suc n) xs k
+  enough (suc n) (suc m) xs h k = front-same xs (walkUpTo longest n) (walkUpTo longest m) (λ ys l. enough n m ys (omega arith) (omega arith))
+
+  pub walk-front : (xs : List ℕ) → walk longest xs ≡ front (nextOf longest (measure xs) (length xs)) xs (walk longest)
+  unfolding walk walkUpTo
+  walk-front xs =
+      enough (length xs) (suc (length xs)) xs (le-refl _) (omega arith)
+      ∙ front-same xs (walkUpTo longest (length xs)) (walk longest) (λ ys l. enough (length xs) (length ys) ys (omega arith) (le-refl _))
+
+-- ---- where the octets go
+
+-- All octets that something is said of.
+unfoldable pub total : Made → ℕ
+total m = length (joined (m .units)) + (length (m .held) + (m .idle + (m .fill + m .dropped)))
+
+pub joined-append : (es bs : List (List ℕ)) → joined (es ++ bs) ≡ joined es ++ joined bs
+unfolding joined
+joined-append [] bs = refl
+joined-append (e ∷ es) bs = ap (λ (x : List ℕ). e ++ x) (joined-append es bs) ∙ sym (append-assoc e (joined es) (joined bs))
+
+both-total : (a b : Made) → a .held ≡ [] → total (both a b) ≡ total a + total b
+unfolding total both
+both-total a b h =
+    let z : length (a .held) ≡ 0 = ap length h in
+    let j : length (joined (a .units ++ b .units)) ≡ length (joined (a .units)) + length (joined (b .units)) = ap length (joined-append (a .units) (b .units)) ∙ length-append (joined (a .units)) (joined (b .units)) in
+    omega arith
+
+become-total : (f : Fate) (xs : List ℕ) → total (become f xs) ≡ length xs
+unfolding total joined
+become-total Hand xs = ap (λ (x : List ℕ). length x + 0) (append-nil xs) ∙ add-zero (length xs)
+become-total Blank xs = omega arith
+become-total Hold xs = omega arith
+become-total Drop xs = omega arith
+
+-- Only a lead that may go on is held.
+lead-held : (longest : ℕ) (held xs : List ℕ) → (lead longest false held xs) .held ≡ []
+unfolding lead
+lead-held longest held xs =
+    lead-cases (λ (f : Fate). (become f (held ++ xs)) .held ≡ []) longest false held xs (λ h. refl) refl (λ e h. absurd (false≢true e)) refl
+
+module _ (longest : ℕ) where
+  front-total : (xs : List ℕ) (rest : List ℕ → Made) → ((ys : List ℕ) → length ys < length xs → total (rest ys) ≡ length ys)
+      → total (front (nextOf longest (measure xs) (length xs)) xs rest) ≡ length xs
+  unfolding total joined
+  front-total xs rest h =
+      next-cases (λ (s : Next). total (front s xs rest) ≡ length xs) longest xs
+      (λ n a b c.
+        let q = h (drop n xs) (rw length-drop (omega arith)) in
+        let t = length-append (take n xs) (joined ((rest (drop n xs)) .units)) in
+        let u = length-take-le n xs b in
+        let v = length-drop n xs in
+        omega (arith, q, t, u, v))
+      (λ n a b c.
+        let q = h (drop n xs) (rw length-drop (omega arith)) in
+        let v = length-drop n xs in
+        omega (arith, q, v))
+      (λ k. omega arith) (omega arith)
+
+  upTo-total : (n : ℕ) (xs : List ℕ) → length xs ≤ n → total (walkUpTo longest n xs) ≡ length xs
+  unfolding walkUpTo total joined
+  upTo-total zero xs h = omega arith
+  upTo-total (suc n) xs h = front-total xs (walkUpTo longest n) (λ ys l. upTo-total n ys (omega arith))
+
+  lead-total : (on : Bool) (held xs : List ℕ) → total (lead longest on held xs) ≡ length held + length xs
+  unfolding lead
+  lead-total on held xs = become-total (leadFate longest on (measure (held ++ xs)) (length held) (length xs)) (held ++ xs) ∙ length-append held xs
+
+  packet-total : (held : List ℕ) (p : Place) (z : List ℕ) → total (packetLane longest held p z) ≡ length held + length z
+  unfolding packetLane walk
+  packet-total held (At p) z =
+      let a = lead-total false held (take p z) in
+      let b = upTo-total (length (drop p z)) (drop p z) (le-refl _) in
+      let c = length-append (take p z) (drop p z) in
+      let d = ap length (take-append-drop p z) in
+      both-total (lead longest false held (take p z)) (walk longest (drop p z)) (lead-held longest held (take p z)) ∙ omega (arith, a, b, c, d)
+  packet-total held Nowhere z = lead-total true held z
+
+  portion-total : (finished begins : Bool) (held xs : List ℕ) → total (portion longest finished begins held xs) ≡ length held + length xs
+  unfolding portion total
+  portion-total finished true held xs =
+      both-total (drops (length held)) (become (unitFate longest finished (length xs)) xs) refl
+      ∙ ap₂ _+_ (become-total Drop held) (become-total (unitFate longest finished (length xs)) xs)
+  portion-total finished false held xs = become-total (followFate longest finished (length held) (length xs)) (held ++ xs) ∙ length-append held xs
+
+  access-total : (begins : Bool) (held : List ℕ) (p : Place) (z : List ℕ) → total (accessLane longest begins held p z) ≡ length held + length z
+  unfolding accessLane total joined
+  access-total begins held (At p) z =
+      let a = portion-total true begins held (take (p + 1) z) in
+      let b = length-take (p + 1) z in
+      both-total (fills (length z - (p + 1))) (portion longest true begins held (take (p + 1) z)) refl ∙ omega (arith, a, b)
+  access-total begins held Nowhere z = portion-total false begins held z
+
+-- Where every octet goes: held ones and those of the zone are handed out, held, idle, fill or dropped.
+pub lane-total : (k : Kind) (longest rule : ℕ) (held : List ℕ) (p : Place) (z : List ℕ)
+    → total (laneStep k longest rule held p z) ≡ length held + length z
+unfolding laneStep
+lane-total Packets longest rule held p z = packet-total longest held p z
+lane-total Access longest rule held p z = access-total longest (rule =? 0b001) held p z
+
+-- ---- what is held is less than the longest unit
+
+module _ (longest : ℕ) (seven : 7 ≤ longest) where
+  upTo-below : (n : ℕ) (xs : List ℕ) → length ((walkUpTo longest n xs) .held) < longest
+  unfolding walkUpTo
+  upTo-below zero xs = omega arith
+  upTo-below (suc n) xs =
+      next-cases (λ (s : Next). length ((front s xs (walkUpTo longest n)) .held) < longest) longest xs (λ k a b c. upTo-below n (drop k xs))
+      (λ k a b c. upTo-below n (drop k xs)) (λ h. h seven) (omega arith)
+
+  lead-below : (on : Bool) (held xs : List ℕ) → length ((lead longest on held xs) .held) < longest
+  unfolding lead
+  lead-below on held xs =
+      let e = length-append held xs in
+      lead-cases (λ (f : Fate). length ((become f (held ++ xs)) .held) < longest) longest on held xs (λ h. omega arith) (omega arith)
+      (λ g h. let l : length held + length xs < longest = h seven in omega (arith, e)) (omega arith)
+
+  packet-below : (held : List ℕ) (p : Place) (z : List ℕ) → length ((packetLane longest held p z) .held) < longest
+  unfolding packetLane walk both
+  packet-below held (At p) z = upTo-below (length (drop p z)) (drop p z)
+  packet-below held Nowhere z = lead-below true held z
+
+module _ (longest : ℕ) (one : 1 ≤ longest) where
+  portion-below : (finished begins : Bool) (held xs : List ℕ) → length ((portion longest finished begins held xs) .held) < longest
+  unfolding portion both
+  portion-below finished true held xs =
+      unit-cases (λ (f : Fate). length ((become f xs) .held) < longest) longest finished (length xs) (λ h. omega arith) (λ h. h) (omega arith)
+  portion-below finished false held xs =
+      let e = length-append held xs in
+      follow-cases (λ (f : Fate). length ((become f (held ++ xs)) .held) < longest) longest finished (length held) (length xs) (λ h. omega arith)
+      (λ h. omega (arith, e)) (omega arith)
+
+  access-below : (begins : Bool) (held : List ℕ) (p : Place) (z : List ℕ) → length ((accessLane longest begins held p z) .held) < longest
+  unfolding accessLane both
+  access-below begins held (At p) z = portion-below true begins held (take (p + 1) z)
+  access-below begins held Nowhere z = portion-below false begins held z
+
+pub lane-below : (k : Kind) (longest rule : ℕ) (held : List ℕ) (p : Place) (z : List ℕ) → least k ≤ longest
+    → length ((laneStep k longest rule held p z) .held) < longest
+unfolding laneStep
+lane-below Packets longest rule held p z h = packet-below longest h held p z
+lane-below Access longest rule held p z h = access-below longest h (rule =? 0b001) held p z
+
+-- ---- few units: each from the pointer on has seven octets, and the lead ends one
+
+become-few : (f : Fate) (xs : List ℕ) → length ((become f xs) .units) ≤ 1
+become-few Hand xs = omega arith
+become-few Blank xs = omega arith
+become-few Hold xs = omega arith
+become-few Drop xs = omega arith
+
+upTo-few : (longest n : ℕ) (xs : List ℕ) → 7 * length ((walkUpTo longest n xs) .units) ≤ length xs
+unfolding walkUpTo
+upTo-few longest zero xs = omega arith
+upTo-few longest (suc n) xs =
+    next-cases (λ (s : Next). 7 * length ((front s xs (walkUpTo longest n)) .units) ≤ length xs) longest xs
+    (λ k a b c. let q = upTo-few longest n (drop k xs) in let v = length-drop k xs in omega (arith, q, v))
+    (λ k a b c. let q = upTo-few longest n (drop k xs) in let v = length-drop k xs in omega (arith, q, v)) (λ h. omega arith) (omega arith)
+
+portion-few : (longest : ℕ) (finished begins : Bool) (held xs : List ℕ) → length ((portion longest finished begins held xs) .units) ≤ 1
+unfolding portion both
+portion-few longest finished true held xs = become-few (unitFate longest finished (length xs)) xs
+portion-few longest finished false held xs = become-few (followFate longest finished (length held) (length xs)) (held ++ xs)
+
+pub lane-few : (k : Kind) (longest rule : ℕ) (held : List ℕ) (p : Place) (z : List ℕ)
+    → 7 * length ((laneStep k longest rule held p z) .units) ≤ 7 + length z
+unfolding laneStep packetLane accessLane lead walk both
+lane-few Packets longest rule held (At p) z =
+    let a = become-few (leadFate longest false (measure (held ++ take p z)) (length held) (length (take p z))) (held ++ take p z) in
+    let b = upTo-few longest (length (drop p z)) (drop p z) in
+    let c = length-drop p z in
+    let d = length-append ((lead longest false held (take p z)) .units) ((walk longest (drop p z)) .units) in
+    omega (arith, a, b, c, d)
+lane-few Packets longest rule held Nowhere z =
+    let a = become-few (leadFate longest true (measure (held ++ z)) (length held) (length z)) (held ++ z) in omega (arith, a)
+lane-few Access longest rule held (At p) z = let a = portion-few longest true (rule =? 0b001) held (take (p + 1) z) in omega (arith, a)
+lane-few Access longest rule held Nowhere z = let a = portion-few longest false (rule =? 0b001) held z in omega (arith, a)
