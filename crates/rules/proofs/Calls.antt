@@ -55,13 +55,13 @@ read-once r f h u c a b p q = p ∙ sym q
 -- An accepted setting: a fresh state, which is valid. Any other: refusal 1 and a state of zeros, which is not.
 pub setup-accepted : (s : Setting) → settingOk s ≡ true
     → (setUpReader s ≡ record { outcome = Done; state = freshReader s }) × (setUpWriter s ≡ record { outcome = Done; state = freshWriter s })
-      × (readerOk (freshReader s) ≡ true) × (writerOk (freshWriter s) ≡ true)
+    × (readerOk (freshReader s) ≡ true) × (writerOk (freshWriter s) ≡ true)
 unfolding setUpReader setUpWriter
 setup-accepted s e = (rw e, rw e, fresh-reader s e, fresh-writer s e)
 
 pub setup-refused : (s : Setting) → settingOk s ≡ false
     → (setUpReader s ≡ record { outcome = Refused 1; state = noReader }) × (setUpWriter s ≡ record { outcome = Refused 1; state = noWriter })
-      × (readerOk noReader ≡ false) × (writerOk noWriter ≡ false)
+    × (readerOk noReader ≡ false) × (writerOk noWriter ≡ false)
 unfolding setUpReader setUpWriter
 setup-refused s e = (rw e, rw e, no-reader, no-writer)
 
@@ -95,7 +95,7 @@ module _ (w : Writer) (l : ℕ) (batch insert ocf area : List ℕ) where
         batch = not-false _ (r₁₄ .0);
         insert = eqb-true _ _ (not-false _ (o .0));
         ocf = eqb-true _ _ (not-false _ (o .1));
-        below = leb-false _ _ (r₁₆ .0)
+        below = leb-false _ _ (r₁₆ .0);
       }
 
   pub accepted : (write w l batch insert ocf area) .sender .outcome ≡ Done → given (writeRefusals w l batch insert ocf area) ≡ 0

@@ -26,12 +26,12 @@ no-less : (m v k : ℕ) → v < m → k < m → (k + m - v) % m ≡ 0 → k ≡ 
 no-less m v k hv hk e =
     split v k
     (λ h.
-      let q : k + m - v ≡ k - v + m = omega arith in
-      let z : k - v ≡ 0 = sym (mod-eq-of-lt (omega arith)) ∙ sym (add-mod-right (k - v) m) ∙ ap (λ (x : ℕ). x % m) (sym q) ∙ e in
-      omega arith)
+    let q : k + m - v ≡ k - v + m = omega arith in
+    let z : k - v ≡ 0 = sym (mod-eq-of-lt (omega arith)) ∙ sym (add-mod-right (k - v) m) ∙ ap (λ (x : ℕ). x % m) (sym q) ∙ e in
+    omega arith)
     (λ h.
-      let z : k + m - v ≡ 0 = sym (mod-eq-of-lt (omega arith)) ∙ e in
-      absurd (omega arith))
+    let z : k + m - v ≡ 0 = sym (mod-eq-of-lt (omega arith)) ∙ e in
+    absurd (omega arith))
 
 -- ---- missing
 

@@ -63,7 +63,7 @@ module _ {s : Setting} {f : List ℕ} {p : Place} where
         row₉ = r₉ .0;
         row₁₀ = r₁₀ .0;
         row₁₁ = r₁₁ .0;
-        row₁₂ = r₁₂ .0
+        row₁₂ = r₁₂ .0;
       }
 
 -- ---- the verdict
@@ -117,7 +117,7 @@ module _ (s : Setting) (f : List ℕ) where
         numbered = h;
         whole = n;
         rule = rw q (not-false _ (b .0));
-        pointer = rw q (points (pointerIn s (channel s c) f) (zone s (channel s c)) (not-false _ (a .1)))
+        pointer = rw q (points (pointerIn s (channel s c) f) (zone s (channel s c)) (not-false _ (a .1)));
       }
 
   on-channel : (c : ℕ) → c < s .listed → length f ≡ s .length → (p : Place)
@@ -129,6 +129,7 @@ module _ (s : Setting) (f : List ℕ) where
     where
       q : (lane s l) .channel ≡ c
       q = eqb-true _ _ (and-left _ _ (o .1))
+
       go : (a : Bool) → command f =? 1 ≡ a → (b : Bool) → command f =? 0 ≡ b → (b && dataWrong s c l f) ≡ false → Judged s f (cond a (Counted c) (Read l))
       go true x b y z = (h, n)
       go false x true y z = data-right c l q (o .0) n z

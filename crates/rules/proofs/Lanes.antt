@@ -35,6 +35,7 @@ measure-cases P xs lacks packet idle bad =
   where
     size : ℕ
     size = 7 + (getD xs 4 0 * 256 + getD xs 5 0)
+
     go : (p : Bool) → length xs =? 0 ≡ p → (q r : Bool) → length xs <? 6 ≡ r → (s u : Bool)
         → P (cond p Lacks (cond q (cond r Lacks (cond s (Idle size) (Packet size))) (cond u (Idle 1) Unreadable)))
     go true e q r f s u = let z : length xs ≡ 0 = eqb-true _ _ e in lacks (omega arith)
@@ -87,9 +88,11 @@ lead-cases P longest on held xs hand blank hold drop = go (length held =? 0) (le
   where
     both-long : length (held ++ xs) ≡ length held + length xs
     both-long = length-append held xs
+
     lack : (o : Bool) → on ≡ o → length (held ++ xs) < 6 → P (cond o Hold Drop)
     lack true g h = hold g (λ k. omega (arith, both-long))
     lack false g h = drop
+
     go : (a b : Bool) → P (cond a Drop (cond b Drop (joinedFate longest on (measure (held ++ xs)) (length held + length xs))))
     go true b = drop
     go false true = drop
@@ -186,15 +189,15 @@ module _ (longest : ℕ) where
   front-total xs rest h =
       next-cases (λ (s : Next). total (front s xs rest) ≡ length xs) longest xs
       (λ n a b c.
-        let q = h (drop n xs) (rw length-drop (omega arith)) in
-        let t = length-append (take n xs) (joined ((rest (drop n xs)) .units)) in
-        let u = length-take-le n xs b in
-        let v = length-drop n xs in
-        omega (arith, q, t, u, v))
+      let q = h (drop n xs) (rw length-drop (omega arith)) in
+      let t = length-append (take n xs) (joined ((rest (drop n xs)) .units)) in
+      let u = length-take-le n xs b in
+      let v = length-drop n xs in
+      omega (arith, q, t, u, v))
       (λ n a b c.
-        let q = h (drop n xs) (rw length-drop (omega arith)) in
-        let v = length-drop n xs in
-        omega (arith, q, v))
+      let q = h (drop n xs) (rw length-drop (omega arith)) in
+      let v = length-drop n xs in
+      omega (arith, q, v))
       (λ k. omega arith) (omega arith)
 
   upTo-total : (n : ℕ) (xs : List ℕ) → length xs ≤ n → total (walkUpTo longest n xs) ≡ length xs

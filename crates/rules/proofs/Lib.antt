@@ -8,3 +8,4 @@ pub mod Judged
 pub mod States
 pub mod Calls
 pub mod Written
+pub mod Fields

@@ -62,8 +62,8 @@ be-num [] o = refl
 be-num (x ∷ xs) o =
     ap₂ _∷_
     (ap (λ (y : ℕ). y % 256) (mul-add-div-right (pow256-pos (length xs)) x (num xs))
-      ∙ ap (λ (y : ℕ). (x + y) % 256) (native.Mathlib.Nat.div-eq-of-lt (num-below xs (o .1)))
-      ∙ ap (λ (y : ℕ). y % 256) (native.Mathlib.Nat.add-zero x) ∙ mod-eq-of-lt (o .0))
+    ∙ ap (λ (y : ℕ). (x + y) % 256) (native.Mathlib.Nat.div-eq-of-lt (num-below xs (o .1)))
+    ∙ ap (λ (y : ℕ). y % 256) (native.Mathlib.Nat.add-zero x) ∙ mod-eq-of-lt (o .0))
     (be-more (length xs) x (num xs) ∙ be-num xs (o .1))
 
 pub be-octets : (n v : ℕ) → Octets (be n v)
@@ -110,7 +110,7 @@ field-back es f bs o =
     let w : 2 ^ (f .width + widths bs) ≡ 2 ^ f .width * 2 ^ widths bs = pow-add 2 (f .width) (widths bs) in
     ap (λ (x : ℕ). x / 2 ^ widths bs % 2 ^ f .width)
     (packed-append es (f ∷ bs) ∙ ap (λ (x : ℕ). packed es * x + (f .value * 2 ^ widths bs + packed bs)) w
-      ∙ regroup (packed es) (2 ^ f .width) (2 ^ widths bs) (f .value) (packed bs))
+    ∙ regroup (packed es) (2 ^ f .width) (2 ^ widths bs) (f .value) (packed bs))
     ∙ ap (λ (x : ℕ). x % 2 ^ f .width) (high (packed es * 2 ^ f .width + f .value) (widths bs) (packed-below bs (o .1)))
     ∙ low (packed es) (f .width) (o .0)
 

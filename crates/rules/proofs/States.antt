@@ -34,14 +34,14 @@ unfolding readerOk
 reader-ok r g =
     all-cons _ _ (g .ok)
     (all-cons _ _ (at-every _ (r .setting .listed) (λ c h. lt-ltb _ _ (g .counts c h)))
-      (all-cons _ _ (at-every _ (r .setting .numbered) (λ l h. lt-ltb _ _ (g .held l h))) all-nil))
+    (all-cons _ _ (at-every _ (r .setting .numbered) (λ l h. lt-ltb _ _ (g .held l h))) all-nil))
 
 pub writer-ok : (w : Writer) → GoodWriter w → writerOk w ≡ true
 unfolding writerOk
 writer-ok w g =
     all-cons _ _ (g .ok)
     (all-cons _ _ (at-every _ (w .setting .listed) (λ c h. lt-ltb _ _ (g .counts c h)))
-      (all-cons _ _ (at-every _ (w .setting .numbered) (λ l h. le-leb _ _ (g .numbers l h))) all-nil))
+    (all-cons _ _ (at-every _ (w .setting .numbered) (λ l h. le-leb _ _ (g .numbers l h))) all-nil))
 
 -- ---- fresh states
 
@@ -57,10 +57,10 @@ module _ (s : Setting) (ok : settingOk s ≡ true) where
         ok = ok;
         setting = good s ok;
         counts = λ c h.
-          rw (getD-replicate 8 c noExpect noExpect (omega (arith, good s ok .listed))) (pow256-pos ((channel s c) .octets));
+            rw (getD-replicate 8 c noExpect noExpect (omega (arith, good s ok .listed))) (pow256-pos ((channel s c) .octets));
         held = λ l h.
-          let k = good s ok .lanes l h .kind in
-          rw (zeros l (omega (arith, good s ok .numbered))) (some-longest _ _ _ k)
+            let k = good s ok .lanes l h .kind in
+            rw (zeros l (omega (arith, good s ok .numbered))) (some-longest _ _ _ k);
       })
 
   pub fresh-writer : writerOk (freshWriter s) ≡ true
@@ -71,7 +71,7 @@ module _ (s : Setting) (ok : settingOk s ≡ true) where
         ok = ok;
         setting = good s ok;
         counts = λ c h. rw (zeros c (omega (arith, good s ok .listed))) (pow256-pos ((channel s c) .octets));
-        numbers = λ l h. rw (zeros l (omega (arith, good s ok .numbered))) (omega arith)
+        numbers = λ l h. rw (zeros l (omega (arith, good s ok .numbered))) (omega arith);
       })
 
 -- ---- "A state of zeros, which is not valid."
@@ -126,9 +126,9 @@ module _ (r : Reader) where
         ok = g .ok;
         setting = g .setting;
         counts = λ i h.
-          set-cases (λ (e : Expect). e .count < 256 ^ (channel (r .setting) i) .octets) (r .expects) c i _ noExpect
-          (λ q. rw q (expected-below ((channel (r .setting) c) .octets) k)) (g .counts i h);
-        held = g .held
+            set-cases (λ (e : Expect). e .count < 256 ^ (channel (r .setting) i) .octets) (r .expects) c i _ noExpect
+            (λ q. rw q (expected-below ((channel (r .setting) c) .octets) k)) (g .counts i h);
+        held = g .held;
       }
 
   good-gapBy : GoodReader r → (c m : ℕ) → GoodReader ((gapBy r c m) .state)
@@ -140,9 +140,9 @@ module _ (r : Reader) where
         setting = g .setting;
         counts = g .counts;
         held = λ l h.
-          let a = emptied-less (λ (x : Lane). x .channel =? c) (lanesOf (r .setting)) (r .held) l in
-          let b = g .held l h in
-          omega (arith, a, b)
+            let a = emptied-less (λ (x : Lane). x .channel =? c) (lanesOf (r .setting)) (r .held) l in
+            let b = g .held l h in
+            omega (arith, a, b);
       }
 
   -- Lane l holds n octets now.
@@ -153,7 +153,7 @@ module _ (r : Reader) where
         ok = g .ok;
         setting = g .setting;
         counts = g .counts;
-        held = λ i h. set-cases (λ (x : ℕ). x < (lane (r .setting) i) .longest) (r .held) l i n 0 (λ q. rw q b) (g .held i h)
+        held = λ i h. set-cases (λ (x : ℕ). x < (lane (r .setting) i) .longest) (r .held) l i n 0 (λ q. rw q b) (g .held i h);
       }
 
 pub good-gap : (r : Reader) → GoodReader r → (c k : ℕ) → GoodReader ((gap r c k) .state)
@@ -199,7 +199,7 @@ good-after w g l b h k =
       ok = g .ok;
       setting = g .setting;
       counts = λ i p.
-        set-cases (λ (x : ℕ). x < 256 ^ (channel (w .setting) i) .octets) (w .counts) ((lane (w .setting) l) .channel) i _ 0
-        (λ q. rw q (mod-lt _ (pow256-pos ((channelOf (w .setting) l) .octets)))) (g .counts i p);
-      numbers = λ i p. set-cases (λ (x : ℕ). x ≤ 32767) (w .next) l i _ 0 (λ q. after-few (number w l) _ h k) (g .numbers i p)
+          set-cases (λ (x : ℕ). x < 256 ^ (channel (w .setting) i) .octets) (w .counts) ((lane (w .setting) l) .channel) i _ 0
+          (λ q. rw q (mod-lt _ (pow256-pos ((channelOf (w .setting) l) .octets)))) (g .counts i p);
+      numbers = λ i p. set-cases (λ (x : ℕ). x ≤ 32767) (w .next) l i _ 0 (λ q. after-few (number w l) _ h k) (g .numbers i p);
     }

@@ -84,8 +84,8 @@ module _ (p : ℕ → Bool) where
   first-at (suc n) i l e h =
       same i n
       (λ q.
-        before-none (first n p) _ (first-none n (λ j k. h j (omega arith)))
-        ∙ ap (λ (t : Bool). cond t (At n) Nowhere) (ap p (sym q) ∙ e) ∙ ap At (sym q))
+      before-none (first n p) _ (first-none n (λ j k. h j (omega arith)))
+      ∙ ap (λ (t : Bool). cond t (At n) Nowhere) (ap p (sym q) ∙ e) ∙ ap At (sym q))
       (λ q. ap (λ (x : Place). before x (cond (p n) (At n) Nowhere)) (first-at n i (omega arith) e h))
 
   -- What is known of the place found.

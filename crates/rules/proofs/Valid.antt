@@ -109,7 +109,7 @@ module _ (s : Setting) where
         room = leb-true _ _ (all-at _ 4 o);
         found =
             first-at _ (s .listed) c h (pair-self ((channel s c) .vc) ((channel s c) .service))
-            (λ j l. channels-differ (channel s j) (channel s c) (every-at _ c (every-at _ (s .listed) (all-at _ 3 e) c h) j l))
+            (λ j l. channels-differ (channel s j) (channel s c) (every-at _ c (every-at _ (s .listed) (all-at _ 3 e) c h) j l));
       }
 
   good-lane : lanesOk s ≡ true → (l : ℕ) → l < s .numbered → GoodLane s l
@@ -122,7 +122,7 @@ module _ (s : Setting) where
         kind = good-kind _ _ _ (all-at _ 2 o);
         found =
             first-at _ (s .numbered) l h (pair-self ((lane s l) .channel) ((lane s l) .map))
-            (λ j k. lanes-differ (lane s j) (lane s l) (every-at _ l (every-at _ (s .numbered) (all-at _ 3 e) l h) j k))
+            (λ j k. lanes-differ (lane s j) (lane s l) (every-at _ l (every-at _ (s .numbered) (all-at _ 3 e) l h) j k));
       }
 
   good-parts : rangesOk s ≡ true → channelsOk s ≡ true → lanesOk s ≡ true → Good s
@@ -137,7 +137,7 @@ module _ (s : Setting) where
         listed = leb-true _ _ (all-at _ 1 c);
         numbered = leb-true _ _ (all-at _ 1 l);
         channels = good-channel c;
-        lanes = good-lane l
+        lanes = good-lane l;
       }
 
   pub good : settingOk s ≡ true → Good s
@@ -163,7 +163,7 @@ good-reader r e =
       ok = all-at _ 0 e;
       setting = good (r .setting) (all-at _ 0 e);
       counts = λ c h. ltb-true _ _ (every-at _ (r .setting .listed) (all-at _ 1 e) c h);
-      held = λ l h. ltb-true _ _ (every-at _ (r .setting .numbered) (all-at _ 2 e) l h)
+      held = λ l h. ltb-true _ _ (every-at _ (r .setting .numbered) (all-at _ 2 e) l h);
     }
 
 pub record GoodWriter (w : Writer) : Type 0 where
@@ -179,5 +179,5 @@ good-writer w e =
       ok = all-at _ 0 e;
       setting = good (w .setting) (all-at _ 0 e);
       counts = λ c h. ltb-true _ _ (every-at _ (w .setting .listed) (all-at _ 1 e) c h);
-      numbers = λ l h. leb-true _ _ (every-at _ (w .setting .numbered) (all-at _ 2 e) l h)
+      numbers = λ l h. leb-true _ _ (every-at _ (w .setting .numbered) (all-at _ 2 e) l h);
     }

@@ -126,7 +126,6 @@ module _ (s : Setting) (g : Good s) (l : ℕ) (lh : l < s .numbered) (k : ℕ) (
     (insert ocf z : List ℕ) (r p : ℕ) (hi : length insert ≡ s .insert) (ho : length ocf ≡ ocfOctets (channelOf s l))
     (hz : length z ≡ zone s (channelOf s l)) (hr : r < 8) (hf : ruleFits ((lane s l) .kind) r ≡ true) (hp : p < 65536)
     (hq : (p <? zone s (channelOf s l) || p =? 0xFFFF) ≡ true) where
-
   abbrev c : Channel
   c = channelOf s l
 
@@ -164,9 +163,22 @@ module _ (s : Setting) (g : Good s) (l : ℕ) (lh : l < s .numbered) (k : ℕ) (
 
   header-fit : Fit (header s c a)
   unfolding header
-  header-fit =
-      (omega arith, (omega (arith, g .craft), (omega (arith, g .bit), (omega (arith, gc .vc), (omega (arith, gl .map),
-      (omega arith, (omega (arith, g .high), (omega (arith, gc .service), (omega arith, (omega arith, (flag-small (c .ocf), (omega (arith, gc .seven), tt))))))))))))
+  header-fit = (
+    omega arith,
+    (
+      omega (arith, g .craft),
+      (
+        omega (arith, g .bit),
+        (
+          omega (arith, gc .vc),
+          (
+            omega (arith, gl .map),
+            (omega arith, (omega (arith, g .high), (omega (arith, gc .service), (omega arith, (omega arith, (flag-small (c .ocf), (omega (arith, gc .seven), tt))))))),
+          ),
+        ),
+      ),
+    ),
+  )
 
   header-field : (i : ℕ) → i < 12
       → bits 7 (widths (take i (header s c a))) ((getD (header s c a) i (field 0 0)) .width) whole ≡ (getD (header s c a) i (field 0 0)) .value
@@ -303,7 +315,7 @@ module _ (s : Setting) (g : Good s) (l : ℕ) (lh : l < s .numbered) (k : ℕ) (
         row₉ = and-false (vc whole ≠? 63);
         row₁₀ = same _ _ is-countLength;
         row₁₁ = same _ _ is-ocfFlag;
-        row₁₂ = rw (is-map, gl .found, is-command, right)
+        row₁₂ = rw (is-map, gl .found, is-command, right);
       }
 
   found : channelAt s (vc whole) (bypass whole) ≡ At (a .channel)
@@ -333,7 +345,7 @@ module _ (s : Setting) (g : Good s) (l : ℕ) (lh : l < s .numbered) (k : ℕ) (
         upid = is-upid;
         pointer = is-pointer;
         octets = is-zone;
-        ocf = is-ocf
+        ocf = is-ocf;
       }
 
 -- ---- a frame of a batch
@@ -409,7 +421,7 @@ laid-behind area xs = drop-at xs _ (length xs) refl ∙ ap (λ (n : ℕ). drop n
 -- later octets are as they were.
 pub write-back : (w : Writer) (l : ℕ) (batch ins oc area : List ℕ) → (write w l batch ins oc area) .sender .outcome ≡ Done
     → FrameBack (w .setting) l (count w ((lane (w .setting) l) .channel)) batch ins oc (number w l)
-      (take (w .setting .length) ((write w l batch ins oc area) .area))
+    (take (w .setting .length) ((write w l batch ins oc area) .area))
     × (drop (w .setting .length) ((write w l batch ins oc area) .area) ≡ drop (w .setting .length) area)
 unfolding write written
 write-back w l batch ins oc area e =
@@ -419,6 +431,7 @@ write-back w l batch ins oc area e =
     let k : ℕ = count w ((lane s l) .channel) in
     let x : List ℕ = frameOf s l k batch ins oc (number w l) in
     let b = read-back s (a .good .setting) l (a .numbered) k (a .good .counts ((lane s l) .channel) (a .good .setting .lanes l (a .numbered) .channel)) ins oc (a .insert) (a .ocf) batch (number w l) in
-    rw z
-    (subst (FrameBack s l k batch ins oc (number w l)) (sym (ap (λ (n : ℕ). take n (laid area 0 x)) (sym (b .full)) ∙ laid-front area x)) b,
-    ap (λ (n : ℕ). drop n (laid area 0 x)) (sym (b .full)) ∙ laid-behind area x ∙ ap (λ (n : ℕ). drop n area) (b .full))
+    rw z (
+      subst (FrameBack s l k batch ins oc (number w l)) (sym (ap (λ (n : ℕ). take n (laid area 0 x)) (sym (b .full)) ∙ laid-front area x)) b,
+      ap (λ (n : ℕ). drop n (laid area 0 x)) (sym (b .full)) ∙ laid-behind area x ∙ ap (λ (n : ℕ). drop n area) (b .full),
+    )

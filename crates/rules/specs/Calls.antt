@@ -69,7 +69,7 @@ unfoldable pub written : Writer → ℕ → List ℕ → List ℕ → List ℕ �
 written w l batch insert ocf area zero =
     record {
       sender = record { outcome = Done; state = writerAfter w l batch };
-      area = laid area 0 (frameOf (w .setting) l (count w ((lane (w .setting) l) .channel)) batch insert ocf (number w l))
+      area = laid area 0 (frameOf (w .setting) l (count w ((lane (w .setting) l) .channel)) batch insert ocf (number w l));
     }
 written w l batch insert ocf area (suc n) = record { sender = record { outcome = Refused (suc n); state = w }; area = area }
 
@@ -104,13 +104,20 @@ laidOut g l k m h u c =
       taken =
           record {
             answer =
-                record { class = Class.Read; units = length (m .units); octets = length (joined (m .units)); missing = g .missing;
-                  idle = m .idle; fill = m .fill; dropped = g .dropped + m .dropped };
-            state = record { setting = g .state .setting; expects = g .state .expects; held = set (g .state .held) l (length (m .held)) }
+                record {
+                  class = Class.Read;
+                  units = length (m .units);
+                  octets = length (joined (m .units));
+                  missing = g .missing;
+                  idle = m .idle;
+                  fill = m .fill;
+                  dropped = g .dropped + m .dropped;
+                };
+            state = record { setting = g .state .setting; expects = g .state .expects; held = set (g .state .held) l (length (m .held)) };
           };
       heldArea = laid h (8192 * l) (m .held);
       unitArea = laid u 0 (joined (m .units));
-      recordArea = laid c 0 (recordsFrom (infoOf (g .state .setting) l k) 0 (m .units))
+      recordArea = laid c 0 (recordsFrom (infoOf (g .state .setting) l k) 0 (m .units));
     }
 
 -- What lane l makes of a frame of its channel c, after a gap.
@@ -135,7 +142,7 @@ onVerdict (Verdict.Counted ch) r f h u c =
           record { answer = counted (gap r ch (countIn (channel (r .setting) ch) f)); state = (gap r ch (countIn (channel (r .setting) ch) f)) .state };
       heldArea = h;
       unitArea = u;
-      recordArea = c
+      recordArea = c;
     }
 onVerdict (Verdict.Read l) r f h u c =
     readOn (gap r ((lane (r .setting) l) .channel) (countIn (channelOf (r .setting) l) f)) l (channelOf (r .setting) l) f h u c

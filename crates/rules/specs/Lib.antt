@@ -10,4 +10,6 @@ pub mod Writing
 pub mod Reading
 pub mod Refusals
 pub mod Calls
+pub mod Listing
 pub mod Worked
+pub mod Errors

@@ -58,7 +58,7 @@ gapBy r c (suc m) =
     record {
       state = record { setting = r .setting; expects = r .expects; held = emptied (λ (l : Lane). l .channel =? c) (lanesOf (r .setting)) (r .held) };
       missing = suc m;
-      dropped = lost (λ (l : Lane). l .channel =? c) (lanesOf (r .setting)) (r .held)
+      dropped = lost (λ (l : Lane). l .channel =? c) (lanesOf (r .setting)) (r .held);
     }
 
 -- "For Counted and Read": a frame of channel c with count k.
@@ -106,7 +106,7 @@ both a b =
       held = b .held;
       idle = a .idle + b .idle;
       fill = a .fill + b .fill;
-      dropped = a .dropped + b .dropped
+      dropped = a .dropped + b .dropped;
     }
 
 -- What octets become, all of them together.

@@ -132,8 +132,17 @@ writerOk w =
 
 unfoldable pub noSetting : Setting
 noSetting =
-    record { length = 0; craft = 0; bit = 0; insert = 0; check = false; listed = 0; channels = replicate 8 noChannel;
-      numbered = 0; lanes = replicate 8 noLane }
+    record {
+      length = 0;
+      craft = 0;
+      bit = 0;
+      insert = 0;
+      check = false;
+      listed = 0;
+      channels = replicate 8 noChannel;
+      numbered = 0;
+      lanes = replicate 8 noLane;
+    }
 
 unfoldable pub noReader : Reader
 noReader = record { setting = noSetting; expects = replicate 8 noExpect; held = replicate 8 0 }

@@ -7,7 +7,6 @@ use Rattle.rules.specs.declared.Place.{Place}
 use Rattle.rules.specs.declared.Place.the-variants.{At, Nowhere}
 
 infix 68 _≤?_ _<?_ _=?_ _≠?_
-
 abbrev pub _≤?_ : ℕ → ℕ → Bool
 m ≤? n = leb m n
 

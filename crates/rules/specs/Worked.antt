@@ -18,9 +18,17 @@ use Rattle.rules.specs.Calls.{setUpReader, setUpWriter, Sent, write, Got
 -- "F 32, I 0, no check, spacecraft 42, bit 0, channel 3 service 0, n 1, no OCF", and one lane.
 unfoldable pub worked : Lane → Setting
 worked l =
-    record { length = 32; craft = 42; bit = 0; insert = 0; check = false; listed = 1;
-      channels = record { vc = 3; service = 0; octets = 1; ocf = false } ∷ replicate 7 noChannel; numbered = 1;
-      lanes = l ∷ replicate 7 noLane }
+    record {
+      length = 32;
+      craft = 42;
+      bit = 0;
+      insert = 0;
+      check = false;
+      listed = 1;
+      channels = record { vc = 3; service = 0; octets = 1; ocf = false } ∷ replicate 7 noChannel;
+      numbered = 1;
+      lanes = l ∷ replicate 7 noLane;
+    }
 
 -- "Map 5, packet lane 0, longest 64."
 abbrev pub packetLane : Lane
@@ -128,17 +136,17 @@ cases =
     ∷ case 2 (packetSends 1 (packet₀ ++ packet₁)) (frame₀ ∷ [])
     ∷ case 3 (drop 1 (packetSends 2 (packet₀ ++ packet₁))) (frame₁ ∷ [])
     ∷ case 4 (each recordIn (packetReads (frame₀ ∷ frame₁ ∷ [])))
-      ((0x00 ∷ 0x03 ∷ 0x05 ∷ 0x00 ∷ 0 ∷ 0 ∷ 0 ∷ 0 ∷ 0 ∷ 0 ∷ 0 ∷ 0x0A ∷ 0 ∷ 0 ∷ 0 ∷ 0 ∷ 0x55 ∷ [])
-      ∷ (0x00 ∷ 0x03 ∷ 0x05 ∷ 0x00 ∷ 0 ∷ 0 ∷ 0 ∷ 0 ∷ 0 ∷ 0 ∷ 0 ∷ 0x12 ∷ 0 ∷ 0 ∷ 0 ∷ 0x01 ∷ 0x55 ∷ []) ∷ [])
+    ((0x00 ∷ 0x03 ∷ 0x05 ∷ 0x00 ∷ 0 ∷ 0 ∷ 0 ∷ 0 ∷ 0 ∷ 0 ∷ 0 ∷ 0x0A ∷ 0 ∷ 0 ∷ 0 ∷ 0 ∷ 0x55 ∷ [])
+    ∷ (0x00 ∷ 0x03 ∷ 0x05 ∷ 0x00 ∷ 0 ∷ 0 ∷ 0 ∷ 0 ∷ 0 ∷ 0 ∷ 0 ∷ 0x12 ∷ 0 ∷ 0 ∷ 0 ∷ 0x01 ∷ 0x55 ∷ []) ∷ [])
     ∷ case 5 (each numbers (packetReads (frame₁ ∷ []))) ((0 ∷ 0 ∷ 0 ∷ 14 ∷ 0 ∷ 7 ∷ []) ∷ [])
     ∷ case 6 (drop 1 (each numbers (packetReads (frame₀ ∷ recounted 2 frame₁ ∷ [])))) ((0 ∷ 0 ∷ 1 ∷ 14 ∷ 0 ∷ 18 ∷ []) ∷ [])
     ∷ case 7 (leaders (packetSends 3 (packetOf 60) ++ packetSends 3 (packetOf 63)))
-      ((0 ∷ 0 ∷ 0 ∷ []) ∷ (0 ∷ 0xFF ∷ 0xFF ∷ []) ∷ (0 ∷ 0 ∷ 18 ∷ []) ∷ (0 ∷ 0 ∷ 0 ∷ []) ∷ (0 ∷ 0xFF ∷ 0xFF ∷ []) ∷ (0 ∷ 0xFF ∷ 0xFF ∷ []) ∷ [])
+    ((0 ∷ 0 ∷ 0 ∷ []) ∷ (0 ∷ 0xFF ∷ 0xFF ∷ []) ∷ (0 ∷ 0 ∷ 18 ∷ []) ∷ (0 ∷ 0 ∷ 0 ∷ []) ∷ (0 ∷ 0xFF ∷ 0xFF ∷ []) ∷ (0 ∷ 0xFF ∷ 0xFF ∷ []) ∷ [])
     ∷ case 8 (leaders (accessSends 1 (replicate 21 0x77) ++ accessSends 2 (replicate 22 0x77)) ++ drop 12 (getD (accessSends 2 (replicate 22 0x77)) 1 []) ∷ [])
-      ((0x25 ∷ 0x00 ∷ 0x14 ∷ []) ∷ (0x25 ∷ 0xFF ∷ 0xFF ∷ []) ∷ (0x45 ∷ 0x00 ∷ 0x00 ∷ []) ∷ replicate 20 0x00 ∷ [])
+    ((0x25 ∷ 0x00 ∷ 0x14 ∷ []) ∷ (0x25 ∷ 0xFF ∷ 0xFF ∷ []) ∷ (0x45 ∷ 0x00 ∷ 0x00 ∷ []) ∷ replicate 20 0x00 ∷ [])
     ∷ case 9
-      (each missingOf (packetReads (recounted 254 frame₀ ∷ recounted 255 frame₀ ∷ recounted 0 frame₀ ∷ []))
-      ∷ each missingOf (packetReads (recounted 255 frame₀ ∷ recounted 2 frame₀ ∷ [])) ∷ [])
-      ((0 ∷ 0 ∷ 0 ∷ []) ∷ (0 ∷ 2 ∷ []) ∷ [])
+    (each missingOf (packetReads (recounted 254 frame₀ ∷ recounted 255 frame₀ ∷ recounted 0 frame₀ ∷ []))
+    ∷ each missingOf (packetReads (recounted 255 frame₀ ∷ recounted 2 frame₀ ∷ [])) ∷ [])
+    ((0 ∷ 0 ∷ 0 ∷ []) ∷ (0 ∷ 2 ∷ []) ∷ [])
     ∷ case 10 (each missingOf (packetReads (recounted 5 frame₀ ∷ recounted 5 frame₀ ∷ [])) ∷ []) ((0 ∷ 255 ∷ []) ∷ [])
     ∷ []

@@ -88,7 +88,7 @@ unfoldable pub frameOf : Setting → ℕ → ℕ → List ℕ → List ℕ → L
 frameOf s l k b insert ocf i =
     checked s
     (body s (channelOf s l) (lane s l) k insert (ruleOf ((lane s l) .kind) i)
-      (pointerOf ((lane s l) .kind) (zone s (channelOf s l)) b i) (zoneOf ((lane s l) .kind) (zone s (channelOf s l)) b i) ocf)
+    (pointerOf ((lane s l) .kind) (zone s (channelOf s l)) b i) (zoneOf ((lane s l) .kind) (zone s (channelOf s l)) b i) ocf)
 
 -- "The frame number rises, and returns to 0 after the last." After frame i of n.
 unfoldable pub numberAfter : ℕ → ℕ → ℕ
@@ -105,5 +105,5 @@ writerAfter w l b =
       counts =
           set (w .counts) ((lane (w .setting) l) .channel)
           (countAfter ((channelOf (w .setting) l) .octets) (count w ((lane (w .setting) l) .channel)));
-      next = set (w .next) l (numberAfter (number w l) (frames (zone (w .setting) (channelOf (w .setting) l)) b))
+      next = set (w .next) l (numberAfter (number w l) (frames (zone (w .setting) (channelOf (w .setting) l)) b));
     }

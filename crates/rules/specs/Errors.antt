@@ -1,0 +1,165 @@
+-- "Errors that look right": for each, frames whose answers show it. Then edges that the worked frames leave out. What is wanted was
+-- worked out by hand from the paper.
+use Prim.Native.Nat.{ℕ, zero, suc, _+_, _-_, _*_, _/_, _%_}
+use mathlib.Core.Bool.{Bool, true, false, cond}
+use mathlib.Core.List.{List, [], _∷_, _++_}
+use lib.ListN.{length, getD, take, drop, set, replicate}
+use Rattle.rules.specs.declared.Kind.the-variants.{Packets, Access}
+use Rattle.rules.specs.declared.Setting.{Setting}
+use Rattle.rules.specs.declared.Place.{Place}
+use Rattle.rules.specs.declared.Place.the-variants.{At, Nowhere}
+use Rattle.rules.specs.Tests.{given}
+use Rattle.rules.specs.Settings.{noChannel, noLane}
+use Rattle.rules.specs.Reading.{Made, laneStep}
+use Rattle.rules.specs.Refusals.{refusals}
+use Rattle.rules.specs.Calls.{classRefusal, Got}
+use Rattle.rules.specs.Worked.{Case, case, each, numbers, packet₀, packet₁, frame₀, frame₁, recounted, packetOf, reads}
+
+-- ---- a setting of two channels and three lanes, all zones of 21 octets
+
+-- Virtual channel 3 with both services. Lanes 0 and 1 carry packets on maps 5 and 6 of service 0, lane 2 access units on map 5 of
+-- service 1.
+unfoldable pub paired : Setting
+paired =
+    record {
+      length = 32;
+      craft = 42;
+      bit = 0;
+      insert = 0;
+      check = false;
+      listed = 2;
+      channels =
+          record { vc = 3; service = 0; octets = 1; ocf = false } ∷ record { vc = 3; service = 1; octets = 1; ocf = false } ∷ replicate 6 noChannel;
+      numbered = 3;
+      lanes =
+          record { channel = 0; map = 5; kind = Packets; longest = 64; upid = 0 } ∷ record { channel = 0; map = 6; kind = Packets; longest = 64; upid = 0 }
+          ∷ record { channel = 1; map = 5; kind = Access; longest = 42; upid = 5 } ∷ replicate 5 noLane;
+    }
+
+-- The worked setting with a frame check.
+unfoldable pub sealed : Setting
+sealed =
+    record {
+      length = 32;
+      craft = 42;
+      bit = 0;
+      insert = 0;
+      check = true;
+      listed = 1;
+      channels = record { vc = 3; service = 0; octets = 1; ocf = false } ∷ replicate 7 noChannel;
+      numbered = 1;
+      lanes = record { channel = 0; map = 5; kind = Packets; longest = 64; upid = 0 } ∷ replicate 7 noLane;
+    }
+
+-- ---- frames of them, by the fields that differ
+
+-- Service 0, rule 000: map, count, pointer, zone.
+unfoldable pub packetFrame : ℕ → ℕ → ℕ → List ℕ → List ℕ
+packetFrame m k p z = 0xC0 ∷ 0x02 ∷ 0xA0 ∷ (0x60 + m * 2) ∷ 0x00 ∷ 0x1F ∷ 0x01 ∷ k ∷ 0x00 ∷ (p / 256) ∷ (p % 256) ∷ z
+
+-- Service 1, map 5, UPID 5: count, rule, pointer, zone.
+unfoldable pub accessFrame : ℕ → ℕ → ℕ → List ℕ → List ℕ
+accessFrame k rule p z = 0xC0 ∷ 0x02 ∷ 0xA0 ∷ 0x6A ∷ 0x00 ∷ 0x1F ∷ 0x81 ∷ k ∷ (rule * 32 + 5) ∷ (p / 256) ∷ (p % 256) ∷ z
+
+-- A frame with other octets at these places.
+unfoldable pub forged : List ℕ → List ℕ → List ℕ → List ℕ
+forged [] xs f = f
+forged (i ∷ is) [] f = f
+forged (i ∷ is) (x ∷ xs) f = forged is xs (set f i x)
+
+abbrev pub fill21 : List ℕ
+fill21 = replicate 21 0xE0
+
+abbrev pub data21 : List ℕ
+data21 = replicate 21 0x77
+
+-- ---- what a row shows
+
+-- Refusal, units, unit octets, missing, idle, fill and dropped of a read.
+abbrev pub answer : Got → List ℕ
+answer o = classRefusal (o .taken .answer .class) ∷ numbers o
+
+-- The units that a lane hands out, what it then holds, and the idle, fill and dropped octets.
+unfoldable pub shown : Made → List (List ℕ)
+shown m = m .units ++ (m .held ∷ (m .idle ∷ m .fill ∷ m .dropped ∷ []) ∷ [])
+
+-- A packet lane and an access lane whose longest units have 64 and 42 octets: what is held, what the pointer points to, the zone.
+abbrev pub ofPackets : List ℕ → Place → List ℕ → List (List ℕ)
+ofPackets held p z = shown (laneStep Packets 64 0b000 held p z)
+
+abbrev pub ofUnits : ℕ → List ℕ → Place → List ℕ → List (List ℕ)
+ofUnits rule held p z = shown (laneStep Access 42 rule held p z)
+
+-- The numbers of the refusals given.
+unfoldable pub refused : Setting → List (List ℕ) → List ℕ
+refused s [] = []
+refused s (f ∷ fs) = given (refusals s f) ∷ refused s fs
+
+-- ---- the paper's five errors
+
+unfoldable pub errors : List Case
+errors =
+    -- "Watching for loss per map: a lost frame of the neighbor's map passes unseen." Count 1, with the packet's middle, is gone, and a
+    -- frame of map 6 comes next.
+    case 1 (each answer (reads paired (frame₀ ∷ packetFrame 6 2 0 fill21 ∷ recounted 3 frame₁ ∷ [])))
+    ((0 ∷ 1 ∷ 10 ∷ 0 ∷ 0 ∷ 0 ∷ 0 ∷ []) ∷ (0 ∷ 0 ∷ 0 ∷ 1 ∷ 21 ∷ 0 ∷ 11 ∷ []) ∷ (0 ∷ 0 ∷ 0 ∷ 0 ∷ 14 ∷ 0 ∷ 7 ∷ []) ∷ [])
+    -- "Refusing a frame of an unlisted map: its count is then missed and good packets are dropped."
+    ∷ case 2 (each answer (reads paired (frame₀ ∷ packetFrame 7 1 0 fill21 ∷ recounted 2 frame₁ ∷ [])))
+    ((0 ∷ 1 ∷ 10 ∷ 0 ∷ 0 ∷ 0 ∷ 0 ∷ []) ∷ (0 ∷ 0 ∷ 0 ∷ 0 ∷ 0 ∷ 0 ∷ 0 ∷ []) ∷ (0 ∷ 1 ∷ 18 ∷ 0 ∷ 14 ∷ 0 ∷ 0 ∷ []) ∷ [])
+    -- "Taking FFFF as 'the packet ended here'." 21 of 60 octets are held.
+    ∷ case 3 (ofPackets (take 21 (packetOf 60)) Nowhere data21) (take 42 (packetOf 60) ∷ (0 ∷ 0 ∷ 0 ∷ []) ∷ [])
+    -- "One counter for both services of a virtual channel."
+    ∷ case 4 (each answer (reads paired (frame₀ ∷ accessFrame 0 1 20 data21 ∷ frame₁ ∷ [])))
+    ((0 ∷ 1 ∷ 10 ∷ 0 ∷ 0 ∷ 0 ∷ 0 ∷ []) ∷ (0 ∷ 1 ∷ 21 ∷ 0 ∷ 0 ∷ 0 ∷ 0 ∷ []) ∷ (0 ∷ 1 ∷ 18 ∷ 0 ∷ 14 ∷ 0 ∷ 0 ∷ []) ∷ [])
+    -- "Believing the held packet's length against the pointer and reading on from a false start." Of 18 octets 11 are held, and the
+    -- pointer is 9.
+    ∷ case 5 (ofPackets (take 11 packet₁) (At 9) (drop 11 packet₁ ++ replicate 14 0xE0)) ([] ∷ (12 ∷ 0 ∷ 20 ∷ []) ∷ []) ∷ []
+
+-- ---- edges of the lanes
+
+unfoldable pub edges : List Case
+edges =
+    -- Pointer 0 with octets held: they are dropped. With nothing held it is no fault.
+    case 1 (ofPackets (take 11 packet₁) (At 0) fill21 ++ ofPackets [] (At 0) fill21) ([] ∷ (21 ∷ 0 ∷ 11 ∷ []) ∷ [] ∷ (21 ∷ 0 ∷ 0 ∷ []) ∷ [])
+    -- FFFF, and the packet ends sooner; FFFF, and it ends exactly with the zone; FFFF with nothing held.
+    ∷ case 2 (ofPackets (take 11 packet₁) Nowhere (drop 11 packet₁ ++ replicate 14 0x77) ++ (ofPackets (take 42 (packetOf 63)) Nowhere data21 ++ ofPackets [] Nowhere fill21))
+    ([] ∷ (0 ∷ 0 ∷ 32 ∷ []) ∷ packetOf 63 ∷ [] ∷ (0 ∷ 0 ∷ 0 ∷ []) ∷ [] ∷ (0 ∷ 0 ∷ 21 ∷ []) ∷ [])
+    -- Held octets that cannot be read, and held octets that are an idle packet already.
+    ∷ case 3 (ofPackets (0x20 ∷ []) (At 7) fill21 ++ ofPackets (0xE0 ∷ []) (At 7) fill21) ([] ∷ (14 ∷ 0 ∷ 8 ∷ []) ∷ [] ∷ (14 ∷ 0 ∷ 8 ∷ []) ∷ [])
+    -- Fewer than six octets of a packet, and a pointer above 0.
+    ∷ case 4 (ofPackets (take 2 packet₀) (At 3) fill21) ([] ∷ (18 ∷ 0 ∷ 5 ∷ []) ∷ [])
+    -- An unreadable first octet drops itself and the rest; idle packets before it count.
+    ∷ case 5 (ofPackets [] (At 0) ((0xE0 ∷ 0xE0 ∷ 0x20 ∷ []) ++ replicate 18 0xE0)) ([] ∷ (2 ∷ 0 ∷ 19 ∷ []) ∷ [])
+    -- A packet of 64 is held, one of 65 is dropped at once, and so is an idle one of 65.
+    ∷ case 6 (ofPackets [] (At 0) (take 21 (packetOf 64)) ++ (ofPackets [] (At 0) (take 21 (packetOf 65)) ++ ofPackets [] (At 0) (0x07 ∷ 0xFF ∷ drop 2 (take 21 (packetOf 65)))))
+    (take 21 (packetOf 64) ∷ (0 ∷ 0 ∷ 0 ∷ []) ∷ [] ∷ (0 ∷ 0 ∷ 21 ∷ []) ∷ [] ∷ (0 ∷ 0 ∷ 21 ∷ []) ∷ [])
+    -- The longest binds a packet that ends with the lead too: 64 octets are handed out, 65 are not.
+    ∷ case 7 (ofPackets (take 63 (packetOf 64)) (At 1) (0x77 ∷ replicate 20 0xE0) ++ ofPackets (take 63 (packetOf 65)) (At 2) (0x77 ∷ 0x77 ∷ replicate 19 0xE0))
+    (packetOf 64 ∷ [] ∷ (20 ∷ 0 ∷ 0 ∷ []) ∷ [] ∷ (19 ∷ 0 ∷ 65 ∷ []) ∷ [])
+    -- Three octets of a packet at the zone's end are held, and the packet is finished in the next frame.
+    ∷ case 8 (ofPackets [] (At 0) (packet₁ ++ take 3 packet₀) ++ ofPackets (take 3 packet₀) (At 7) (drop 3 packet₀ ++ replicate 14 0xE0))
+    (packet₁ ∷ take 3 packet₀ ∷ (0 ∷ 0 ∷ 0 ∷ []) ∷ packet₀ ∷ [] ∷ (14 ∷ 0 ∷ 0 ∷ []) ∷ [])
+    -- An idle packet over two frames counts as idle when it is finished.
+    ∷ case 9 (ofPackets (0x07 ∷ 0xFF ∷ 0xC0 ∷ []) (At 7) (0x00 ∷ 0x00 ∷ 0x03 ∷ replicate 4 0x77 ++ replicate 14 0xE0)) ([] ∷ (24 ∷ 0 ∷ 0 ∷ []) ∷ [])
+    -- 010 with nothing held; 001 over held octets; 42 octets finished, and not; 43 octets.
+    ∷ case 10 (ofUnits 0b010 [] (At 4) data21 ++ (ofUnits 0b001 data21 (At 20) data21 ++ (ofUnits 0b010 data21 (At 20) data21 ++ (ofUnits 0b010 data21 Nowhere data21 ++ ofUnits 0b010 (0x77 ∷ data21) (At 20) data21))))
+    ([] ∷ (0 ∷ 16 ∷ 5 ∷ []) ∷ data21 ∷ [] ∷ (0 ∷ 0 ∷ 21 ∷ []) ∷ replicate 42 0x77 ∷ [] ∷ (0 ∷ 0 ∷ 0 ∷ []) ∷ [] ∷ (0 ∷ 0 ∷ 42 ∷ []) ∷ [] ∷ (0 ∷ 0 ∷ 43 ∷ []) ∷ [])
+    -- A command frame after a gap is counted, and its channel's lane drops what it holds; an idle frame changes nothing.
+    ∷ case 11 (each answer (reads paired (accessFrame 0 1 0xFFFF data21 ∷ forged (2 ∷ 3 ∷ []) (0xA7 ∷ 0xE0 ∷ []) frame₀ ∷ forged (6 ∷ []) (0xC1 ∷ []) (accessFrame 3 2 20 data21) ∷ [])))
+    ((0 ∷ 0 ∷ 0 ∷ 0 ∷ 0 ∷ 0 ∷ 0 ∷ []) ∷ (0 ∷ 0 ∷ 0 ∷ 0 ∷ 0 ∷ 0 ∷ 0 ∷ []) ∷ (0 ∷ 0 ∷ 0 ∷ 2 ∷ 0 ∷ 0 ∷ 21 ∷ []) ∷ [])
+    -- Each refusal beside the next: frames with both faults, 3 and 4, 4 and 5, then 5 and 6 on to 11 and 12.
+    ∷ case 12
+    (refused sealed (take 31 frame₀ ∷ forged (0 ∷ []) (0xD0 ∷ []) frame₀ ∷ [])
+    ∷ refused paired
+    (forged (0 ∷ 1 ∷ []) (0xD0 ∷ 0x03 ∷ []) frame₀ ∷ forged (1 ∷ 3 ∷ []) (0x03 ∷ 0x6B ∷ []) frame₀ ∷ forged (3 ∷ 5 ∷ []) (0x6B ∷ 0x20 ∷ []) frame₀
+    ∷ forged (3 ∷ 6 ∷ []) (0x8A ∷ 0x41 ∷ []) frame₀ ∷ forged (3 ∷ 6 ∷ []) (0x8A ∷ 0x02 ∷ []) frame₀ ∷ forged (6 ∷ []) (0x0A ∷ []) frame₀
+    ∷ forged (6 ∷ 8 ∷ []) (0x09 ∷ 0x20 ∷ []) frame₀ ∷ [])
+    ∷ [])
+    ((3 ∷ 4 ∷ []) ∷ (5 ∷ 6 ∷ 7 ∷ 8 ∷ 9 ∷ 10 ∷ 11 ∷ []) ∷ [])
+    -- Pointers 20, 21 and FFFF; a UPID and a rule that are not the lane's, and both on a map that is in no lane.
+    ∷ case 13
+    (refused paired
+    (packetFrame 5 0 20 fill21 ∷ packetFrame 5 0 21 fill21 ∷ packetFrame 5 0 0xFFFF fill21 ∷ forged (8 ∷ []) (0x01 ∷ []) frame₀
+    ∷ forged (8 ∷ []) (0x20 ∷ []) frame₀ ∷ forged (3 ∷ 8 ∷ []) (0x6E ∷ 0xFF ∷ []) frame₀ ∷ [])
+    ∷ [])
+    ((0 ∷ 12 ∷ 0 ∷ 12 ∷ 12 ∷ 0 ∷ []) ∷ []) ∷ []

@@ -1,0 +1,66 @@
+-- "Worked frames", its end: what the listing program prints.
+use Prim.Native.Nat.{ℕ, zero, suc, _+_, _/_, _%_}
+use Prim.Native.String.{String}
+use Prim.Native.Char.{Char, code}
+use mathlib.Core.Bool.{Bool, true, false, cond}
+use mathlib.Core.List.{List, [], _∷_, _++_}
+use lib.ListN.{length, take, drop, replicate}
+use Rattle.rules.specs.declared.Setting.{Setting}
+use Rattle.rules.specs.declared.Reader.{Reader}
+use Rattle.rules.specs.declared.Class.{Class}
+use Rattle.rules.specs.declared.Class.the-variants.{Idle, Counted, Read, Refused}
+use Rattle.rules.specs.declared.Answer.{Answer}
+use Rattle.rules.specs.Tests.{_<?_, _=?_}
+use Rattle.rules.specs.Calls.{setUpReader, Got, read}
+
+-- ---- text
+
+-- The octets of a text of plain characters.
+unfoldable pub text : String → List ℕ
+text String.[] = []
+text (String._∷_ c s) = code c ∷ text s
+
+-- A number's digits, n of them at most.
+unfoldable pub digits : ℕ → ℕ → List ℕ
+digits zero v = []
+digits (suc n) v = cond (v <? 10) ((48 + v) ∷ []) (digits n (v / 10) ++ (48 + v % 10) ∷ [])
+
+-- A number of 64 bits has twenty digits at most.
+unfoldable pub decimal : ℕ → List ℕ
+decimal v = digits 20 v
+
+-- ---- "Fields: frame number; idle, counted, read or refused; units (the refusal number if refused); missing (0 if refused)."
+
+unfoldable pub word : Class → List ℕ
+word Idle = text "idle"
+word Counted = text "counted"
+word Read = text "read"
+word (Refused n) = text "refused"
+
+-- Units, or the refusal number.
+unfoldable pub amount : Class → ℕ → ℕ
+amount Idle units = units
+amount Counted units = units
+amount Read units = units
+amount (Refused n) units = n
+
+unfoldable pub line : ℕ → Answer → List ℕ
+line k a =
+    decimal k ++ text " " ++ word (a .class) ++ text " " ++ decimal (amount (a .class) (a .units)) ++ text " " ++ decimal (a .missing) ++ text "\n"
+
+-- ---- the program: input cut into frames of F octets, "a short last frame is refused 3"
+
+-- Line k and those after it, n at most, of what is left of the input.
+unfoldable pub lines : ℕ → ℕ → Reader → List ℕ → List ℕ → List ℕ → List ℕ → List ℕ
+lines zero k r h u c input = []
+lines (suc n) k r h u c input =
+    let o : Got = read r (take (r .setting .length) input) h u c in
+    let rest : List ℕ = lines n (k + 1) (o .taken .state) (o .heldArea) (o .unitArea) (o .recordArea) (drop (r .setting .length) input) in
+    cond (length input =? 0) [] (line k (o .taken .answer) ++ rest)
+
+-- "Empty input prints nothing."
+unfoldable pub listing : Setting → List ℕ → List ℕ
+listing s input =
+    cond (length input =? 0) []
+    (text "frame answer units missing\n"
+    ++ lines (length input) 0 ((setUpReader s) .state) (replicate 65536 0) (replicate 12288 0) (replicate 9600 0) input)
