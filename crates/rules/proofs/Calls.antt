@@ -125,15 +125,10 @@ module _ (w : Writer) (l : ℕ) (batch insert ocf area : List ℕ) where
       go : (n : ℕ) → given (writeRefusals w l batch insert ocf area) ≡ n → writerOk ((written w l batch insert ocf area n) .sender .state) ≡ true
       go zero e =
           unfold written in
-          let a = none-refused e in
-          let k = good-kind-of (a .good .setting) (a .numbered) in
-          let b = good-batch _ _ batch (k .most) (a .batch) in
+          let a : Accepted w l batch insert ocf area = none-refused e in
+          let b = good-batch _ _ batch (a .good .setting .lanes l (a .numbered) .kind .most) (a .batch) in
           let c = good-channelOf (a .good .setting) l (a .numbered) in
           writer-ok _ (good-after w (a .good) l batch (a .below) (le-trans (frames-few _ batch (c .room) (b .some)) (b .most)))
-        where
-          good-kind-of : Good (w .setting) → l < w .setting .numbered
-              → GoodKind ((lane (w .setting) l) .kind) ((lane (w .setting) l) .longest) ((lane (w .setting) l) .upid)
-          good-kind-of g h = g .lanes l h .kind
       go (suc n) e = unfold written in ok
 
 -- ---- read

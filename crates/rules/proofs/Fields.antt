@@ -11,7 +11,8 @@ use Rattle.rules.specs.declared.Channel.{Channel}
 use Rattle.rules.specs.declared.Lane.{Lane}
 use Rattle.rules.specs.declared.Setting.{Setting}
 use Rattle.rules.specs.Octets.{be, num, field, widths, packed, bits, flag}
-use Rattle.rules.specs.Frames.{header, leader, version, craft, bit, vc, map, ending, size, bypass, command, spare, ocfFlag, countLength}
+use Rattle.rules.proofs.Octets.{flag-small}
+use Rattle.rules.specs.Frames.{header, dataHeader, version, craft, bit, vc, map, ending, size, bypass, command, spare, ocfFlag, countLength}
 
 -- ---- reading
 
@@ -79,14 +80,14 @@ by-octets f h o =
       countLength = rw n (omega arith);
     }
 
-pub record LeaderByOctets (f : List ℕ) : Type 0 where
+pub record DataByOctets (f : List ℕ) : Type 0 where
   pub rule : bits 3 0 3 f ≡ getD f 0 0 / 32
   pub upid : bits 3 3 5 f ≡ getD f 0 0 % 32
   pub pointer : bits 3 8 16 f ≡ getD f 1 0 * 256 + getD f 2 0
 
-pub leader-by-octets : (f : List ℕ) → 3 ≤ length f → ((i : ℕ) → getD f i 0 < 256) → LeaderByOctets f
+pub dataHeader-by-octets : (f : List ℕ) → 3 ≤ length f → ((i : ℕ) → getD f i 0 < 256) → DataByOctets f
 unfolding bits
-leader-by-octets f h o =
+dataHeader-by-octets f h o =
     let n = three f h in
     let a = o 0 in
     let b = o 1 in
@@ -118,10 +119,6 @@ seven-octets a b v m n s o k ha hb hv hm hn hs ho hk =
     cons-eq (omega arith)
     (cons-eq (omega arith) (cons-eq (omega arith) (cons-eq (omega arith) (cons-eq (omega arith) (cons-eq (omega arith) (cons-eq (omega arith) refl))))))
 
-flag-small : (t : Bool) → flag t ≤ 1
-flag-small true = omega arith
-flag-small false = omega arith
-
 pub header-octets : (s : Setting) (c : Channel) (l : Lane) → Narrow s c l
     → be 7 (packed (header s c l))
     ≡ (192 + s .craft / 4096) ∷ (s .craft / 16 % 256) ∷ (s .craft % 16 * 16 + s .bit * 8 + c .vc / 8) ∷ (c .vc % 8 * 32 + l .map * 2)
@@ -131,6 +128,6 @@ header-octets s c l n =
     seven-octets (s .craft) (s .bit) (c .vc) (l .map) (s .length - 1) (c .service) (flag (c .ocf)) (c .octets) (n .craft) (n .bit) (n .vc) (n .map)
     (omega (arith, n .length)) (n .service) (flag-small (c .ocf)) (n .octets)
 
-pub leader-octets : (r u p : ℕ) → r < 8 → u < 32 → p < 65536 → leader r u p ≡ (r * 32 + u) ∷ (p / 256) ∷ (p % 256) ∷ []
-unfolding leader be packed widths
-leader-octets r u p hr hu hp = cons-eq (omega arith) (cons-eq (omega arith) (cons-eq (omega arith) refl))
+pub dataHeader-octets : (r u p : ℕ) → r < 8 → u < 32 → p < 65536 → dataHeader r u p ≡ (r * 32 + u) ∷ (p / 256) ∷ (p % 256) ∷ []
+unfolding dataHeader be packed widths
+dataHeader-octets r u p hr hu hp = cons-eq (omega arith) (cons-eq (omega arith) (cons-eq (omega arith) refl))

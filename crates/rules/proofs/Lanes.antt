@@ -22,6 +22,7 @@ use Rattle.rules.specs.Tests.{_≤?_, _<?_, _=?_}
 use Rattle.rules.specs.Areas.{joined}
 use Rattle.rules.specs.Packets.{sized, measured, measure}
 use Rattle.rules.specs.Reading.{Made, nothing, holds, drops, fills, hands, idles, both, become, endFate, joinedFate, leadFate, lead, sizedNext, nextOf, front, walkUpTo, walk, packetLane, unitFate, followFate, portion, accessLane, laneStep}
+use Rattle.rules.proofs.Areas.{joined-append}
 use Rattle.rules.proofs.Valid.{least}
 
 -- ---- what the decisions can be: to show something of one, show it of each case with what holds there
@@ -156,11 +157,6 @@ module _ (longest : ℕ) where
 -- All octets that something is said of.
 unfoldable pub total : Made → ℕ
 total m = length (joined (m .units)) + (length (m .held) + (m .idle + (m .fill + m .dropped)))
-
-pub joined-append : (es bs : List (List ℕ)) → joined (es ++ bs) ≡ joined es ++ joined bs
-unfolding joined
-joined-append [] bs = refl
-joined-append (e ∷ es) bs = ap (λ (x : List ℕ). e ++ x) (joined-append es bs) ∙ sym (append-assoc e (joined es) (joined bs))
 
 both-total : (a b : Made) → a .held ≡ [] → total (both a b) ≡ total a + total b
 unfolding total both

@@ -1,11 +1,13 @@
-pub mod Worked
+-- Laws of the rules, for those who build on them.
 pub mod Tests
-pub mod Valid
+pub mod Areas
 pub mod Octets
+pub mod Fields
 pub mod Counts
+pub mod Valid
 pub mod Lanes
 pub mod Judged
 pub mod States
 pub mod Calls
 pub mod Written
-pub mod Fields
+pub mod Worked

@@ -12,7 +12,7 @@ use lib.Arith.{mod-mul, digits-lt}
 use lib.Bits.{bitXor, xor-lt}
 use lib.Dec.{lit<}
 use borrow.Author.Tests.{le-leb, lt-leb}
-use Rattle.rules.specs.Octets.{be, num, Field, field, widths, packed, bits, checkBit, checkBits, checkFrom, checkOf}
+use Rattle.rules.specs.Octets.{be, num, Field, field, widths, packed, bits, flag, checkBit, checkBits, checkFrom, checkOf}
 use Rattle.rules.proofs.Tests.{split}
 
 -- ---- numbers in octets
@@ -137,6 +137,11 @@ bits-back n fs k rest h o w =
   where
     exponent : (a b c d n : ℕ) → a ≡ 8 * n → a ≡ b + (c + d) → 8 * n - (b + c) ≡ d
     exponent a b c d n p q = omega arith
+
+-- A flag is a bit.
+pub flag-small : (t : Bool) → flag t ≤ 1
+flag-small true = omega arith
+flag-small false = omega arith
 
 -- ---- the frame check
 

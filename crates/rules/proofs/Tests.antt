@@ -67,6 +67,13 @@ module _ (p : ℕ → Bool) where
   at-every zero h = refl
   at-every (suc n) h = and-both (every n p) (p n) (at-every n (λ i l. h i (omega arith))) (h n (omega arith))
 
+  pub every-not : (n i : ℕ) → i < n → p i ≡ false → every n p ≡ false
+  every-not n i h e = go (every n p) refl
+    where
+      go : (t : Bool) → every n p ≡ t → t ≡ false
+      go true q = absurd (true≢false (sym (every-at n q i h) ∙ e))
+      go false q = refl
+
   -- ---- first
 
   before-none : (q r : Place) → q ≡ Nowhere → before q r ≡ r

@@ -22,11 +22,12 @@ use Rattle.rules.specs.Tests.{_<?_, _=?_, _≠?_, none, at, given}
 use Rattle.rules.specs.Octets.{be, num, Field, field, widths, packed, bits, flag, checkOf}
 use Rattle.rules.specs.Areas.{laid}
 use Rattle.rules.specs.Settings.{channel, lane, channelOf, count, number, zone, ocfOctets, checkOctets, settingOk}
-use Rattle.rules.specs.Frames.{header, primary, leader, body, checked, version, craft, bit, vc, map, ending, size, bypass, command, spare, ocfFlag, countLength, countIn, dataField, ruleIn, upidIn, pointerIn, zoneIn, checkHolds, pointerTo, pointsTo}
+use Rattle.rules.specs.Frames.{header, primary, dataHeader, body, checked, version, craft, bit, vc, map, ending, size, bypass, command, spare, ocfFlag, countLength, countIn, dataField, ruleIn, upidIn, pointerIn, zoneIn, checkHolds, pointerTo, pointsTo}
 use Rattle.rules.specs.Writing.{piece, fill, zoneOf, ruleOf, offsetOf, inside, pointerOf, frameOf}
 use Rattle.rules.specs.Refusals.{channelAt, laneAt, ruleFits, dataWrong, refusalsAt, refusals, onChannel, passed, judged, judge}
 use Rattle.rules.specs.Calls.{writeRefusals, written, write}
-use Rattle.rules.proofs.Octets.{length-be, num-be-below, Fit, bits-back, check-below}
+use Rattle.rules.proofs.Areas.{laid-front, laid-behind}
+use Rattle.rules.proofs.Octets.{flag-small, length-be, num-be-below, Fit, bits-back, check-below}
 use Rattle.rules.proofs.Valid.{Good, good, GoodChannel, GoodLane, good-channelOf}
 use Rattle.rules.proofs.Judged.{Clear, none-given}
 use Rattle.rules.proofs.Calls.{Accepted, none-refused, accepted}
@@ -60,9 +61,9 @@ module _ (n k : ℕ) (insert head z ocf ck : List ℕ) where
 
 -- ---- lengths
 
-length-leader : (r u p : ℕ) → length (leader r u p) ≡ 3
-unfolding leader
-length-leader r u p = length-be 3 _
+length-dataHeader : (r u p : ℕ) → length (dataHeader r u p) ≡ 3
+unfolding dataHeader
+length-dataHeader r u p = length-be 3 _
 
 length-check : (s : Setting) (xs : List ℕ) → length (cond (s .check) (be 2 (checkOf xs)) []) ≡ checkOctets s
 length-check s xs = go (s .check)
@@ -80,7 +81,7 @@ length-zoneOf k z b i =
     let d = length-take z (drop (i * z) b) in
     omega (arith, a, c, d)
 
--- ---- the leader's fields
+-- ---- the dataHeader's fields
 
 module _ (r u p : ℕ) (rest : List ℕ) (hr : r < 8) (hu : u < 32) (hp : p < 65536) where
   fields : List Field
@@ -90,17 +91,17 @@ module _ (r u p : ℕ) (rest : List ℕ) (hr : r < 8) (hu : u < 32) (hp : p < 65
   unfolding fields
   fit = (hr, (hu, (hp, tt)))
 
-  leader-rule : bits 3 0 3 (leader r u p ++ rest) ≡ r
-  unfolding leader fields widths
-  leader-rule = bits-back 3 fields 0 rest (omega arith) fit refl
+  dataHeader-rule : bits 3 0 3 (dataHeader r u p ++ rest) ≡ r
+  unfolding dataHeader fields widths
+  dataHeader-rule = bits-back 3 fields 0 rest (omega arith) fit refl
 
-  leader-upid : bits 3 3 5 (leader r u p ++ rest) ≡ u
-  unfolding leader fields widths
-  leader-upid = bits-back 3 fields 1 rest (omega arith) fit refl
+  dataHeader-upid : bits 3 3 5 (dataHeader r u p ++ rest) ≡ u
+  unfolding dataHeader fields widths
+  dataHeader-upid = bits-back 3 fields 1 rest (omega arith) fit refl
 
-  leader-pointer : bits 3 8 16 (leader r u p ++ rest) ≡ p
-  unfolding leader fields widths
-  leader-pointer = bits-back 3 fields 2 rest (omega arith) fit refl
+  dataHeader-pointer : bits 3 8 16 (dataHeader r u p ++ rest) ≡ p
+  unfolding dataHeader fields widths
+  dataHeader-pointer = bits-back 3 fields 2 rest (omega arith) fit refl
 
 -- ---- what the reader makes of a frame of lane l: nothing refuses it, and count k, insert zone, rule, pointer, zone and OCF read back
 
@@ -117,10 +118,6 @@ pub record ReadBack (s : Setting) (l k : ℕ) (ins oc z : List ℕ) (r p : ℕ) 
   pub ocf : take (ocfOctets (channelOf s l)) (drop (zone s (channelOf s l)) (drop 3 (dataField s (channelOf s l) f))) ≡ oc
 
 -- ---- a frame of lane l
-
-flag-small : (t : Bool) → flag t < 2
-flag-small true = omega arith
-flag-small false = omega arith
 
 module _ (s : Setting) (g : Good s) (l : ℕ) (lh : l < s .numbered) (k : ℕ) (kb : k < 256 ^ (channelOf s l) .octets)
     (insert ocf z : List ℕ) (r p : ℕ) (hi : length insert ≡ s .insert) (ho : length ocf ≡ ocfOctets (channelOf s l))
@@ -139,7 +136,7 @@ module _ (s : Setting) (g : Good s) (l : ℕ) (lh : l < s .numbered) (k : ℕ) (
   ck = cond (s .check) (be 2 (checkOf (body s c a k insert r p z ocf))) []
 
   tail : List ℕ
-  tail = after (c .octets) k insert (leader r (a .upid) p) z ocf ck
+  tail = after (c .octets) k insert (dataHeader r (a .upid) p) z ocf ck
 
   gl : GoodLane s l
   gl = g .lanes l lh
@@ -149,13 +146,13 @@ module _ (s : Setting) (g : Good s) (l : ℕ) (lh : l < s .numbered) (k : ℕ) (
 
   is-form : whole ≡ be 7 (packed (header s c a)) ++ tail
   unfolding whole checked ck tail after body primary
-  is-form = regroup (be 7 (packed (header s c a))) (be (c .octets) k) insert (leader r (a .upid) p) z ocf _
+  is-form = regroup (be 7 (packed (header s c a))) (be (c .octets) k) insert (dataHeader r (a .upid) p) z ocf _
 
   pub is-length : length whole ≡ s .length
   unfolding tail ck zone
   is-length =
-      let t = after-length (c .octets) k insert (leader r (a .upid) p) z ocf ck in
-      let q = length-leader r (a .upid) p in
+      let t = after-length (c .octets) k insert (dataHeader r (a .upid) p) z ocf ck in
+      let q = length-dataHeader r (a .upid) p in
       let e = length-check s (body s c a k insert r p z ocf) in
       ap length is-form ∙ length-append (be 7 (packed (header s c a))) tail ∙ omega (arith, t, q, e, gc .room, length-be 7 (packed (header s c a)))
 
@@ -173,7 +170,7 @@ module _ (s : Setting) (g : Good s) (l : ℕ) (lh : l < s .numbered) (k : ℕ) (
           omega (arith, gc .vc),
           (
             omega (arith, gl .map),
-            (omega arith, (omega (arith, g .high), (omega (arith, gc .service), (omega arith, (omega arith, (flag-small (c .ocf), (omega (arith, gc .seven), tt))))))),
+            (omega arith, (omega (arith, g .high), (omega (arith, gc .service), (omega arith, (omega arith, (omega (arith, flag-small (c .ocf)), (omega (arith, gc .seven), tt))))))),
           ),
         ),
       ),
@@ -240,38 +237,38 @@ module _ (s : Setting) (g : Good s) (l : ℕ) (lh : l < s .numbered) (k : ℕ) (
 
   pub is-count : countIn c whole ≡ k
   unfolding countIn tail
-  is-count = ap (λ (xs : List ℕ). num (take (c .octets) xs)) is-tail ∙ ap num (after-count (c .octets) k insert (leader r (a .upid) p) z ocf ck) ∙ num-be-below (c .octets) k kb
+  is-count = ap (λ (xs : List ℕ). num (take (c .octets) xs)) is-tail ∙ ap num (after-count (c .octets) k insert (dataHeader r (a .upid) p) z ocf ck) ∙ num-be-below (c .octets) k kb
 
   pub is-insert : take (s .insert) (drop (7 + c .octets) whole) ≡ insert
   unfolding tail
   is-insert =
-      ap (take (s .insert)) (sym (drop-drop (c .octets) 7 whole) ∙ ap (drop (c .octets)) is-tail ∙ after-insert (c .octets) k insert (leader r (a .upid) p) z ocf ck)
+      ap (take (s .insert)) (sym (drop-drop (c .octets) 7 whole) ∙ ap (drop (c .octets)) is-tail ∙ after-insert (c .octets) k insert (dataHeader r (a .upid) p) z ocf ck)
       ∙ take-at insert _ (s .insert) hi
 
-  is-data : dataField s c whole ≡ leader r (a .upid) p ++ (z ++ (ocf ++ ck))
+  is-data : dataField s c whole ≡ dataHeader r (a .upid) p ++ (z ++ (ocf ++ ck))
   unfolding tail
   is-data =
       let e : 7 + c .octets + s .insert ≡ 7 + (c .octets + length insert) = omega arith in
       ap (λ (i : ℕ). drop i whole) e ∙ sym (drop-drop (c .octets + length insert) 7 whole) ∙ ap (drop (c .octets + length insert)) is-tail
-      ∙ after-data (c .octets) k insert (leader r (a .upid) p) z ocf ck
+      ∙ after-data (c .octets) k insert (dataHeader r (a .upid) p) z ocf ck
 
   upid-small : a .upid < 32
   upid-small = omega (arith, gl .kind .upid)
 
   pub is-rule : ruleIn s c whole ≡ r
   unfolding ruleIn
-  is-rule = ap (bits 3 0 3) is-data ∙ leader-rule r (a .upid) p _ hr upid-small hp
+  is-rule = ap (bits 3 0 3) is-data ∙ dataHeader-rule r (a .upid) p _ hr upid-small hp
 
   pub is-upid : upidIn s c whole ≡ a .upid
   unfolding upidIn
-  is-upid = ap (bits 3 3 5) is-data ∙ leader-upid r (a .upid) p _ hr upid-small hp
+  is-upid = ap (bits 3 3 5) is-data ∙ dataHeader-upid r (a .upid) p _ hr upid-small hp
 
   pub is-pointer : pointerIn s c whole ≡ p
   unfolding pointerIn
-  is-pointer = ap (bits 3 8 16) is-data ∙ leader-pointer r (a .upid) p _ hr upid-small hp
+  is-pointer = ap (bits 3 8 16) is-data ∙ dataHeader-pointer r (a .upid) p _ hr upid-small hp
 
   is-rest : drop 3 (dataField s c whole) ≡ z ++ (ocf ++ ck)
-  is-rest = ap (drop 3) is-data ∙ drop-at (leader r (a .upid) p) _ 3 (length-leader r (a .upid) p)
+  is-rest = ap (drop 3) is-data ∙ drop-at (dataHeader r (a .upid) p) _ 3 (length-dataHeader r (a .upid) p)
 
   pub is-zone : zoneIn s c whole ≡ z
   unfolding zoneIn
@@ -406,16 +403,6 @@ read-back s g l lh k kb ins oc hi ho b i =
     (pointer-small z n (zone-small s g (channelOf s l))) (pointer-fits z n)
 
 -- ---- the write call
-
--- The first octets of an area are those laid there.
-pub laid-front : (area xs : List ℕ) → take (length xs) (laid area 0 xs) ≡ xs
-unfolding laid
-laid-front area xs = take-at xs _ (length xs) refl
-
--- The octets after those laid at the front are as they were.
-pub laid-behind : (area xs : List ℕ) → drop (length xs) (laid area 0 xs) ≡ drop (length xs) area
-unfolding laid
-laid-behind area xs = drop-at xs _ (length xs) refl ∙ ap (λ (n : ℕ). drop n area) (zero-add (length xs))
 
 -- An accepted write leaves in the first F octets a frame that nothing refuses under the same setting and whose fields read back;
 -- later octets are as they were.

@@ -38,12 +38,12 @@ unfoldable pub primary : Setting → Channel → Lane → ℕ → List ℕ
 primary s c l k = be 7 (packed (header s c l)) ++ be (c .octets) k
 
 -- "Construction rule 3 bits with UPID 5 bits, pointer 16 bits."
-unfoldable pub leader : ℕ → ℕ → ℕ → List ℕ
-leader rule upid pointer = be 3 (packed (field 3 rule ∷ field 5 upid ∷ field 16 pointer ∷ []))
+unfoldable pub dataHeader : ℕ → ℕ → ℕ → List ℕ
+dataHeader rule upid pointer = be 3 (packed (field 3 rule ∷ field 5 upid ∷ field 16 pointer ∷ []))
 
 -- "After it: insert zone, construction rule 3 bits with UPID 5 bits, pointer 16 bits, zone, OCF, frame check."
 unfoldable pub body : Setting → Channel → Lane → ℕ → List ℕ → ℕ → ℕ → List ℕ → List ℕ → List ℕ
-body s c l k insert rule pointer z ocf = primary s c l k ++ insert ++ leader rule (l .upid) pointer ++ z ++ ocf
+body s c l k insert rule pointer z ocf = primary s c l k ++ insert ++ dataHeader rule (l .upid) pointer ++ z ++ ocf
 
 -- The check is "over all octets before it".
 unfoldable pub checked : Setting → List ℕ → List ℕ

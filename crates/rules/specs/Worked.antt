@@ -81,9 +81,9 @@ each f [] = []
 each f (o ∷ os) = f o ∷ each f os
 
 -- Rule, UPID and pointer of a frame of the worked setting.
-unfoldable pub leaders : List (List ℕ) → List (List ℕ)
-leaders [] = []
-leaders (f ∷ fs) = take 3 (drop 8 f) ∷ leaders fs
+unfoldable pub dataHeaders : List (List ℕ) → List (List ℕ)
+dataHeaders [] = []
+dataHeaders (f ∷ fs) = take 3 (drop 8 f) ∷ dataHeaders fs
 
 -- The frame with another count.
 abbrev pub recounted : ℕ → List ℕ → List ℕ
@@ -140,9 +140,9 @@ cases =
     ∷ (0x00 ∷ 0x03 ∷ 0x05 ∷ 0x00 ∷ 0 ∷ 0 ∷ 0 ∷ 0 ∷ 0 ∷ 0 ∷ 0 ∷ 0x12 ∷ 0 ∷ 0 ∷ 0 ∷ 0x01 ∷ 0x55 ∷ []) ∷ [])
     ∷ case 5 (each numbers (packetReads (frame₁ ∷ []))) ((0 ∷ 0 ∷ 0 ∷ 14 ∷ 0 ∷ 7 ∷ []) ∷ [])
     ∷ case 6 (drop 1 (each numbers (packetReads (frame₀ ∷ recounted 2 frame₁ ∷ [])))) ((0 ∷ 0 ∷ 1 ∷ 14 ∷ 0 ∷ 18 ∷ []) ∷ [])
-    ∷ case 7 (leaders (packetSends 3 (packetOf 60) ++ packetSends 3 (packetOf 63)))
+    ∷ case 7 (dataHeaders (packetSends 3 (packetOf 60) ++ packetSends 3 (packetOf 63)))
     ((0 ∷ 0 ∷ 0 ∷ []) ∷ (0 ∷ 0xFF ∷ 0xFF ∷ []) ∷ (0 ∷ 0 ∷ 18 ∷ []) ∷ (0 ∷ 0 ∷ 0 ∷ []) ∷ (0 ∷ 0xFF ∷ 0xFF ∷ []) ∷ (0 ∷ 0xFF ∷ 0xFF ∷ []) ∷ [])
-    ∷ case 8 (leaders (accessSends 1 (replicate 21 0x77) ++ accessSends 2 (replicate 22 0x77)) ++ drop 12 (getD (accessSends 2 (replicate 22 0x77)) 1 []) ∷ [])
+    ∷ case 8 (dataHeaders (accessSends 1 (replicate 21 0x77) ++ accessSends 2 (replicate 22 0x77)) ++ drop 12 (getD (accessSends 2 (replicate 22 0x77)) 1 []) ∷ [])
     ((0x25 ∷ 0x00 ∷ 0x14 ∷ []) ∷ (0x25 ∷ 0xFF ∷ 0xFF ∷ []) ∷ (0x45 ∷ 0x00 ∷ 0x00 ∷ []) ∷ replicate 20 0x00 ∷ [])
     ∷ case 9
     (each missingOf (packetReads (recounted 254 frame₀ ∷ recounted 255 frame₀ ∷ recounted 0 frame₀ ∷ []))
