@@ -1,16 +1,17 @@
 -- A turn of each loop, and what the loop has done at its end.
 use mathlib.Core.Path.{_≡_, refl, sym, ap, ap₂, _∙_}
 use Prim.Native.Nat.{ℕ, zero, suc, _+_, _-_, _*_, _/_, _%_, _^_, _≤_, _<_}
-use native.Mathlib.Nat.{zero-lt-suc, zero-add, add-sub-of-le, le-antisymm, div-one, div-div-eq-div-mul, pow-succ', pow-suc, pow-le-pow-right, mul-mod-right, mod-eq-of-lt}
+use native.Mathlib.Nat.{zero-lt-suc, zero-add, le-of-eq, add-sub-of-le, le-antisymm, div-one, div-div-eq-div-mul, pow-succ', pow-suc, pow-le-pow-right, mul-mod-right, mod-eq-of-lt}
 use native.Mathlib.Numerals.{add-one}
 use native.Mathlib.Omega.{arith}
 use mathlib.Core.List.{List, [], _∷_, _++_, append-assoc, append-nil}
 use lib.ListN.{length, getD, take, drop, set, replicate, length-append, length-drop, length-set, length-replicate, drop-of-length-le}
-use lib.Seq.{paste, paste-suc, length-take-le, take-all, take-suc, take-length, drop-cons, set-at}
+use lib.Seq.{paste, paste-suc, length-take-le, take-all, take-suc, take-length, drop-cons, drop-drop, set-at}
 use lib.Pow.{pow-add}
+use borrow.Rule.Slice.PartMut.{putMid}
 use Rattle.rules.specs.Octets.{be, num}
 use Rattle.rules.specs.Areas.{laid}
-use Rattle.rules.proofs.Octets.{length-be}
+use Rattle.rules.proofs.Octets.{length-be, Octets, num-below}
 
 -- ---- copy: the first i octets are the source's
 
@@ -137,3 +138,36 @@ pub modulus-all : (n m i : ℕ) → n < 8 → i ≤ n → n ≤ i → m ≡ 256 
 modulus-all n m i h a b e =
     let s : 256 ^ n ≤ 256 ^ 7 = small n 7 (omega arith) in
     e ∙ ap (λ (k : ℕ). 256 ^ k) (le-antisymm a b) ∙ sym (mod-eq-of-lt (omega arith))
+
+-- ---- exact: eight octets fit
+
+octets : (xs : List ℕ) → ((i : ℕ) → getD xs i 0 < 256) → Octets xs
+octets [] h = tt
+octets (x ∷ xs) h = (h 0, octets xs (λ i. h (suc i)))
+
+pub exact-number : (s : List ℕ) (v : ℕ) → length s ≤ 8 → ((i : ℕ) → getD s i 0 < 256) → v ≡ num s % 2 ^ 64 → v ≡ num s
+exact-number s v h o e =
+    let b : num s < 256 ^ length s = num-below s (octets s o) in
+    let k : 256 ^ length s ≤ 256 ^ 8 = small (length s) 8 h in
+    e ∙ mod-eq-of-lt (omega arith)
+
+-- ---- a part that is lent whole: what it then holds is laid into the area
+
+pub lent : (area : List ℕ) (from n : ℕ) (xs : List ℕ) → length xs ≡ n → putMid from (from + n - from) area xs ≡ laid area from xs
+unfolding laid
+lent area from n xs e =
+    let k : from + n - from ≡ length xs = omega arith in
+    ap (λ (i : ℕ). take from area ++ (xs ++ drop i (drop from area))) k ∙ ap (λ (l : List ℕ). take from area ++ (xs ++ l)) (drop-drop (length xs) from area)
+    ∙ sym (append-assoc (take from area) xs (drop (from + length xs) area))
+
+-- The part's length, and a source as long as the part.
+pub part-long : (area : List ℕ) (from n : ℕ) → from + n ≤ length area → length (take (from + n - from) (drop from area)) ≡ n
+part-long area from n h =
+    let k : from + n - from ≡ n = omega arith in
+    rw k (length-take-le n (drop from area) (omega (arith, length-drop from area)))
+
+pub copied-whole : (d s : List ℕ) → length d ≡ length s → laid d 0 (take (length d) s) ≡ s
+unfolding laid
+copied-whole d s e =
+    let t : take (length d) s ≡ s = take-all (length d) s (omega arith) in
+    rw (t, zero-add, drop-of-length-le d (le-of-eq e), append-nil s)

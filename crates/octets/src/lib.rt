@@ -1,6 +1,6 @@
 // Octets in lent areas, and numbers in octets. Each function is total and works on all of the part that it is lent.
 ghost use mathlib.Core.Path.{_≡_};
-ghost use Prim.Native.Nat.{_%_, _^_};
+ghost use Prim.Native.Nat.{_+_, _%_, _^_, _≤_};
 ghost use lib.ListN.{length, take, replicate};
 ghost use Rattle.rules.specs.Octets.{be, num};
 ghost use Rattle.rules.specs.Areas.{laid};
@@ -49,6 +49,14 @@ pub fn number(s: &[u8]) -> u64
     v
 }
 
+// The number that at most eight octets spell.
+pub fn exact(s: &[u8]) -> u64
+    requires { ⌜ length (now s) ≤ 8 ⌝ }
+    ensures { λ r. ⌜ r ≡ num (now (s .entry)) ⌝ }
+{
+    number(s)
+}
+
 // Writes `x` into all of `dst`, the highest octet first.
 pub fn spell(dst: &mut [u8], x: u64)
     ensures { λ _. ⌜ now (dst .exit) ≡ be (length (now (dst .entry))) x ⌝ }
@@ -76,4 +84,31 @@ pub fn modulus(n: usize) -> u64
         i += 1;
     }
     m
+}
+
+// Lays `src` into `area` from octet `from` on.
+pub fn lay(area: &mut [u8], from: usize, src: &[u8])
+    requires { ⌜ from + length (now src) ≤ length (now area) ⌝ }
+    ensures { λ _. ⌜ now (area .exit) ≡ laid (now (area .entry)) from (now (src .entry)) ⌝ }
+{
+    let end = from + src.len();
+    copy(&mut area[from..end], src);
+}
+
+// Lays `x` in n octets into `area` from octet `from` on.
+pub fn lay_number(area: &mut [u8], from: usize, n: usize, x: u64)
+    requires { ⌜ from + n ≤ length (now area) ⌝ }
+    ensures { λ _. ⌜ now (area .exit) ≡ laid (now (area .entry)) from (be n x) ⌝ }
+{
+    let end = from + n;
+    spell(&mut area[from..end], x);
+}
+
+// Lays n octets `x` into `area` from octet `from` on.
+pub fn lay_fill(area: &mut [u8], from: usize, n: usize, x: u8)
+    requires { ⌜ from + n ≤ length (now area) ⌝ }
+    ensures { λ _. ⌜ now (area .exit) ≡ laid (now (area .entry)) from (replicate n x) ⌝ }
+{
+    let end = from + n;
+    fill(&mut area[from..end], x);
 }

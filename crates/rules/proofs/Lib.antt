@@ -2,7 +2,6 @@
 pub mod Tests
 pub mod Areas
 pub mod Octets
-pub mod Fields
 pub mod Counts
 pub mod Valid
 pub mod Lanes
