@@ -108,3 +108,9 @@ laid-part area a n from xs inside room =
   where
     regroup : (p q r s t : List ℕ) → p ++ (q ++ r ++ s ++ t) ≡ (p ++ q) ++ r ++ (s ++ t)
     regroup p q r s t = simp append-assoc
+
+-- ---- after octets at the front
+
+pub laid-next : (area xs ys : List ℕ) (n : ℕ) → n ≡ length xs → length xs ≤ length area → laid (laid area 0 xs) n ys ≡ laid area 0 (xs ++ ys)
+laid-next area xs ys n e h =
+    ap (λ (k : ℕ). laid (laid area 0 xs) k ys) (e ∙ sym (zero-add (length xs))) ∙ laid-laid area 0 xs (omega arith) ys
