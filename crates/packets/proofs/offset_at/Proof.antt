@@ -1,0 +1,61 @@
+use borrow.Author.Needs.{needs}
+use Rattle.packets.proofs.offset_at.Statement.{statement}
+use Rattle.packets.proofs.offset_at.Tie as tie
+use Rattle.packets.proofs.offset_at.Reads as reads
+use Rattle.packets.proofs.offset_at.Lts as lts
+use Rattle.packets.proofs.start_from.Reads as start-from-reads
+
+-- src/lib.rt:309:17
+enum-told : tie.Need-enum-told
+enum-told c = search needs
+
+-- src/lib.rt:309:17
+start-from-requires : tie.Need-start-from-requires
+start-from-requires c κs = search needs
+
+-- src/lib.rt:311:17
+returns : tie.Need-returns
+returns c = ?
+
+-- src/lib.rt:313:13
+sub-result : tie.Need-sub-result
+sub-result c = search needs
+
+-- src/lib.rt:316:16
+enum-told-2 : tie.Need-enum-told-2
+enum-told-2 c = search needs
+
+-- src/lib.rt:317:17
+returns-2 : tie.Need-returns-2
+returns-2 c = ?
+
+-- src/lib.rt:319:13
+sub-result-2 : tie.Need-sub-result-2
+sub-result-2 c = search needs
+
+-- src/lib.rt:319:13
+sub-result-3 : tie.Need-sub-result-3
+sub-result-3 c = search needs
+
+-- src/lib.rt:304:1
+returns-3 : tie.Need-returns-3
+returns-3 c = ?
+
+-- src/lib.rt:304:1
+returns-4 : tie.Need-returns-4
+returns-4 c = ?
+
+pub offset-at-spec : {M : Type 1} → statement M
+offset-at-spec =
+    tie.close
+    (tie.spec
+    enum-told
+    start-from-requires
+    returns
+    sub-result
+    enum-told-2
+    returns-2
+    sub-result-2
+    sub-result-3
+    returns-3
+    returns-4)
