@@ -2,7 +2,7 @@
 use mathlib.Core.Path.{_≡_, refl, sym, ap, _∙_}
 use mathlib.Core.Logic.{⊎-elim}
 use Prim.Native.Nat.{ℕ, zero, suc, _+_, _-_, _≤_, _<_}
-use native.Mathlib.Nat.{not-suc-le-zero, le-refl, add-zero, add-assoc}
+use native.Mathlib.Nat.{not-suc-le-zero, le-refl, zero-add, add-zero, add-assoc, sub-zero}
 use native.Mathlib.Omega.{arith}
 use mathlib.Core.Bool.{Bool, true, false, cond, _&&_, and-false}
 use mathlib.Core.List.{List, [], _∷_, _++_}
@@ -12,12 +12,14 @@ use borrow.Author.Tests.{le-leb, lt-leb, eq-eqb, ne-eqb}
 use denote.Enum.Declared.{tagOf}
 use types.Run.{OneOf}
 use Rattle.rules.proofs.Measure as measure-type
+use Rattle.rules.specs.declared.Kind.{Kind}
+use Rattle.rules.specs.declared.Kind.the-variants.{Packets, Access}
 use Rattle.rules.specs.declared.Measure.{Measure}
 use Rattle.rules.specs.declared.Measure.the-variants.{Lacks, Packet, Idle, Unreadable}
 use Rattle.rules.specs.Tests.{_≤?_, _=?_, all}
 use Rattle.rules.specs.Areas.{joined}
 use Rattle.rules.specs.Packets.{measured, measure, whole, packetsUpTo, packets}
-use Rattle.rules.specs.Writing.{noneAbove, startFrom}
+use Rattle.rules.specs.Writing.{noneAbove, batchOk, startFrom}
 use Rattle.rules.proofs.Tests.{split, same}
 use Rattle.rules.proofs.Lanes.{measure-cases}
 
@@ -89,13 +91,34 @@ module _ (b : List ℕ) (i : ℕ) (m : Measure) (is : m ≡ measure (take (lengt
     pub more-here : n ≤ length b - i → packets (drop i b) ≡ take n (drop i b) ∷ packets (drop (i + n) b)
     more-here h = here ∙ rw (e, length-drop i b, le-leb n (length b - i) h, drop-drop n i b)
 
+-- There are no more octets in the packets than in the batch.
+upTo-inside : (n : ℕ) (xs : List ℕ) → length (joined (packetsUpTo n xs)) ≤ length xs
+unfolding packetsUpTo joined
+upTo-inside zero xs = omega arith
+upTo-inside (suc n) xs =
+    measure-cases (λ (m : Measure). length (joined (whole m xs (packetsUpTo n))) ≤ length xs) xs (λ l. omega arith)
+    (λ k h.
+    split k (length xs)
+    (λ l.
+    let q = upTo-inside n (drop k xs) in
+    let t = length-append (take k xs) (joined (packetsUpTo n (drop k xs))) in
+    let u = length-take-le k xs l in
+    let v = length-drop k xs in
+    rw (le-leb k (length xs) l) (omega (arith, q, t, u, v)))
+    (λ l. rw (lt-leb k (length xs) l) (omega arith)))
+    (λ k h. omega arith) (omega arith)
+
+pub packets-inside : (xs : List ℕ) → length (joined (packets xs)) ≤ length xs
+unfolding packets
+packets-inside xs = upTo-inside (length xs) xs
+
 -- ---- whether they are all of the octets, and none is above the longest
 
 abbrev pub stand : ℕ → List ℕ → Bool
 stand longest xs = all (length (joined (packets xs)) =? length xs ∷ noneAbove longest (packets xs) ∷ [])
 
-shifted : (n : ℕ) {a b : ℕ} (x y : ℕ) → a ≡ n + x → b ≡ n + y → a =? b ≡ x =? y
-shifted n {a} {b} x y p q =
+shifted : (n a b x y : ℕ) → a ≡ n + x → b ≡ n + y → a =? b ≡ x =? y
+shifted n a b x y p q =
     same x y (λ e. rw (eq-eqb x y e, eq-eqb a b (omega arith))) (λ e. rw (ne-eqb x y e, ne-eqb a b (λ r. e (omega arith))))
 
 module _ (longest : ℕ) (b : List ℕ) (i : ℕ) where
@@ -113,7 +136,7 @@ module _ (longest : ℕ) (b : List ℕ) (i : ℕ) where
 
     pub stand-above : longest < n → stand longest (drop i b) ≡ false
     unfolding all noneAbove
-    stand-above h = rw (e, size, lt-leb n longest h) (and-false _)
+    stand-above h = rw (e, size, lt-leb n longest h) (and-false (length (joined (take n (drop i b) ∷ packets (drop (i + n) b))) =? length (drop i b)))
 
     pub stand-more : n ≤ longest → stand longest (drop i b) ≡ stand longest (drop (i + n) b)
     unfolding all joined noneAbove
@@ -122,7 +145,7 @@ module _ (longest : ℕ) (b : List ℕ) (i : ℕ) where
         let u = length-drop i b in
         let v = length-drop (i + n) b in
         rw
-        (e, shifted n (length (joined (packets (drop (i + n) b)))) (length (drop (i + n) b)) (omega (arith, t, size)) (omega (arith, u, v)), size, le-leb n longest h)
+        (e, shifted n (length (take n (drop i b) ++ joined (packets (drop (i + n) b)))) (length (drop i b)) (length (joined (packets (drop (i + n) b)))) (length (drop (i + n) b)) (omega (arith, t, size)) (omega (arith, u, v)), size, le-leb n longest h)
 
 -- ---- where they start
 
@@ -130,6 +153,9 @@ starts-now : (ps : List (List ℕ)) → startFrom ps 0 ≡ 0
 unfolding startFrom
 starts-now [] = refl
 starts-now (p ∷ ps) = refl
+
+pub start-begin : (b : List ℕ) (n : ℕ) → startFrom (packets b) n ≡ 0 + startFrom (packets b) (n - 0)
+start-begin b n = rw (zero-add, sub-zero n)
 
 module _ (b : List ℕ) (n i : ℕ) where
   pub start-end : n ≤ i → i + startFrom (packets (drop i b)) (n - i) ≡ i
@@ -145,3 +171,21 @@ module _ (b : List ℕ) (n i : ℕ) where
   start-more h k fit e =
       let z : n - i - k ≡ n - (i + k) = omega arith in
       rw (e, ne-eqb (n - i) 0 (λ q. omega arith), length-take-le k (drop i b) (rw (length-drop i b) fit), z) (sym (add-assoc i k _))
+
+-- Their end at the latest.
+pub start-inside : (ps : List (List ℕ)) (n : ℕ) → startFrom ps n ≤ length (joined ps)
+unfolding startFrom joined
+start-inside [] n = omega arith
+start-inside (p ∷ ps) n = go (n =? 0) (start-inside ps (n - length p)) (length-append p (joined ps))
+  where
+    go : (t : Bool) → startFrom ps (n - length p) ≤ length (joined ps) → length (p ++ joined ps) ≡ length p + length (joined ps)
+        → cond t 0 (length p + startFrom ps (n - length p)) ≤ length (p ++ joined ps)
+    go true h e = omega arith
+    go false h e = omega arith
+
+-- ---- no batch is empty
+
+pub batch-empty : (k : Kind) (longest : ℕ) (b : List ℕ) → length b ≡ 0 → batchOk k longest b ≡ false
+unfolding batchOk all
+batch-empty Packets longest b e = rw (lt-leb 1 (length b) (omega arith))
+batch-empty Access longest b e = rw (lt-leb 1 (length b) (omega arith))

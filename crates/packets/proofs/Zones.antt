@@ -1,8 +1,15 @@
 -- How many zones some octets take, and where zones begin.
-use mathlib.Core.Path.{_≡_, refl, sym, _∙_}
+use mathlib.Core.Path.{_≡_, sym, ap, _∙_}
 use Prim.Native.Nat.{ℕ, zero, suc, _+_, _-_, _*_, _/_, _%_, _≤_, _<_}
-use native.Mathlib.Nat.{add-mul, one-mul, mod-lt, div-add-mod', div-lt-self, div-eq-of-lt-le}
+use native.Mathlib.Nat.{add-mul, one-mul, mul-one, mul-zero, mod-lt, div-add-mod', div-lt-self, div-eq-of-lt-le}
 use native.Mathlib.Omega.{arith}
+use mathlib.Core.List.{List}
+use lib.ListN.{length}
+use Rattle.rules.specs.declared.Kind.{Kind}
+use Rattle.rules.specs.declared.Kind.the-variants.{Packets, Access}
+use Rattle.rules.specs.Packets.{packets}
+use Rattle.rules.specs.Writing.{offsetOf}
+use Rattle.packets.proofs.Batches.{packets-inside, start-inside}
 
 module _ (z n : ℕ) (pos : 0 < z) where
   more : (k : ℕ) → (k + 1) * z ≡ k * z + z
@@ -26,3 +33,23 @@ module _ (z n : ℕ) (pos : 0 < z) where
 
   pub frames-below : (n % z ≡ 0 → ⊥) → n / z < n
   frames-below e = let a = div-add-mod' n z in let d = mod-lt n pos in div-lt-self (omega (arith, a, d, e)) (omega (arith, d, e))
+
+-- ---- the offset in a zone
+
+-- It goes by the octet at which the zone starts.
+pub offset-from : (k : Kind) (z : ℕ) (b : List ℕ) (i : ℕ) → offsetOf k 1 b (i * z) ≡ offsetOf k z b i
+unfolding offsetOf
+offset-from Packets z b i = rw (mul-one (i * z))
+offset-from Access z b i = rw (mul-one (i * z))
+
+pub offset-no-zone : (k : Kind) (b : List ℕ) (i : ℕ) → offsetOf k 1 b 0 ≡ offsetOf k 0 b i
+offset-no-zone k b i = ap (offsetOf k 1 b) (sym (mul-zero i)) ∙ offset-from k 0 b i
+
+-- It is 0 in a zone that starts past the batch.
+pub offset-past : (k : Kind) (z : ℕ) (b : List ℕ) (i : ℕ) → length b < i * z → offsetOf k z b i ≡ 0
+unfolding offsetOf
+offset-past Packets z b i h =
+    let s = start-inside (packets b) (i * z) in
+    let t = packets-inside b in
+    omega (arith, s, t)
+offset-past Access z b i h = omega arith

@@ -1,3 +1,6 @@
+use native.Mathlib.Nat.{mul-one}
+use native.Mathlib.Omega.{arith}
+use Rattle.rules.specs.Writing.{offsetOf}
 use borrow.Author.Needs.{needs}
 use Rattle.packets.proofs.offset_at.Statement.{statement}
 use Rattle.packets.proofs.offset_at.Tie as tie
@@ -15,7 +18,8 @@ start-from-requires c κs = search needs
 
 -- src/lib.rt:311:17
 returns : tie.Need-returns
-returns c = ?
+unfolding offsetOf
+returns c = rw (c .before .before .enum-told .given .1, mul-one (c .before .before .before .before .before .args .from)) (omega (arith, c .before .start-from .ensures))
 
 -- src/lib.rt:313:13
 sub-result : tie.Need-sub-result
@@ -27,7 +31,8 @@ enum-told-2 c = search needs
 
 -- src/lib.rt:317:17
 returns-2 : tie.Need-returns-2
-returns-2 c = ?
+unfolding offsetOf
+returns-2 c = rw (c .before .enum-told2 .given .1, mul-one (c .before .before .before .before .args .from)) (omega arith)
 
 -- src/lib.rt:319:13
 sub-result-2 : tie.Need-sub-result-2
@@ -39,11 +44,13 @@ sub-result-3 c = search needs
 
 -- src/lib.rt:304:1
 returns-3 : tie.Need-returns-3
-returns-3 c = ?
+unfolding offsetOf
+returns-3 c = rw (c .before .before .enum-told .given .1, mul-one (c .before .before .before .before .before .args .from)) (omega (arith, c .before .start-from .ensures))
 
 -- src/lib.rt:304:1
 returns-4 : tie.Need-returns-4
-returns-4 c = ?
+unfolding offsetOf
+returns-4 c = rw (c .before .enum-told2 .given .1, mul-one (c .before .before .before .before .args .from)) (omega arith)
 
 pub offset-at-spec : {M : Type 1} → statement M
 offset-at-spec =

@@ -1,3 +1,6 @@
+use mathlib.Core.Path.{_≡_, _∙_}
+use borrow.Author.Tests.{lt-ltb, le-ltb}
+use Rattle.rules.specs.Writing.{inside, pointerOf}
 use borrow.Author.Needs.{needs}
 use Rattle.packets.proofs.pointer_of.Statement.{statement}
 use Rattle.packets.proofs.pointer_of.Tie as tie
@@ -16,7 +19,8 @@ pointer-to-requires c κs = search needs
 
 -- src/lib.rt:343:9
 returns : tie.Need-returns
-returns c = ?
+unfolding pointerOf inside
+returns c = c .pointer-to .ensures ∙ rw (← c .before .before .offset-of .ensures, lt-ltb _ _ (c .before .if1 .taken))
 
 -- src/lib.rt:345:5
 pointer-to-requires-2 : tie.Need-pointer-to-requires-2
@@ -24,7 +28,8 @@ pointer-to-requires-2 c κs = search needs
 
 -- src/lib.rt:338:1
 returns-2 : tie.Need-returns-2
-returns-2 c = ?
+unfolding pointerOf inside
+returns-2 c = c .pointer-to2 .ensures ∙ rw (← c .before .before .offset-of .ensures, le-ltb _ _ (c .before .if1 .left))
 
 pub pointer-of-spec : {M : Type 1} → statement M
 pointer-of-spec =

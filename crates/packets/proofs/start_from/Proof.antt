@@ -2,11 +2,11 @@ use mathlib.Core.Path.{_≡_, refl, sym, _∙_}
 use Prim.Native.Nat.{_+_, _-_, _≤_}
 use lib.ListN.{length, drop}
 use native.Mathlib.Omega.{arith}
-use native.Mathlib.Nat.{zero-add}
+
 use borrow.Author.Needs.{needs}
 use Rattle.rules.specs.Packets.{packets}
 use Rattle.rules.specs.Writing.{startFrom}
-use Rattle.packets.proofs.Batches.{none-here, long-here, cut-here, more-here, start-end, start-none, start-more}
+use Rattle.packets.proofs.Batches.{none-here, long-here, cut-here, more-here, start-begin, start-end, start-none, start-more}
 use Rattle.packets.proofs.start_from.Statement.{statement}
 use Rattle.packets.proofs.start_from.Tie as tie
 use Rattle.packets.proofs.start_from.Reads as reads
@@ -21,7 +21,7 @@ abbrev μ-loop : tie.MeasureT-loop
 
 -- src/lib.rt:217:5
 loop-holds : tie.Need-loop-holds Inv-loop μ-loop
-loop-holds c = (search needs, sym (zero-add _))
+loop-holds c = (search needs, start-begin (c .before .args .batch .now) (c .before .args .n))
 
 -- src/lib.rt:218:28
 sub-measure-at : tie.Need-sub-measure-at Inv-loop μ-loop
