@@ -1,5 +1,5 @@
-// Decisions of the rules, each on numbers and lent octets alone: what a packet is, what becomes of it, whether a batch keeps its
-// rule, and the pointers of its frames. Each function is total.
+// Decisions on numbers and lent octets: what a packet is and what becomes of it, whether a batch keeps its rule, and how its frames are
+// cut. Each function is total, and gives what one definition of the rules gives.
 ghost use mathlib.Core.Path.{_≡_};
 ghost use mathlib.Core.List.{[], _∷_};
 ghost use Prim.Native.Nat.{_+_, _-_, _/_};
@@ -11,8 +11,11 @@ ghost use Rattle.rules.specs.Reading.{endFate, joinedFate, leadFate, sizedNext,
 ghost use Rattle.rules.specs.Frames.{pointerTo, pointsTo};
 ghost use Rattle.rules.specs.Writing.{noneAbove, batchOk, fill, ruleOf, startFrom, offsetOf, pointerOf};
 ghost use Rattle.rules.specs.Refusals.{ruleFits};
-
-use rules::{Fate, Kind, Measure, Next, Place};
+use rules::Fate;
+use rules::Kind;
+use rules::Measure;
+use rules::Next;
+use rules::Place;
 
 // Octet i, or 0 past the end.
 fn octet(s: &[u8], i: usize) -> u8
@@ -24,7 +27,7 @@ fn octet(s: &[u8], i: usize) -> u8
     0
 }
 
-// The packet whose octets 0, 1, 4 and 5 are these.
+// A packet's size, and whether it is idle, by its octets 0, 1, 4 and 5.
 fn sized_of(a: u8, b: u8, d: u8, e: u8) -> Measure
     ensures { λ r. ⌜ r ≡ sized a b d e ⌝ }
 {
@@ -35,7 +38,7 @@ fn sized_of(a: u8, b: u8, d: u8, e: u8) -> Measure
     Measure::Packet(size)
 }
 
-// What n octets are the front of, of which octets 0, 1, 4 and 5 are these.
+// Measures a packet of which n octets are there, by its octets 0, 1, 4 and 5.
 pub fn measured_of(n: usize, a: u8, b: u8, d: u8, e: u8) -> Measure
     ensures { λ r. ⌜ r ≡ measured n a b d e ⌝ }
 {
@@ -54,7 +57,7 @@ pub fn measured_of(n: usize, a: u8, b: u8, d: u8, e: u8) -> Measure
     Measure::Unreadable
 }
 
-// The packet that begins with the first of these octets.
+// Measures the packet that begins with the first of these octets.
 pub fn measure_at(octets: &[u8]) -> Measure
     ensures { λ r. ⌜ r ≡ measure (now (octets .entry)) ⌝ }
 {
@@ -65,7 +68,7 @@ pub fn measure_at(octets: &[u8]) -> Measure
     measured_of(octets.len(), a, b, d, e)
 }
 
-// A packet of `size` octets at the front of n: too long, whole, which gives `done`, or cut.
+// What becomes of a packet of `size` octets at the front of n: `done` where it is whole.
 fn sized_next(longest: usize, size: usize, n: usize, done: Next) -> Next
     ensures { λ r. ⌜ r ≡ sizedNext longest size n done ⌝ }
 {
@@ -90,7 +93,7 @@ pub fn next_of(longest: usize, m: Measure, n: usize) -> Next
     }
 }
 
-// A packet of `size` octets of which h and n are there: it ends with them, which gives `done`, or may go on, or fails.
+// What becomes of a packet of `size` octets of which h are held and n follow: `done` where it ends with them. It may go on where `on`.
 fn end_fate(longest: usize, on: bool, size: usize, h: usize, n: usize, done: Fate) -> Fate
     ensures { λ r. ⌜ r ≡ endFate longest on size (h + n) done ⌝ }
 {
@@ -111,7 +114,7 @@ fn end_fate(longest: usize, on: bool, size: usize, h: usize, n: usize, done: Fat
     Fate::Drop
 }
 
-// What becomes of h held octets and a lead of n, which begin with this packet.
+// What becomes of h held octets and a lead of n that follows them, measured together.
 fn joined_fate(longest: usize, on: bool, m: Measure, h: usize, n: usize) -> Fate
     ensures { λ r. ⌜ r ≡ joinedFate longest on m (h + n) ⌝ }
 {
@@ -128,7 +131,7 @@ fn joined_fate(longest: usize, on: bool, m: Measure, h: usize, n: usize) -> Fate
     }
 }
 
-// The same where nothing may be held, and the lead may be empty.
+// What becomes of a lead of n octets after h held ones, measured together, where either may be none.
 pub fn lead_fate(longest: usize, on: bool, m: Measure, h: usize, n: usize) -> Fate
     ensures { λ r. ⌜ r ≡ leadFate longest on m h n ⌝ }
 {
@@ -141,7 +144,7 @@ pub fn lead_fate(longest: usize, on: bool, m: Measure, h: usize, n: usize) -> Fa
     joined_fate(longest, on, m, h, n)
 }
 
-// What becomes of n octets of an access unit.
+// What becomes of the n octets so far of an access unit.
 pub fn unit_fate(longest: usize, finished: bool, n: usize) -> Fate
     ensures { λ r. ⌜ r ≡ unitFate longest finished n ⌝ }
 {
@@ -157,7 +160,7 @@ pub fn unit_fate(longest: usize, finished: bool, n: usize) -> Fate
     Fate::Drop
 }
 
-// What becomes of h held octets of an access unit and the n that follow them.
+// What becomes of the n octets that follow h held ones of an access unit.
 pub fn follow_fate(longest: usize, finished: bool, h: usize, n: usize) -> Fate
     ensures { λ r. ⌜ r ≡ followFate longest finished h n ⌝ }
 {
@@ -209,7 +212,7 @@ pub fn batch_ok(kind: Kind, longest: usize, batch: &[u8]) -> bool
     }
 }
 
-// The first octet from octet n on at which a packet of the batch starts, or the packets' end.
+// The first octet from octet n on at which a packet of the batch starts; where none does, the packets' end.
 pub fn start_from(batch: &[u8], n: usize) -> usize
     ensures { λ r. ⌜ r ≡ startFrom (packets (now (batch .entry))) n ⌝ }
 {
@@ -227,7 +230,7 @@ pub fn start_from(batch: &[u8], n: usize) -> usize
     i
 }
 
-// The construction rule of frame i.
+// The construction rule that frame i of a batch carries.
 pub fn rule_of(kind: Kind, i: usize) -> u8
     ensures { λ r. ⌜ r ≡ ruleOf kind i ⌝ }
 {
@@ -242,7 +245,7 @@ pub fn rule_of(kind: Kind, i: usize) -> u8
     }
 }
 
-// Whether a construction rule is one of this kind of lane.
+// Whether a construction rule is one of this kind of lane's.
 pub fn rule_fits(kind: Kind, rule: u8) -> bool
     ensures { λ r. ⌜ r ≡ ruleFits kind rule ⌝ }
 {
@@ -257,7 +260,7 @@ pub fn rule_fits(kind: Kind, rule: u8) -> bool
     }
 }
 
-// The octet that fills the rest of the last zone.
+// The octet that fills the rest of a batch's last zone.
 pub fn fill_of(kind: Kind) -> u8
     ensures { λ r. ⌜ r ≡ fill kind ⌝ }
 {
@@ -287,7 +290,7 @@ pub fn pointer_to(p: Place) -> usize
     }
 }
 
-// How many zones of z octets n octets take; none where z is 0.
+// How many frames with zones of z octets a batch of n octets takes; 0 where z is 0.
 pub fn frames_of(z: usize, n: usize) -> usize
     ensures { λ r. ⌜ r ≡ (n + (z - 1)) / z ⌝ }
 {
@@ -300,7 +303,7 @@ pub fn frames_of(z: usize, n: usize) -> usize
     n / z + 1
 }
 
-// The offset from octet `from` on, as if zones were single octets and this one had that number.
+// The offset in a zone that starts at octet `from`: it is number `from` of the zones of one octet.
 fn offset_at(kind: Kind, batch: &[u8], from: usize) -> usize
     ensures { λ r. ⌜ r ≡ offsetOf kind 1 (now (batch .entry)) from ⌝ }
 {
@@ -321,7 +324,7 @@ fn offset_at(kind: Kind, batch: &[u8], from: usize) -> usize
     }
 }
 
-// Where in the zone of frame i a packet starts first, or the unit ends; counted from the zone's first octet, wherever it falls.
+// The offset in frame i's zone at which the first packet starts or the unit ends, also where it is past the zone.
 pub fn offset_of(kind: Kind, z: usize, batch: &[u8], i: usize) -> usize
     ensures { λ r. ⌜ r ≡ offsetOf kind z (now (batch .entry)) i ⌝ }
 {
@@ -334,7 +337,7 @@ pub fn offset_of(kind: Kind, z: usize, batch: &[u8], i: usize) -> usize
     offset_at(kind, batch, i * z)
 }
 
-// The pointer of frame i.
+// The pointer that frame i carries.
 pub fn pointer_of(kind: Kind, z: usize, batch: &[u8], i: usize) -> usize
     ensures { λ r. ⌜ r ≡ pointerOf kind z (now (batch .entry)) i ⌝ }
 {

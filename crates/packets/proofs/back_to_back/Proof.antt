@@ -1,14 +1,13 @@
+-- The invariant: the whole batch stands the test just where its rest from octet i on does. A whole packet takes octets from both sides of
+-- the test; the empty rest passes it; a rest with no whole packet at its front fails it.
 use mathlib.Core.Path.{_≡_, refl, sym, _∙_}
-use Prim.Native.Nat.{_+_, _-_, _≤_}
-use lib.ListN.{length, drop}
+use Prim.Native.Nat.{_-_, _≤_}
 use native.Mathlib.Omega.{arith}
+use lib.ListN.{length, drop}
 use borrow.Author.Needs.{needs}
 use Rattle.packets.proofs.Batches.{none-here, long-here, cut-here, more-here, stand, stand-end, stand-none, stand-above, stand-more}
 use Rattle.packets.proofs.back_to_back.Statement.{statement}
 use Rattle.packets.proofs.back_to_back.Tie as tie
-use Rattle.packets.proofs.back_to_back.Reads as reads
-use Rattle.packets.proofs.back_to_back.Lts as lts
-use Rattle.packets.proofs.measure_at.Reads as measure-at-reads
 
 abbrev Inv-loop : tie.InvT-loop
 Inv-loop longest batch i₀ i = (i ≤ length batch) × (stand longest batch ≡ stand longest (drop i batch))
@@ -16,63 +15,49 @@ Inv-loop longest batch i₀ i = (i ≤ length batch) × (stand longest batch ≡
 abbrev μ-loop : tie.MeasureT-loop
 μ-loop longest batch i₀ i = length batch - i
 
--- src/lib.rt:178:5
 loop-holds : tie.Need-loop-holds Inv-loop μ-loop
 loop-holds c = (search needs, refl)
 
--- src/lib.rt:179:28
 sub-measure-at : tie.Need-sub-measure-at Inv-loop μ-loop
 sub-measure-at c = search needs
 
--- src/lib.rt:179:28
 part-measure-at-start : tie.Need-part-measure-at-start Inv-loop μ-loop
 part-measure-at-start c = search needs
 
--- src/lib.rt:179:28
 part-measure-at-end : tie.Need-part-measure-at-end Inv-loop μ-loop
 part-measure-at-end c = search needs
 
--- src/lib.rt:179:13
 measure-at-requires : tie.Need-measure-at-requires Inv-loop μ-loop
 measure-at-requires c κs = search needs
 
--- src/lib.rt:180:29
 enum-known-m : tie.Need-enum-known-m Inv-loop μ-loop
 enum-known-m c = search needs
 
--- src/lib.rt:181:13
 returns : tie.Need-returns Inv-loop μ-loop
 returns c = let b = c .before .before .before .before .before .before .args .batch .now in let i = c .before .before .before .before .loop .i in
     sym (c .before .before .before .before .loop .inv .1 ∙ stand-none _ b i (c .before .before .before .loop-test .taken) (none-here b i _ (c .before .measure-at .ensures) (c .match .keys2)))
 
--- src/lib.rt:183:12
 sub-if1 : tie.Need-sub-if1 Inv-loop μ-loop
 sub-if1 c = search needs
 
--- src/lib.rt:184:13
 returns-2 : tie.Need-returns-2 Inv-loop μ-loop
 returns-2 c = let b = c .before .before .before .before .before .before .before .before .before .args .batch .now in let i = c .before .before .before .before .before .before .before .loop .i in
     sym (c .before .before .before .before .before .before .before .loop .inv .1 ∙ stand-none _ b i (c .before .before .before .before .before .before .loop-test .taken) (cut-here b i _ (c .before .before .before .before .measure-at .ensures) _ (c .before .before .m .given .1) (c .if1 .taken)))
 
--- src/lib.rt:187:13
 returns-3 : tie.Need-returns-3 Inv-loop μ-loop
 returns-3 c = let b = c .before .before .before .before .before .before .before .before .before .before .args .batch .now in let i = c .before .before .before .before .before .before .before .before .loop .i in
     sym (c .before .before .before .before .before .before .before .before .loop .inv .1 ∙ stand-above _ b i _ (c .before .if1 .left) (more-here b i _ (c .before .before .before .before .before .measure-at .ensures) _ (c .before .before .before .m .given .1) (c .before .if1 .left)) (c .if2 .taken))
 
--- src/lib.rt:189:9
 add-i : tie.Need-add-i Inv-loop μ-loop
 add-i c = search needs
 
--- src/lib.rt:178:5
 loop-less : tie.Need-loop-less Inv-loop μ-loop
 loop-less c = let h = long-here (c .before .before .before .before .before .before .before .before .before .before .args .batch .now) (c .before .before .before .before .before .before .before .before .loop .i) _ (c .before .before .before .before .before .measure-at .ensures) _ (c .before .before .before .m .given .1) in omega arith
 
--- src/lib.rt:178:5
 loop-again : tie.Need-loop-again Inv-loop μ-loop
 loop-again c = let b = c .before .before .before .before .before .before .before .before .before .before .args .batch .now in let i = c .before .before .before .before .before .before .before .before .loop .i in
     (search needs, c .before .before .before .before .before .before .before .before .loop .inv .1 ∙ stand-more _ b i _ (c .before .if1 .left) (more-here b i _ (c .before .before .before .before .before .measure-at .ensures) _ (c .before .before .before .m .given .1) (c .before .if1 .left)) (c .if2 .left))
 
--- src/lib.rt:174:1
 returns-4 : tie.Need-returns-4 Inv-loop μ-loop
 returns-4 c = sym (c .before .loop .inv .1 ∙ stand-end _ (c .before .before .before .args .batch .now) (c .before .loop .i) (c .loop-test .left))
 

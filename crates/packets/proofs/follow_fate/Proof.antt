@@ -1,32 +1,25 @@
+-- What is left of the longest is compared with n: no sum is made that could wrap.
+use mathlib.Core.Path.{_∙_}
 use Prim.Native.Nat.{_+_}
-use Prim.Native.Nat.{_+_, _<_}
-use borrow.Author.Tests.{eq-eqb, ne-eqb, le-leb, lt-leb, lt-ltb, le-ltb}
-use mathlib.Core.Path.{_≡_, sym, _∙_}
 use native.Mathlib.Omega.{arith}
+use borrow.Author.Tests.{eq-eqb, ne-eqb}
+use borrow.Author.Needs.{needs}
 use Rattle.rules.specs.Reading.{followFate}
 use Rattle.packets.proofs.Fates.{unit-over, unit-after}
-use borrow.Author.Needs.{needs}
 use Rattle.packets.proofs.follow_fate.Statement.{statement}
 use Rattle.packets.proofs.follow_fate.Tie as tie
-use Rattle.packets.proofs.follow_fate.Reads as reads
-use Rattle.packets.proofs.follow_fate.Lts as lts
-use Rattle.packets.proofs.unit_fate.Reads as unit-fate-reads
 
--- src/lib.rt:165:9
 returns : tie.Need-returns
 unfolding followFate
 returns c = simp (eq-eqb _ _ (c .if1 .taken))
 
--- src/lib.rt:168:9
 returns-2 : tie.Need-returns-2
 unfolding followFate
 returns-2 c = let a = c .before .before .args in simp (ne-eqb _ _ (c .before .if1 .left), unit-over (a .longest) (a .finished) (a .h + a .n) (omega arith))
 
--- src/lib.rt:170:5
 unit-fate-requires : tie.Need-unit-fate-requires
 unit-fate-requires c κs = search needs
 
--- src/lib.rt:161:1
 returns-3 : tie.Need-returns-3
 unfolding followFate
 returns-3 c = c .unit-fate .ensures ∙ unit-after _ _ _ _ (c .before .if2 .left) ∙ simp (ne-eqb _ _ (c .before .before .if1 .left))

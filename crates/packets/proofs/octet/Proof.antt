@@ -1,20 +1,16 @@
-use mathlib.Core.Path.{_≡_, sym}
+-- Past the end the rules read 0 too.
+use mathlib.Core.Path.{sym}
 use lib.ListN.{List·getD-eq-default}
 use borrow.Author.Needs.{needs}
 use Rattle.packets.proofs.octet.Statement.{statement}
 use Rattle.packets.proofs.octet.Tie as tie
-use Rattle.packets.proofs.octet.Reads as reads
-use Rattle.packets.proofs.octet.Lts as lts
 
--- src/lib.rt:22:16
 shared-slice-read-result : tie.Need-shared-slice-read-result
 shared-slice-read-result c = search needs
 
--- src/lib.rt:22:9
 returns : tie.Need-returns
 returns c = search needs
 
--- src/lib.rt:18:1
 returns-2 : tie.Need-returns-2
 returns-2 c = sym (List·getD-eq-default (c .before .args .s .now) 0 {n = c .before .args .i} (c .if1 .left))
 

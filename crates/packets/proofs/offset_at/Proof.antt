@@ -1,53 +1,41 @@
+-- A difference that the rules cut off at 0 is 0 where its first number is not above its second.
 use native.Mathlib.Nat.{mul-one}
 use native.Mathlib.Omega.{arith}
-use Rattle.rules.specs.Writing.{offsetOf}
 use borrow.Author.Needs.{needs}
+use Rattle.rules.specs.Writing.{offsetOf}
 use Rattle.packets.proofs.offset_at.Statement.{statement}
 use Rattle.packets.proofs.offset_at.Tie as tie
-use Rattle.packets.proofs.offset_at.Reads as reads
-use Rattle.packets.proofs.offset_at.Lts as lts
-use Rattle.packets.proofs.start_from.Reads as start-from-reads
 
--- src/lib.rt:309:17
 enum-told : tie.Need-enum-told
 enum-told c = search needs
 
--- src/lib.rt:309:17
 start-from-requires : tie.Need-start-from-requires
 start-from-requires c κs = search needs
 
--- src/lib.rt:311:17
 returns : tie.Need-returns
 unfolding offsetOf
 returns c = rw (c .before .before .enum-told .given .1, mul-one (c .before .before .before .before .before .args .from)) (omega (arith, c .before .start-from .ensures))
 
--- src/lib.rt:313:13
 sub-result : tie.Need-sub-result
 sub-result c = search needs
 
--- src/lib.rt:316:16
 enum-told-2 : tie.Need-enum-told-2
 enum-told-2 c = search needs
 
--- src/lib.rt:317:17
 returns-2 : tie.Need-returns-2
 unfolding offsetOf
 returns-2 c = rw (c .before .enum-told2 .given .1, mul-one (c .before .before .before .before .args .from)) (omega arith)
 
--- src/lib.rt:319:13
 sub-result-2 : tie.Need-sub-result-2
 sub-result-2 c = search needs
 
--- src/lib.rt:319:13
 sub-result-3 : tie.Need-sub-result-3
 sub-result-3 c = search needs
 
--- src/lib.rt:304:1
 returns-3 : tie.Need-returns-3
 unfolding offsetOf
 returns-3 c = rw (c .before .before .enum-told .given .1, mul-one (c .before .before .before .before .before .args .from)) (omega (arith, c .before .start-from .ensures))
 
--- src/lib.rt:304:1
 returns-4 : tie.Need-returns-4
 unfolding offsetOf
 returns-4 c = rw (c .before .enum-told2 .given .1, mul-one (c .before .before .before .before .args .from)) (omega arith)

@@ -1,30 +1,24 @@
-use borrow.Author.Tests.{eq-eqb, ne-eqb, le-leb, lt-leb, lt-ltb, le-ltb}
-use Rattle.rules.specs.Refusals.{ruleFits}
+-- One case of the kind after another.
+use borrow.Author.Tests.{eq-eqb, ne-eqb}
 use borrow.Author.Needs.{needs}
+use Rattle.rules.specs.Refusals.{ruleFits}
 use Rattle.packets.proofs.rule_fits.Statement.{statement}
 use Rattle.packets.proofs.rule_fits.Tie as tie
-use Rattle.packets.proofs.rule_fits.Reads as reads
-use Rattle.packets.proofs.rule_fits.Lts as lts
 
--- src/lib.rt:250:26
 enum-told : tie.Need-enum-told
 enum-told c = search needs
 
--- src/lib.rt:252:16
 enum-told-2 : tie.Need-enum-told-2
 enum-told-2 c = search needs
 
--- src/lib.rt:253:17
 returns : tie.Need-returns
 unfolding ruleFits
 returns c = rw (c .before .enum-told2 .given .1, eq-eqb _ _ (c .if1 .taken))
 
--- src/lib.rt:246:1
 returns-2 : tie.Need-returns-2
 unfolding ruleFits
 returns-2 c = rw (c .enum-told .given .1)
 
--- src/lib.rt:246:1
 returns-3 : tie.Need-returns-3
 unfolding ruleFits
 returns-3 c = rw (c .before .enum-told2 .given .1, ne-eqb _ _ (c .if1 .left))

@@ -1,30 +1,24 @@
-use borrow.Author.Tests.{eq-eqb, ne-eqb, le-leb, lt-leb, lt-ltb, le-ltb}
-use Rattle.rules.specs.Writing.{ruleOf}
+-- One case of the kind after another.
+use borrow.Author.Tests.{eq-eqb, ne-eqb}
 use borrow.Author.Needs.{needs}
+use Rattle.rules.specs.Writing.{ruleOf}
 use Rattle.packets.proofs.rule_of.Statement.{statement}
 use Rattle.packets.proofs.rule_of.Tie as tie
-use Rattle.packets.proofs.rule_of.Reads as reads
-use Rattle.packets.proofs.rule_of.Lts as lts
 
--- src/lib.rt:235:26
 enum-told : tie.Need-enum-told
 enum-told c = search needs
 
--- src/lib.rt:237:16
 enum-told-2 : tie.Need-enum-told-2
 enum-told-2 c = search needs
 
--- src/lib.rt:238:17
 returns : tie.Need-returns
 unfolding ruleOf
 returns c = rw (c .before .enum-told2 .given .1, eq-eqb _ _ (c .if1 .taken))
 
--- src/lib.rt:231:1
 returns-2 : tie.Need-returns-2
 unfolding ruleOf
 returns-2 c = rw (c .enum-told .given .1)
 
--- src/lib.rt:231:1
 returns-3 : tie.Need-returns-3
 unfolding ruleOf
 returns-3 c = rw (c .before .enum-told2 .given .1, ne-eqb _ _ (c .if1 .left))

@@ -1,37 +1,29 @@
-use borrow.Author.Tests.{eq-eqb, ne-eqb, le-leb, lt-leb, lt-ltb, le-ltb}
-use Rattle.rules.specs.Packets.{sized}
+-- One test, that of the rule; sums of octets fit.
+use borrow.Author.Tests.{eq-eqb, ne-eqb}
 use borrow.Author.Needs.{needs}
+use Rattle.rules.specs.Packets.{sized}
 use Rattle.packets.proofs.sized_of.Statement.{statement}
 use Rattle.packets.proofs.sized_of.Tie as tie
-use Rattle.packets.proofs.sized_of.Reads as reads
-use Rattle.packets.proofs.sized_of.Lts as lts
 
--- src/lib.rt:31:21
 mul-size : tie.Need-mul-size
 mul-size c = search needs
 
--- src/lib.rt:31:21
 add-size : tie.Need-add-size
 add-size c = search needs
 
--- src/lib.rt:31:16
 add-size-2 : tie.Need-add-size-2
 add-size-2 c = search needs
 
--- src/lib.rt:32:9
 mul-if1 : tie.Need-mul-if1
 mul-if1 c = search needs
 
--- src/lib.rt:32:9
 add-if1 : tie.Need-add-if1
 add-if1 c = search needs
 
--- src/lib.rt:33:9
 returns : tie.Need-returns
 unfolding sized
 returns c = simp (eq-eqb _ _ (c .if1 .taken))
 
--- src/lib.rt:28:1
 returns-2 : tie.Need-returns-2
 unfolding sized
 returns-2 c = simp (ne-eqb _ _ (c .if1 .left))
