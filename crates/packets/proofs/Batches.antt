@@ -1,0 +1,191 @@
+-- The packets of a batch, one at a time from its first octet on: whether they are all of it, and where they start.
+use mathlib.Core.Path.{_≡_, refl, sym, ap, _∙_}
+use mathlib.Core.Logic.{⊎-elim}
+use Prim.Native.Nat.{ℕ, zero, suc, _+_, _-_, _≤_, _<_}
+use native.Mathlib.Nat.{not-suc-le-zero, le-refl, zero-add, add-zero, add-assoc, sub-zero}
+use native.Mathlib.Omega.{arith}
+use mathlib.Core.Bool.{Bool, true, false, cond, _&&_, and-false}
+use mathlib.Core.List.{List, [], _∷_, _++_}
+use lib.ListN.{length, take, drop, length-append, length-drop, drop-of-length-le}
+use lib.Seq.{length-take-le, take-all, drop-drop}
+use borrow.Author.Tests.{le-leb, lt-leb, eq-eqb, ne-eqb}
+use denote.Enum.Declared.{tagOf}
+use types.Run.{OneOf}
+use Rattle.rules.proofs.Measure as measure-type
+use Rattle.rules.specs.declared.Kind.{Kind}
+use Rattle.rules.specs.declared.Kind.the-variants.{Packets, Access}
+use Rattle.rules.specs.declared.Measure.{Measure}
+use Rattle.rules.specs.declared.Measure.the-variants.{Lacks, Packet, Idle, Unreadable}
+use Rattle.rules.specs.Tests.{_≤?_, _=?_, all}
+use Rattle.rules.specs.Areas.{joined}
+use Rattle.rules.specs.Packets.{measured, measure, whole, packetsUpTo, packets}
+use Rattle.rules.specs.Writing.{noneAbove, batchOk, startFrom}
+use Rattle.rules.proofs.Tests.{split, same}
+use Rattle.rules.proofs.Lanes.{measure-cases}
+
+-- ---- the packets' own equation: no count of packets in it
+
+whole-same : (xs : List ℕ) (f g : List ℕ → List (List ℕ)) → ((ys : List ℕ) → length ys < length xs → f ys ≡ g ys)
+    → whole (measure xs) xs f ≡ whole (measure xs) xs g
+whole-same xs f g h =
+    measure-cases (λ (m : Measure). whole m xs f ≡ whole m xs g) xs (λ l. refl)
+    (λ n k.
+    split n (length xs) (λ l. rw (le-leb n (length xs) l) (ap (λ (ps : List (List ℕ)). take n xs ∷ ps) (h (drop n xs) (rw length-drop (omega arith)))))
+    (λ l. rw (lt-leb n (length xs) l)))
+    (λ n k. refl) refl
+
+none-left : (n : ℕ) (xs : List ℕ) → length xs ≤ 0 → packetsUpTo n xs ≡ []
+unfolding packetsUpTo measure measured
+none-left zero xs h = refl
+none-left (suc n) [] h = refl
+none-left (suc n) (x ∷ xs) h = absurd (not-suc-le-zero h)
+
+enough : (n m : ℕ) (xs : List ℕ) → length xs ≤ n → length xs ≤ m → packetsUpTo n xs ≡ packetsUpTo m xs
+unfolding packetsUpTo
+enough zero m xs h k = sym (none-left m xs h)
+enough (suc n) zero xs h k = none-left (suc n) xs k
+enough (suc n) (suc m) xs h k = whole-same xs (packetsUpTo n) (packetsUpTo m) (λ ys l. enough n m ys (omega arith) (omega arith))
+
+packets-front : (xs : List ℕ) → packets xs ≡ whole (measure xs) xs packets
+unfolding packets packetsUpTo
+packets-front xs =
+    enough (length xs) (suc (length xs)) xs (le-refl _) (omega arith)
+    ∙ whole-same xs (packetsUpTo (length xs)) packets (λ ys l. enough (length xs) (length ys) ys (omega arith) (le-refl _))
+
+-- ---- the packet at the front
+
+packet-long : (xs : List ℕ) (n : ℕ) → measure xs ≡ Packet n → 7 ≤ n
+packet-long xs n =
+    measure-cases (λ (m : Measure). m ≡ Packet n → 7 ≤ n) xs (λ l e. let z : _≡_ {A = ℕ} 0 1 = cc in omega arith)
+    (λ k l e. let q : k ≡ n = cc in omega arith) (λ k l e. let z : _≡_ {A = ℕ} 0 1 = cc in omega arith)
+    (λ e. let z : _≡_ {A = ℕ} 0 1 = cc in omega arith)
+
+-- The rest of the octets from one on, as code lends it.
+rest : (b : List ℕ) (i : ℕ) → take (length b - i) (drop i b) ≡ drop i b
+rest b i = take-all (length b - i) (drop i b) (rw length-drop (omega arith))
+
+-- At octet i, where the measure of the rest is m.
+module _ (b : List ℕ) (i : ℕ) (m : Measure) (is : m ≡ measure (take (length b - i) (drop i b))) where
+  here : packets (drop i b) ≡ whole m (drop i b) packets
+  here = packets-front (drop i b) ∙ ap (λ (m : Measure). whole m (drop i b) packets) (sym (rw (rest b i) at is))
+
+  -- No packet, or an idle one.
+  pub none-here : OneOf (0 ∷ 2 ∷ 3 ∷ []) (tagOf measure-type.the-type m) → packets (drop i b) ≡ []
+  none-here o = here ∙ go m o
+    where
+      go : (m : Measure) → OneOf (0 ∷ 2 ∷ 3 ∷ []) (tagOf measure-type.the-type m) → whole m (drop i b) packets ≡ []
+      go Lacks o = refl
+      go (Packet n) o = absurd (⊎-elim (λ (e : _≡_ {A = ℕ} 1 0). omega arith) (λ p. ⊎-elim (λ (e : _≡_ {A = ℕ} 1 2). omega arith) (λ (e : _≡_ {A = ℕ} 1 3). omega arith) p) o)
+      go (Idle n) o = refl
+      go Unreadable o = refl
+
+  module _ (n : ℕ) (e : m ≡ Packet n) where
+    pub long-here : 7 ≤ n
+    long-here = packet-long (take (length b - i) (drop i b)) n (sym is ∙ e)
+
+    -- A packet that is cut.
+    pub cut-here : length b - i < n → packets (drop i b) ≡ []
+    cut-here h = here ∙ rw (e, length-drop i b, lt-leb n (length b - i) h)
+
+    -- A whole one.
+    pub more-here : n ≤ length b - i → packets (drop i b) ≡ take n (drop i b) ∷ packets (drop (i + n) b)
+    more-here h = here ∙ rw (e, length-drop i b, le-leb n (length b - i) h, drop-drop n i b)
+
+-- There are no more octets in the packets than in the batch.
+upTo-inside : (n : ℕ) (xs : List ℕ) → length (joined (packetsUpTo n xs)) ≤ length xs
+unfolding packetsUpTo joined
+upTo-inside zero xs = omega arith
+upTo-inside (suc n) xs =
+    measure-cases (λ (m : Measure). length (joined (whole m xs (packetsUpTo n))) ≤ length xs) xs (λ l. omega arith)
+    (λ k h.
+    split k (length xs)
+    (λ l.
+    let q = upTo-inside n (drop k xs) in
+    let t = length-append (take k xs) (joined (packetsUpTo n (drop k xs))) in
+    let u = length-take-le k xs l in
+    let v = length-drop k xs in
+    rw (le-leb k (length xs) l) (omega (arith, q, t, u, v)))
+    (λ l. rw (lt-leb k (length xs) l) (omega arith)))
+    (λ k h. omega arith) (omega arith)
+
+pub packets-inside : (xs : List ℕ) → length (joined (packets xs)) ≤ length xs
+unfolding packets
+packets-inside xs = upTo-inside (length xs) xs
+
+-- ---- whether they are all of the octets, and none is above the longest
+
+abbrev pub stand : ℕ → List ℕ → Bool
+stand longest xs = all (length (joined (packets xs)) =? length xs ∷ noneAbove longest (packets xs) ∷ [])
+
+shifted : (n a b x y : ℕ) → a ≡ n + x → b ≡ n + y → a =? b ≡ x =? y
+shifted n a b x y p q =
+    same x y (λ e. rw (eq-eqb x y e, eq-eqb a b (omega arith))) (λ e. rw (ne-eqb x y e, ne-eqb a b (λ r. e (omega arith))))
+
+module _ (longest : ℕ) (b : List ℕ) (i : ℕ) where
+  pub stand-end : length b ≤ i → stand longest (drop i b) ≡ true
+  unfolding all packets packetsUpTo joined noneAbove
+  stand-end h = rw (drop-of-length-le b h)
+
+  pub stand-none : i < length b → packets (drop i b) ≡ [] → stand longest (drop i b) ≡ false
+  unfolding all joined
+  stand-none h e = rw (e, length-drop i b, ne-eqb 0 (length b - i) (λ q. omega arith))
+
+  module _ (n : ℕ) (fit : n ≤ length b - i) (e : packets (drop i b) ≡ take n (drop i b) ∷ packets (drop (i + n) b)) where
+    size : length (take n (drop i b)) ≡ n
+    size = length-take-le n (drop i b) (rw (length-drop i b) fit)
+
+    pub stand-above : longest < n → stand longest (drop i b) ≡ false
+    unfolding all noneAbove
+    stand-above h = rw (e, size, lt-leb n longest h) (and-false (length (joined (take n (drop i b) ∷ packets (drop (i + n) b))) =? length (drop i b)))
+
+    pub stand-more : n ≤ longest → stand longest (drop i b) ≡ stand longest (drop (i + n) b)
+    unfolding all joined noneAbove
+    stand-more h =
+        let t = length-append (take n (drop i b)) (joined (packets (drop (i + n) b))) in
+        let u = length-drop i b in
+        let v = length-drop (i + n) b in
+        rw
+        (e, shifted n (length (take n (drop i b) ++ joined (packets (drop (i + n) b)))) (length (drop i b)) (length (joined (packets (drop (i + n) b)))) (length (drop (i + n) b)) (omega (arith, t, size)) (omega (arith, u, v)), size, le-leb n longest h)
+
+-- ---- where they start
+
+starts-now : (ps : List (List ℕ)) → startFrom ps 0 ≡ 0
+unfolding startFrom
+starts-now [] = refl
+starts-now (p ∷ ps) = refl
+
+pub start-begin : (b : List ℕ) (n : ℕ) → startFrom (packets b) n ≡ 0 + startFrom (packets b) (n - 0)
+start-begin b n = rw (zero-add, sub-zero n)
+
+module _ (b : List ℕ) (n i : ℕ) where
+  pub start-end : n ≤ i → i + startFrom (packets (drop i b)) (n - i) ≡ i
+  start-end h = let z : n - i ≡ 0 = omega arith in rw (z, starts-now (packets (drop i b))) (add-zero i)
+
+  pub start-none : packets (drop i b) ≡ [] → i + startFrom (packets (drop i b)) (n - i) ≡ i
+  unfolding startFrom
+  start-none e = rw e (add-zero i)
+
+  pub start-more : i < n → (k : ℕ) → k ≤ length b - i → packets (drop i b) ≡ take k (drop i b) ∷ packets (drop (i + k) b)
+      → i + startFrom (packets (drop i b)) (n - i) ≡ i + k + startFrom (packets (drop (i + k) b)) (n - (i + k))
+  unfolding startFrom
+  start-more h k fit e =
+      let z : n - i - k ≡ n - (i + k) = omega arith in
+      rw (e, ne-eqb (n - i) 0 (λ q. omega arith), length-take-le k (drop i b) (rw (length-drop i b) fit), z) (sym (add-assoc i k _))
+
+-- Their end at the latest.
+pub start-inside : (ps : List (List ℕ)) (n : ℕ) → startFrom ps n ≤ length (joined ps)
+unfolding startFrom joined
+start-inside [] n = omega arith
+start-inside (p ∷ ps) n = go (n =? 0) (start-inside ps (n - length p)) (length-append p (joined ps))
+  where
+    go : (t : Bool) → startFrom ps (n - length p) ≤ length (joined ps) → length (p ++ joined ps) ≡ length p + length (joined ps)
+        → cond t 0 (length p + startFrom ps (n - length p)) ≤ length (p ++ joined ps)
+    go true h e = omega arith
+    go false h e = omega arith
+
+-- ---- no batch is empty
+
+pub batch-empty : (k : Kind) (longest : ℕ) (b : List ℕ) → length b ≡ 0 → batchOk k longest b ≡ false
+unfolding batchOk all
+batch-empty Packets longest b e = rw (lt-leb 1 (length b) (omega arith))
+batch-empty Access longest b e = rw (lt-leb 1 (length b) (omega arith))
