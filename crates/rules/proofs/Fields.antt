@@ -12,7 +12,7 @@ use Rattle.rules.specs.declared.Lane.{Lane}
 use Rattle.rules.specs.declared.Setting.{Setting}
 use Rattle.rules.specs.Octets.{be, num, field, widths, packed, bits, flag}
 use Rattle.rules.proofs.Octets.{flag-small}
-use Rattle.rules.specs.Frames.{header, dataHeader, version, craft, bit, vc, map, ending, size, bypass, command, spare, ocfFlag, countLength}
+use Rattle.rules.specs.Frames.{header, dataHeader, version, craft, sourceBit, vc, map, endOfHeader, lengthField, bypass, command, spare, ocfFlag, countLength}
 
 -- ---- reading
 
@@ -43,11 +43,11 @@ seven (a ∷ b ∷ c ∷ d ∷ e ∷ g ∷ i ∷ f) h = omega arith
 pub record ByOctets (f : List ℕ) : Type 0 where
   pub version : version f ≡ getD f 0 0 / 16
   pub craft : craft f ≡ getD f 0 0 % 16 * 4096 + getD f 1 0 * 16 + getD f 2 0 / 16
-  pub bit : bit f ≡ getD f 2 0 / 8 % 2
+  pub sourceBit : sourceBit f ≡ getD f 2 0 / 8 % 2
   pub vc : vc f ≡ getD f 2 0 % 8 * 8 + getD f 3 0 / 32
   pub map : map f ≡ getD f 3 0 / 2 % 16
-  pub ending : ending f ≡ getD f 3 0 % 2
-  pub size : size f ≡ getD f 4 0 * 256 + getD f 5 0
+  pub endOfHeader : endOfHeader f ≡ getD f 3 0 % 2
+  pub lengthField : lengthField f ≡ getD f 4 0 * 256 + getD f 5 0
   pub bypass : bypass f ≡ getD f 6 0 / 128
   pub command : command f ≡ getD f 6 0 / 64 % 2
   pub spare : spare f ≡ getD f 6 0 / 16 % 4
@@ -68,11 +68,11 @@ by-octets f h o =
     record {
       version = rw n (omega arith);
       craft = rw n (omega arith);
-      bit = rw n (omega arith);
+      sourceBit = rw n (omega arith);
       vc = rw n (omega arith);
       map = rw n (omega arith);
-      ending = rw n (omega arith);
-      size = rw n (omega arith);
+      endOfHeader = rw n (omega arith);
+      lengthField = rw n (omega arith);
       bypass = rw n (omega arith);
       command = rw n (omega arith);
       spare = rw n (omega arith);

@@ -15,7 +15,7 @@ use Rattle.rules.specs.declared.Verdict.the-variants.{Refused, Idle, Cou
 use Rattle.rules.specs.Tests.{_<?_, _=?_, _≠?_, first, none, at, Refusal, refuse, given}
 use Rattle.rules.specs.Octets.{num, bits, flag}
 use Rattle.rules.specs.Settings.{channel, lane, channelOf, zone}
-use Rattle.rules.specs.Frames.{version, craft, bit, vc, map, ending, size, bypass, command, spare, ocfFlag, countLength, ruleIn, upidIn, pointerIn, checkHolds, pointsTo}
+use Rattle.rules.specs.Frames.{version, craft, sourceBit, vc, map, endOfHeader, lengthField, bypass, command, spare, ocfFlag, countLength, ruleIn, upidIn, pointerIn, checkHolds, pointsTo}
 use Rattle.rules.specs.Refusals.{channelAt, laneAt, ruleFits, dataWrong, refusalsAt, refusals, onChannel, passed, judged, judge}
 use Rattle.rules.proofs.Tests.{and-left, and-right, or-none, Found, first-found, given-skip, given-none, given-zero}
 
@@ -25,9 +25,9 @@ pub record Clear (s : Setting) (f : List ℕ) (p : Place) : Type 0 where
   pub row₃ : length f ≠? s .length ≡ false
   pub row₄ : not (checkHolds s f) ≡ false
   pub row₅ : version f ≠? 0b1100 ≡ false
-  pub row₆ : (craft f ≠? s .craft || bit f ≠? s .bit) ≡ false
-  pub row₇ : ending f =? 1 ≡ false
-  pub row₈ : (size f ≠? (s .length - 1) || spare f ≠? 0b00 || (command f =? 1 && bypass f =? 0)) ≡ false
+  pub row₆ : (craft f ≠? s .craft || sourceBit f ≠? s .bit) ≡ false
+  pub row₇ : endOfHeader f =? 1 ≡ false
+  pub row₈ : (lengthField f ≠? (s .length - 1) || spare f ≠? 0b00 || (command f =? 1 && bypass f =? 0)) ≡ false
   pub row₉ : (vc f ≠? 63 && none p) ≡ false
   pub row₁₀ : at p (λ (c : ℕ). countLength f ≠? (channel s c) .octets) ≡ false
   pub row₁₁ : at p (λ (c : ℕ). ocfFlag f ≠? flag ((channel s c) .ocf)) ≡ false

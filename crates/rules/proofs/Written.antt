@@ -22,7 +22,7 @@ use Rattle.rules.specs.Tests.{_<?_, _=?_, _≠?_, none, at, given}
 use Rattle.rules.specs.Octets.{be, num, Field, field, widths, packed, bits, flag, checkOf}
 use Rattle.rules.specs.Areas.{laid}
 use Rattle.rules.specs.Settings.{channel, lane, channelOf, count, number, zone, ocfOctets, checkOctets, settingOk}
-use Rattle.rules.specs.Frames.{header, primary, dataHeader, body, checked, version, craft, bit, vc, map, ending, size, bypass, command, spare, ocfFlag, countLength, countIn, dataField, ruleIn, upidIn, pointerIn, zoneIn, checkHolds, pointerTo, pointsTo}
+use Rattle.rules.specs.Frames.{header, primary, dataHeader, body, checked, version, craft, sourceBit, vc, map, endOfHeader, lengthField, bypass, command, spare, ocfFlag, countLength, countIn, dataField, ruleIn, upidIn, pointerIn, zoneIn, checkHolds, pointerTo, pointsTo}
 use Rattle.rules.specs.Writing.{piece, fill, zoneOf, ruleOf, offsetOf, inside, pointerOf, frameOf}
 use Rattle.rules.specs.Refusals.{channelAt, laneAt, ruleFits, dataWrong, refusalsAt, refusals, onChannel, passed, judged, judge}
 use Rattle.rules.specs.Calls.{writeRefusals, written, write}
@@ -190,7 +190,7 @@ module _ (s : Setting) (g : Good s) (l : ℕ) (lh : l < s .numbered) (k : ℕ) (
   unfolding header widths
   is-craft = header-field 1 (omega arith)
 
-  pub is-bit : bit whole ≡ s .bit
+  pub is-bit : sourceBit whole ≡ s .bit
   unfolding header widths
   is-bit = header-field 2 (omega arith)
 
@@ -202,11 +202,11 @@ module _ (s : Setting) (g : Good s) (l : ℕ) (lh : l < s .numbered) (k : ℕ) (
   unfolding header widths
   is-map = header-field 4 (omega arith)
 
-  pub is-ending : ending whole ≡ 0
+  pub is-ending : endOfHeader whole ≡ 0
   unfolding header widths
   is-ending = header-field 5 (omega arith)
 
-  pub is-size : size whole ≡ s .length - 1
+  pub is-size : lengthField whole ≡ s .length - 1
   unfolding header widths
   is-size = header-field 6 (omega arith)
 

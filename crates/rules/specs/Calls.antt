@@ -56,11 +56,17 @@ pub record Sent : Type 0 where
 -- "Writer 1, 2, 13 to 16."
 unfoldable pub writeRefusals : Writer → ℕ → List ℕ → List ℕ → List ℕ → List ℕ → List Refusal
 writeRefusals w l batch insert ocf area =
+    -- "setting or state not valid"
     refuse 1 (not (writerOk w))
+    -- "an area is too short (...; frame area: below F)"
     ∷ refuse 2 (length area <? w .setting .length)
+    -- "no such lane"
     ∷ refuse 13 (w .setting .numbered ≤? l)
+    -- "batch breaks its rule"
     ∷ refuse 14 (not (batchOk ((lane (w .setting) l) .kind) ((lane (w .setting) l) .longest) batch))
+    -- "insert octets not I, or OCF octets not 4 (0 without OCF)"
     ∷ refuse 15 (length insert ≠? w .setting .insert || length ocf ≠? ocfOctets (channelOf (w .setting) l))
+    -- "lane's next frame number is not below the batch's frame count"
     ∷ refuse 16 (frames (zone (w .setting) (channelOf (w .setting) l)) batch ≤? number w l)
     ∷ []
 
@@ -76,7 +82,7 @@ written w l batch insert ocf area (suc n) = record { sender = record { outcome =
 unfoldable pub write : Writer → ℕ → List ℕ → List ℕ → List ℕ → List ℕ → Sent
 write w l batch insert ocf area = written w l batch insert ocf area (given (writeRefusals w l batch insert ocf area))
 
--- ---- read: "Areas lent: held octets, 65,536; units, at least 12,288; records, at least 9,600."
+-- ---- read: "Areas lent: held octets, 65,536, ...; units, at least 12,288; records, at least 9,600."
 
 -- What a read hands back, and the three areas after it.
 pub record Got : Type 0 where
@@ -85,6 +91,7 @@ pub record Got : Type 0 where
   pub unitArea : List ℕ
   pub recordArea : List ℕ
 
+-- "An area is too short (held area: not 65,536; ...)."
 unfoldable pub areasShort : List ℕ → List ℕ → List ℕ → Bool
 areasShort h u c = length h ≠? 65536 || length u <? 12288 || length c <? 9600
 
@@ -120,17 +127,17 @@ laidOut g l k m h u c =
       recordArea = laid c 0 (recordsFrom (infoOf (g .state .setting) l k) 0 (m .units));
     }
 
--- What lane l makes of a frame of its channel c, after a gap.
+-- What lane l makes of a frame of its channel, after a gap.
 unfoldable pub madeBy : Gap → ℕ → Channel → List ℕ → List ℕ → Made
-madeBy g l c f h =
-    laneStep ((lane (g .state .setting) l) .kind) ((lane (g .state .setting) l) .longest) (ruleIn (g .state .setting) c f)
+madeBy g l ch f h =
+    laneStep ((lane (g .state .setting) l) .kind) ((lane (g .state .setting) l) .longest) (ruleIn (g .state .setting) ch f)
     (take (heldBy (g .state) l) (part l h))
-    (pointsTo (pointerIn (g .state .setting) c f)) (zoneIn (g .state .setting) c f)
+    (pointsTo (pointerIn (g .state .setting) ch f)) (zoneIn (g .state .setting) ch f)
 
 unfoldable pub readOn : Gap → ℕ → Channel → List ℕ → List ℕ → List ℕ → List ℕ → Got
-readOn g l c f h u r = laidOut g l (countIn c f) (madeBy g l c f h) h u r
+readOn g l ch f h u c = laidOut g l (countIn ch f) (madeBy g l ch f h) h u c
 
--- "Each returns its number and zero counts; states and areas stay unchanged." "Idle: the state stays and all counts are 0."
+-- "Each returns its number and zero counts; states and areas stay unchanged." "Idle: ...; the state stays and all counts are 0."
 unfoldable pub onVerdict : Verdict → Reader → List ℕ → List ℕ → List ℕ → List ℕ → Got
 onVerdict (Verdict.Refused n) r f h u c =
     record { taken = record { answer = bare (Class.Refused n); state = r }; heldArea = h; unitArea = u; recordArea = c }

@@ -6,14 +6,18 @@ use mathlib.Core.List.{List, [], _∷_, _++_}
 use lib.ListN.{length, getD, take, drop, set, replicate}
 use Rattle.rules.specs.declared.Kind.the-variants.{Packets, Access}
 use Rattle.rules.specs.declared.Setting.{Setting}
+use Rattle.rules.specs.declared.Reader.{Reader}
+use Rattle.rules.specs.declared.Writer.{Writer}
+use Rattle.rules.specs.declared.Class.{Class}
 use Rattle.rules.specs.declared.Place.{Place}
 use Rattle.rules.specs.declared.Place.the-variants.{At, Nowhere}
 use Rattle.rules.specs.Tests.{given}
-use Rattle.rules.specs.Settings.{noChannel, noLane}
+use Rattle.rules.specs.Octets.{checkOf}
+use Rattle.rules.specs.Settings.{noChannel, noLane, noReader, noWriter, freshReader}
 use Rattle.rules.specs.Reading.{Made, laneStep}
 use Rattle.rules.specs.Refusals.{refusals}
-use Rattle.rules.specs.Calls.{classRefusal, Got}
-use Rattle.rules.specs.Worked.{Case, case, each, numbers, packet₀, packet₁, frame₀, frame₁, recounted, packetOf, reads}
+use Rattle.rules.specs.Calls.{refusalOf, classRefusal, Sent, write, Got, read}
+use Rattle.rules.specs.Worked.{worked, packetLane, Case, case, each, numbers, packet₀, packet₁, frame₀, frame₁, recounted, packetOf, reads}
 
 -- ---- a setting of two channels and three lanes, all zones of 21 octets
 
@@ -75,9 +79,16 @@ data21 = replicate 21 0x77
 
 -- ---- what a row shows
 
--- Refusal, units, unit octets, missing, idle, fill and dropped of a read.
+-- A class by a number: a refusal's own, and one of three above them.
+abbrev pub classShown : Class → ℕ
+classShown Class.Idle = 101
+classShown Class.Counted = 102
+classShown Class.Read = 103
+classShown (Class.Refused n) = n
+
+-- Class, units, unit octets, missing, idle, fill and dropped of a read.
 abbrev pub answer : Got → List ℕ
-answer o = classRefusal (o .taken .answer .class) ∷ numbers o
+answer o = classShown (o .taken .answer .class) ∷ numbers o
 
 -- The units that a lane hands out, what it then holds, and the idle, fill and dropped octets.
 unfoldable pub shown : Made → List (List ℕ)
@@ -102,15 +113,15 @@ errors =
     -- "Watching for loss per map: a lost frame of the neighbor's map passes unseen." Count 1, with the packet's middle, is gone, and a
     -- frame of map 6 comes next.
     case 1 (each answer (reads paired (frame₀ ∷ packetFrame 6 2 0 fill21 ∷ recounted 3 frame₁ ∷ [])))
-    ((0 ∷ 1 ∷ 10 ∷ 0 ∷ 0 ∷ 0 ∷ 0 ∷ []) ∷ (0 ∷ 0 ∷ 0 ∷ 1 ∷ 21 ∷ 0 ∷ 11 ∷ []) ∷ (0 ∷ 0 ∷ 0 ∷ 0 ∷ 14 ∷ 0 ∷ 7 ∷ []) ∷ [])
+    ((103 ∷ 1 ∷ 10 ∷ 0 ∷ 0 ∷ 0 ∷ 0 ∷ []) ∷ (103 ∷ 0 ∷ 0 ∷ 1 ∷ 21 ∷ 0 ∷ 11 ∷ []) ∷ (103 ∷ 0 ∷ 0 ∷ 0 ∷ 14 ∷ 0 ∷ 7 ∷ []) ∷ [])
     -- "Refusing a frame of an unlisted map: its count is then missed and good packets are dropped."
     ∷ case 2 (each answer (reads paired (frame₀ ∷ packetFrame 7 1 0 fill21 ∷ recounted 2 frame₁ ∷ [])))
-    ((0 ∷ 1 ∷ 10 ∷ 0 ∷ 0 ∷ 0 ∷ 0 ∷ []) ∷ (0 ∷ 0 ∷ 0 ∷ 0 ∷ 0 ∷ 0 ∷ 0 ∷ []) ∷ (0 ∷ 1 ∷ 18 ∷ 0 ∷ 14 ∷ 0 ∷ 0 ∷ []) ∷ [])
+    ((103 ∷ 1 ∷ 10 ∷ 0 ∷ 0 ∷ 0 ∷ 0 ∷ []) ∷ (102 ∷ 0 ∷ 0 ∷ 0 ∷ 0 ∷ 0 ∷ 0 ∷ []) ∷ (103 ∷ 1 ∷ 18 ∷ 0 ∷ 14 ∷ 0 ∷ 0 ∷ []) ∷ [])
     -- "Taking FFFF as 'the packet ended here'." 21 of 60 octets are held.
     ∷ case 3 (ofPackets (take 21 (packetOf 60)) Nowhere data21) (take 42 (packetOf 60) ∷ (0 ∷ 0 ∷ 0 ∷ []) ∷ [])
     -- "One counter for both services of a virtual channel."
     ∷ case 4 (each answer (reads paired (frame₀ ∷ accessFrame 0 1 20 data21 ∷ frame₁ ∷ [])))
-    ((0 ∷ 1 ∷ 10 ∷ 0 ∷ 0 ∷ 0 ∷ 0 ∷ []) ∷ (0 ∷ 1 ∷ 21 ∷ 0 ∷ 0 ∷ 0 ∷ 0 ∷ []) ∷ (0 ∷ 1 ∷ 18 ∷ 0 ∷ 14 ∷ 0 ∷ 0 ∷ []) ∷ [])
+    ((103 ∷ 1 ∷ 10 ∷ 0 ∷ 0 ∷ 0 ∷ 0 ∷ []) ∷ (103 ∷ 1 ∷ 21 ∷ 0 ∷ 0 ∷ 0 ∷ 0 ∷ []) ∷ (103 ∷ 1 ∷ 18 ∷ 0 ∷ 14 ∷ 0 ∷ 0 ∷ []) ∷ [])
     -- "Believing the held packet's length against the pointer and reading on from a false start." Of 18 octets 11 are held, and the
     -- pointer is 9.
     ∷ case 5 (ofPackets (take 11 packet₁) (At 9) (drop 11 packet₁ ++ replicate 14 0xE0)) ([] ∷ (12 ∷ 0 ∷ 20 ∷ []) ∷ []) ∷ []
@@ -146,8 +157,8 @@ edges =
     ([] ∷ (0 ∷ 16 ∷ 5 ∷ []) ∷ data21 ∷ [] ∷ (0 ∷ 0 ∷ 21 ∷ []) ∷ replicate 42 0x77 ∷ [] ∷ (0 ∷ 0 ∷ 0 ∷ []) ∷ [] ∷ (0 ∷ 0 ∷ 42 ∷ []) ∷ [] ∷ (0 ∷ 0 ∷ 43 ∷ []) ∷ [])
     -- A command frame after a gap is counted, and its channel's lane drops what it holds; an idle frame changes nothing.
     ∷ case 11 (each answer (reads paired (accessFrame 0 1 0xFFFF data21 ∷ forged (2 ∷ 3 ∷ []) (0xA7 ∷ 0xE0 ∷ []) frame₀ ∷ forged (6 ∷ []) (0xC1 ∷ []) (accessFrame 3 2 20 data21) ∷ [])))
-    ((0 ∷ 0 ∷ 0 ∷ 0 ∷ 0 ∷ 0 ∷ 0 ∷ []) ∷ (0 ∷ 0 ∷ 0 ∷ 0 ∷ 0 ∷ 0 ∷ 0 ∷ []) ∷ (0 ∷ 0 ∷ 0 ∷ 2 ∷ 0 ∷ 0 ∷ 21 ∷ []) ∷ [])
-    -- Each refusal beside the next: frames with both faults, 3 and 4, 4 and 5, then 5 and 6 on to 11 and 12.
+    ((103 ∷ 0 ∷ 0 ∷ 0 ∷ 0 ∷ 0 ∷ 0 ∷ []) ∷ (101 ∷ 0 ∷ 0 ∷ 0 ∷ 0 ∷ 0 ∷ 0 ∷ []) ∷ (102 ∷ 0 ∷ 0 ∷ 2 ∷ 0 ∷ 0 ∷ 21 ∷ []) ∷ [])
+    -- Each refusal beside the next: frames with both faults, 3 and 4, 4 and 5, then 5 and 6 on to 11 and 12 (9 with another count length).
     ∷ case 12
     (refused sealed (take 31 frame₀ ∷ forged (0 ∷ []) (0xD0 ∷ []) frame₀ ∷ [])
     ∷ refused paired
@@ -163,3 +174,94 @@ edges =
     ∷ forged (8 ∷ []) (0x20 ∷ []) frame₀ ∷ forged (3 ∷ 8 ∷ []) (0x6E ∷ 0xFF ∷ []) frame₀ ∷ [])
     ∷ [])
     ((0 ∷ 12 ∷ 0 ∷ 12 ∷ 12 ∷ 0 ∷ []) ∷ []) ∷ []
+
+-- ---- edges of the frame and of the calls
+
+-- A setting that has everything: F 48, spacecraft ABCD, bit 1, I 3, a check; virtual channel 45, service 1, n 3, OCF; map 9, an access
+-- lane with UPID 21. Z is 48 - 7 - 3 - 3 - 3 - 4 - 2 = 26.
+unfoldable pub laden : Setting
+laden =
+    record {
+      length = 48;
+      craft = 0xABCD;
+      bit = 1;
+      insert = 3;
+      check = true;
+      listed = 1;
+      channels = record { vc = 45; service = 1; octets = 3; ocf = true } ∷ replicate 7 noChannel;
+      numbered = 1;
+      lanes = record { channel = 0; map = 9; kind = Access; longest = 100; upid = 21 } ∷ replicate 7 noLane;
+    }
+
+-- Its writer before the count wraps around.
+unfoldable pub ladenWriter : Writer
+ladenWriter = record { setting = laden; counts = set (replicate 8 0) 0 0xFFFFFF; next = replicate 8 0 }
+
+-- The numbers from n on, k of them.
+unfoldable pub counting : ℕ → ℕ → List ℕ
+counting n zero = []
+counting n (suc k) = n ∷ counting (suc n) k
+
+unfoldable pub ladenSends : ℕ → Writer → List (List ℕ)
+ladenSends zero w = []
+ladenSends (suc n) w =
+    let o : Sent = write w 0 (counting 1 30) (0xA1 ∷ 0xA2 ∷ 0xA3 ∷ []) (0xF1 ∷ 0xF2 ∷ 0xF3 ∷ 0xF4 ∷ []) (replicate 49 0x55) in
+    o .area ∷ ladenSends n (o .sender .state)
+
+-- Both frames of thirty octets. The first seven octets, bit by bit: 1100 1010101111001101 1 101101 1001 0, then 47, then 1 0 00 1 011. The
+-- check is that of another program.
+abbrev pub ladenFrame₀ : List ℕ
+ladenFrame₀ =
+    (0xCA ∷ 0xBC ∷ 0xDD ∷ 0xB2 ∷ 0x00 ∷ 0x2F ∷ 0x8B ∷ 0xFF ∷ 0xFF ∷ 0xFF ∷ 0xA1 ∷ 0xA2 ∷ 0xA3 ∷ 0x35 ∷ 0xFF ∷ 0xFF ∷ [])
+    ++ counting 1 26 ++ (0xF1 ∷ 0xF2 ∷ 0xF3 ∷ 0xF4 ∷ 0xDE ∷ 0x0D ∷ [])
+
+abbrev pub ladenFrame₁ : List ℕ
+ladenFrame₁ =
+    (0xCA ∷ 0xBC ∷ 0xDD ∷ 0xB2 ∷ 0x00 ∷ 0x2F ∷ 0x8B ∷ 0x00 ∷ 0x00 ∷ 0x00 ∷ 0xA1 ∷ 0xA2 ∷ 0xA3 ∷ 0x55 ∷ 0x00 ∷ 0x03 ∷ [])
+    ++ counting 27 4 ++ replicate 22 0x00 ++ (0xF1 ∷ 0xF2 ∷ 0xF3 ∷ 0xF4 ∷ 0x8A ∷ 0x8C ∷ [])
+
+-- The number that a write of the worked setting is refused by: state, lane, batch, insert octets, octets of the area.
+abbrev pub writeRefusal : Writer → ℕ → List ℕ → List ℕ → ℕ → ℕ
+writeRefusal w l b insert n = refusalOf ((write w l b insert [] (replicate n 0)) .sender .outcome)
+
+abbrev pub workedWriter : ℕ → Writer
+workedWriter i = record { setting = worked packetLane; counts = replicate 8 0; next = set (replicate 8 0) 0 i }
+
+-- The number that a read of frame 0 less an octet is refused by: state, octets of the three areas.
+abbrev pub readRefusal : Reader → ℕ → ℕ → ℕ → ℕ
+readRefusal r h u c = classRefusal ((read r (take 31 frame₀) (replicate h 0) (replicate u 0) (replicate c 0)) .taken .answer .class)
+
+-- Octets of a read's held area and unit area, and one more of each.
+abbrev pub areas : Got → List ℕ
+areas o = take 12 (o .heldArea) ++ take 11 (o .unitArea)
+
+unfoldable pub wholes : List Case
+wholes =
+    -- Published values of the frame check: the catalogue's check value of "123456789", and those of ECSS-E-70-41A.
+    case 1
+    ((checkOf (counting 0x31 9) ∷ checkOf (0 ∷ 0 ∷ []) ∷ checkOf (0 ∷ 0 ∷ 0 ∷ []) ∷ checkOf (0xAB ∷ 0xCD ∷ 0xEF ∷ 0x01 ∷ [])
+    ∷ checkOf (0x14 ∷ 0x56 ∷ 0xF8 ∷ 0x9A ∷ 0x00 ∷ 0x01 ∷ []) ∷ [])
+    ∷ [])
+    ((0x29B1 ∷ 0x1D0F ∷ 0xCC9C ∷ 0x04A2 ∷ 0x7FD5 ∷ []) ∷ [])
+    -- Frames with everything, and an octet of the area behind them; a frame check that holds, and one that does not.
+    ∷ case 2 (ladenSends 2 ladenWriter ++ (refused laden (ladenFrame₀ ∷ ladenFrame₁ ∷ set ladenFrame₀ 47 0x0C ∷ []) ∷ []))
+    ((ladenFrame₀ ++ 0x55 ∷ []) ∷ (ladenFrame₁ ++ 0x55 ∷ []) ∷ (0 ∷ 0 ∷ 4 ∷ []) ∷ [])
+    -- Both are read as one unit of thirty octets.
+    ∷ case 3 (each answer (reads laden (ladenFrame₀ ∷ ladenFrame₁ ∷ []))) ((103 ∷ 0 ∷ 0 ∷ 0 ∷ 0 ∷ 0 ∷ 0 ∷ []) ∷ (103 ∷ 1 ∷ 30 ∷ 0 ∷ 0 ∷ 22 ∷ 0 ∷ []) ∷ [])
+    -- Each refusal of a write beside the next: 1 and 2, 2 and 13, 13 and 14, 14 and 15, 15 and 16, 16, none.
+    ∷ case 4
+    ((writeRefusal noWriter 0 packet₀ [] 0 ∷ writeRefusal (workedWriter 0) 1 packet₀ [] 31 ∷ writeRefusal (workedWriter 0) 1 [] [] 32
+    ∷ writeRefusal (workedWriter 0) 0 [] (0 ∷ []) 32 ∷ writeRefusal (workedWriter 1) 0 packet₀ (0 ∷ []) 32
+    ∷ writeRefusal (workedWriter 1) 0 packet₀ [] 32 ∷ writeRefusal (workedWriter 0) 0 packet₀ [] 32 ∷ [])
+    ∷ [])
+    ((1 ∷ 2 ∷ 13 ∷ 14 ∷ 15 ∷ 16 ∷ 0 ∷ []) ∷ [])
+    -- A read's 1, then 2 and 3 for each area, then 3.
+    ∷ case 5
+    ((readRefusal noReader 0 0 0 ∷ readRefusal (freshReader (worked packetLane)) 65535 12288 9600
+    ∷ readRefusal (freshReader (worked packetLane)) 65536 12287 9600 ∷ readRefusal (freshReader (worked packetLane)) 65536 12288 9599
+    ∷ readRefusal (freshReader (worked packetLane)) 65536 12288 9600 ∷ [])
+    ∷ [])
+    ((1 ∷ 2 ∷ 2 ∷ 2 ∷ 3 ∷ []) ∷ [])
+    -- The areas after frame 0, and after a gap has dropped what was held: its octets stay where they were.
+    ∷ case 6 (each areas (reads (worked packetLane) (frame₀ ∷ recounted 5 frame₁ ∷ [])))
+    ((take 11 packet₁ ++ (0x55 ∷ []) ++ packet₀ ++ (0x55 ∷ [])) ∷ (take 11 packet₁ ++ (0x55 ∷ []) ++ packet₀ ++ (0x55 ∷ [])) ∷ []) ∷ []

@@ -57,8 +57,8 @@ version f = bits 7 0 4 f
 abbrev pub craft : List ℕ → ℕ
 craft f = bits 7 4 16 f
 
-abbrev pub bit : List ℕ → ℕ
-bit f = bits 7 20 1 f
+abbrev pub sourceBit : List ℕ → ℕ
+sourceBit f = bits 7 20 1 f
 
 abbrev pub vc : List ℕ → ℕ
 vc f = bits 7 21 6 f
@@ -66,11 +66,11 @@ vc f = bits 7 21 6 f
 abbrev pub map : List ℕ → ℕ
 map f = bits 7 27 4 f
 
-abbrev pub ending : List ℕ → ℕ
-ending f = bits 7 31 1 f
+abbrev pub endOfHeader : List ℕ → ℕ
+endOfHeader f = bits 7 31 1 f
 
-abbrev pub size : List ℕ → ℕ
-size f = bits 7 32 16 f
+abbrev pub lengthField : List ℕ → ℕ
+lengthField f = bits 7 32 16 f
 
 abbrev pub bypass : List ℕ → ℕ
 bypass f = bits 7 48 1 f

@@ -1,5 +1,6 @@
--- Document 01, "The exact rules and the build", as definitions: a module a section, in the paper's order and words.
--- Each definition carries the sentence that it says.
+-- Document 01, "The exact rules and the build", as definitions, in the paper's words. Three modules of common words (tests, octets,
+-- areas), then the paper's sections in its order; the classes of a frame stand with the refusals, and the calls as wholes after them.
+-- A definition carries the sentence that it says.
 pub mod Tests
 pub mod Octets
 pub mod Areas
@@ -10,6 +11,6 @@ pub mod Writing
 pub mod Reading
 pub mod Refusals
 pub mod Calls
-pub mod Listing
 pub mod Worked
+pub mod Listing
 pub mod Errors

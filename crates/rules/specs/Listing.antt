@@ -5,13 +5,13 @@ use Prim.Native.Char.{Char, code}
 use mathlib.Core.Bool.{Bool, true, false, cond}
 use mathlib.Core.List.{List, [], _∷_, _++_}
 use lib.ListN.{length, take, drop, replicate}
-use Rattle.rules.specs.declared.Setting.{Setting}
 use Rattle.rules.specs.declared.Reader.{Reader}
 use Rattle.rules.specs.declared.Class.{Class}
 use Rattle.rules.specs.declared.Class.the-variants.{Idle, Counted, Read, Refused}
 use Rattle.rules.specs.declared.Answer.{Answer}
 use Rattle.rules.specs.Tests.{_<?_, _=?_}
 use Rattle.rules.specs.Calls.{setUpReader, Got, read}
+use Rattle.rules.specs.Worked.{worked, packetLane}
 
 -- ---- text
 
@@ -25,7 +25,7 @@ unfoldable pub digits : ℕ → ℕ → List ℕ
 digits zero v = []
 digits (suc n) v = cond (v <? 10) ((48 + v) ∷ []) (digits n (v / 10) ++ (48 + v % 10) ∷ [])
 
--- A number of 64 bits has twenty digits at most.
+-- Twenty digits are enough for every number here.
 unfoldable pub decimal : ℕ → List ℕ
 decimal v = digits 20 v
 
@@ -58,9 +58,9 @@ lines (suc n) k r h u c input =
     let rest : List ℕ = lines n (k + 1) (o .taken .state) (o .heldArea) (o .unitArea) (o .recordArea) (drop (r .setting .length) input) in
     cond (length input =? 0) [] (line k (o .taken .answer) ++ rest)
 
--- "Empty input prints nothing."
-unfoldable pub listing : Setting → List ℕ → List ℕ
-listing s input =
+-- "A listing program reads frames of this setting." "Empty input prints nothing."
+unfoldable pub listing : List ℕ → List ℕ
+listing input =
     cond (length input =? 0) []
     (text "frame answer units missing\n"
-    ++ lines (length input) 0 ((setUpReader s) .state) (replicate 65536 0) (replicate 12288 0) (replicate 9600 0) input)
+    ++ lines (length input) 0 ((setUpReader (worked packetLane)) .state) (replicate 65536 0) (replicate 12288 0) (replicate 9600 0) input)

@@ -6,7 +6,7 @@ use lib.ListN.{length, take}
 use lib.Bits.{bitXor}
 use Rattle.rules.specs.Tests.{_≤?_}
 
--- A number in n octets, the highest first.
+-- A number modulo 256^n in n octets, the highest first.
 unfoldable pub be : ℕ → ℕ → List ℕ
 be zero v = []
 be (suc n) v = v / 256 ^ n % 256 ∷ be n v
@@ -44,7 +44,7 @@ flag true = 1
 flag false = 0
 
 -- "The check has generator x^16+x^12+x^5+1 and a register preset to ones, over all octets before it."
--- 000, annex B1: the register is shifted one bit; where a one comes out, the generator is added.
+-- As 000's annex B1 has it: the register is shifted one bit; where a one comes out, the generator is added.
 unfoldable pub checkBit : ℕ → ℕ
 checkBit r = cond (0x8000 ≤? r) (bitXor (r * 2 % 0x10000) 0x1021) (r * 2)
 
@@ -52,6 +52,7 @@ unfoldable pub checkBits : ℕ → ℕ → ℕ
 checkBits zero r = r
 checkBits (suc k) r = checkBits k (checkBit r)
 
+-- The eight bits of an octet are added at the register's high end, which is then shifted eight times.
 unfoldable pub checkFrom : ℕ → List ℕ → ℕ
 checkFrom r [] = r
 checkFrom r (x ∷ xs) = checkFrom (checkBits 8 (bitXor r (x * 0x100))) xs

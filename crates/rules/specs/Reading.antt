@@ -27,7 +27,7 @@ use Rattle.rules.specs.Packets.{measure}
 
 -- ---- counts, over n
 
--- "Missing = (count - expected) modulo 256^n, and 0 if none was expected."
+-- "Missing = (count - expected) modulo 256^n, and 0 if none was expected." What is expected is below 256^n, so nothing is cut off.
 unfoldable pub missing : ℕ → Expect → ℕ → ℕ
 missing n e k = cond (e .known) ((k + 256 ^ n - e .count) % 256 ^ n) 0
 
@@ -118,7 +118,7 @@ become Drop xs = drops (length xs)
 
 -- ---- "Packet lane": held octets and lead
 
--- "With a pointer above 0, the packet must end exactly where the lead does. With FFFF it may also go on, to be held, but not end
+-- "With a pointer above 0, the packet must end exactly where the lead does; ... With FFFF it may also go on, to be held, but not end
 -- sooner. If it fails this, ... or is longer than the lane's longest, held octets and lead are dropped." A packet of `size` octets
 -- of which n are there; `on` says that it may go on, `done` what it is when it ends here.
 unfoldable pub endFate : ℕ → Bool → ℕ → ℕ → Fate → Fate

@@ -13,7 +13,7 @@ use Rattle.rules.specs.declared.Verdict.the-variants.{Refused, Idle, Cou
 use Rattle.rules.specs.Tests.{_<?_, _=?_, _≠?_, first, none, at, Refusal, refuse, given}
 use Rattle.rules.specs.Octets.{flag}
 use Rattle.rules.specs.Settings.{channel, lane, zone}
-use Rattle.rules.specs.Frames.{version, craft, bit, vc, map, ending, size, bypass, command, spare, ocfFlag, countLength, ruleIn, upidIn, pointerIn, checkHolds}
+use Rattle.rules.specs.Frames.{version, craft, sourceBit, vc, map, endOfHeader, lengthField, bypass, command, spare, ocfFlag, countLength, ruleIn, upidIn, pointerIn, checkHolds}
 
 -- ---- who owns a frame
 
@@ -42,15 +42,25 @@ dataWrong s c l f =
 -- The rows of the table, from "frame is not F octets" on, for a frame whose virtual channel and service are listed at the place p.
 unfoldable pub refusalsAt : Setting → List ℕ → Place → List Refusal
 refusalsAt s f p =
+    -- "frame is not F octets"
     refuse 3 (length f ≠? s .length)
+    -- "frame check differs"
     ∷ refuse 4 (not (checkHolds s f))
+    -- "version is not 1100"
     ∷ refuse 5 (version f ≠? 0b1100)
-    ∷ refuse 6 (craft f ≠? s .craft || bit f ≠? s .bit)
-    ∷ refuse 7 (ending f =? 1)
-    ∷ refuse 8 (size f ≠? (s .length - 1) || spare f ≠? 0b00 || (command f =? 1 && bypass f =? 0))
+    -- "spacecraft or source-or-destination bit differs"
+    ∷ refuse 6 (craft f ≠? s .craft || sourceBit f ≠? s .bit)
+    -- "end-of-header flag is 1"
+    ∷ refuse 7 (endOfHeader f =? 1)
+    -- "length field is not F - 1, spare bits not 00, or control command with bypass 0 (house reading)"
+    ∷ refuse 8 (lengthField f ≠? (s .length - 1) || spare f ≠? 0b00 || (command f =? 1 && bypass f =? 0))
+    -- "virtual channel not 63 and, with this service, not listed"
     ∷ refuse 9 (vc f ≠? 63 && none p)
+    -- "count length not the channel's (63: not checked)"
     ∷ refuse 10 (at p (λ (c : ℕ). countLength f ≠? (channel s c) .octets))
+    -- "OCF flag not the channel's (63: not checked)"
     ∷ refuse 11 (at p (λ (c : ℕ). ocfFlag f ≠? flag ((channel s c) .ocf)))
+    -- "map in a lane of that channel, command bit 0, and rule or UPID not that lane's, or pointer neither below Z nor FFFF"
     ∷ refuse 12 (at p (λ (c : ℕ). at (laneAt s c (map f)) (λ (l : ℕ). command f =? 0 && dataWrong s c l f)))
     ∷ []
 
@@ -59,7 +69,7 @@ refusals s f = refusalsAt s f (channelAt s (vc f) (bypass f))
 
 -- ---- "A frame that passes the checks is one of three."
 
--- "Counted: control command set, or the map is in no lane of that channel. Read: all else." Of a frame of channel c whose map is in
+-- "Counted: control command set, or the map is in no lane of that channel; ... Read: all else." Of a frame of channel c whose map is in
 -- the lane at the place given.
 unfoldable pub onChannel : List ℕ → ℕ → Place → Verdict
 onChannel f c Nowhere = Counted c

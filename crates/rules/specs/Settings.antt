@@ -101,6 +101,7 @@ lanesOk s =
     all (1 ≤? s .numbered ∷ s .numbered ≤? 8 ∷ every (s .numbered) (λ (i : ℕ). laneOk s (lane s i))
     ∷ every (s .numbered) (λ (i : ℕ). every i (λ (j : ℕ). lanesDiffer (lane s j) (lane s i))) ∷ [])
 
+-- All of this makes a setting valid.
 unfoldable pub settingOk : Setting → Bool
 settingOk s = all (rangesOk s ∷ channelsOk s ∷ lanesOk s ∷ [])
 
@@ -115,7 +116,7 @@ unfoldable pub freshWriter : Setting → Writer
 freshWriter s = record { setting = s; counts = replicate 8 0; next = replicate 8 0 }
 
 -- "A state handed in is valid when its setting is, each count is below 256^n, each lane holds fewer octets than its longest unit,
--- and next frame numbers are at most 32,767."
+-- and next frame numbers are at most 32,767." A count is judged whether or not one is expected.
 unfoldable pub readerOk : Reader → Bool
 readerOk r =
     all (settingOk (r .setting)

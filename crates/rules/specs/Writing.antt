@@ -31,7 +31,7 @@ batchOk Packets longest b =
     all (1 ≤? length b ∷ length b ≤? 32768 ∷ length (joined (packets b)) =? length b ∷ noneAbove longest (packets b) ∷ [])
 batchOk Access longest b = all (1 ≤? length b ∷ length b ≤? longest ∷ [])
 
--- The units of a batch.
+-- The units that a batch carries.
 abbrev pub unitsOf : Kind → List ℕ → List (List ℕ)
 unitsOf Packets b = packets b
 unitsOf Access b = b ∷ []
@@ -62,13 +62,13 @@ ruleOf Packets i = 0b000
 ruleOf Access i = cond (i =? 0) 0b001 0b010
 
 -- Of packets back to back, the first octet from octet n on at which one starts. Where none does, it is their end: there the fill
--- starts, if any.
+-- starts, if any. For n within them.
 unfoldable pub startFrom : List (List ℕ) → ℕ → ℕ
 startFrom [] n = 0
 startFrom (p ∷ ps) n = cond (n =? 0) 0 (length p + startFrom ps (n - length p))
 
--- "For 000 it is the offset in the zone of the first packet that starts there, idle ones included. For 001 and 010 it is the
--- offset of the unit's last octet." Counted from the zone's first octet, wherever it falls.
+-- "For 000 it is the offset in the zone of the first packet that starts there, idle ones included; ... For 001 and 010 it is the
+-- offset of the unit's last octet; ..." Counted from the zone's first octet on, of a frame that the batch has.
 unfoldable pub offsetOf : Kind → ℕ → List ℕ → ℕ → ℕ
 offsetOf Packets z b i = startFrom (packets b) (i * z) - i * z
 offsetOf Access z b i = length b - 1 - i * z

@@ -1,8 +1,6 @@
-// The types that document 01 speaks of. Plain data, all of it, handed in and out by value.
-//
-// The first case of each enum is the one that a state of zeros has.
+// The types that document 01 speaks of, and those that its rules decide by. Plain data, all of it, handed in and out by value.
 
-// What a lane carries: Space Packets that span frames, or access units (MAPA_SDU).
+// What a lane carries: Space Packets that span frames, or access units (MAPA_SDU). The first is what a state of zeros has.
 pub enum Kind {
     Packets,
     Access,

@@ -1,53 +1,55 @@
+-- `octets::copy` meets its contract: after i turns the first i octets are the source's, until one of the two ends.
+use Prim.Native.Nat.{_≤_, _-_, _+_}
+use mathlib.Core.Path.{_≡_, refl}
+use lib.ListN.{length, length-set}
+use lib.Seq.{paste, paste-zero}
+use borrow.Author.Needs.{needs}
+use native.Mathlib.Omega.{arith}
+use Rattle.octets.proofs.Turns.{copy-turn, copy-all, copy-full}
 use Rattle.octets.proofs.copy.Statement.{statement}
 use Rattle.octets.proofs.copy.Tie as tie
-use Rattle.octets.proofs.copy.Reads as reads
-use Rattle.octets.proofs.copy.Lts as lts
 
 abbrev Inv-loop : tie.InvT-loop
-Inv-loop dst₀ src i₀ dst i = ?
+Inv-loop dst₀ src i₀ dst i = (i ≤ length dst₀) × (i ≤ length src) × (dst ≡ paste dst₀ 0 src i) × (length dst ≡ length dst₀)
 
 abbrev μ-loop : tie.MeasureT-loop
-μ-loop dst₀ src i₀ dst i = ?
+μ-loop dst₀ src i₀ dst i = length dst₀ - i
 
--- src/lib.rt:13:5
 loop-holds : tie.Need-loop-holds Inv-loop μ-loop
-loop-holds c = ?
+loop-holds c = (search needs, search needs, paste-zero (c .args .dst .now) 0 (c .args .src .now), refl)
 
--- src/lib.rt:15:13
 same-length : tie.Need-same-length Inv-loop μ-loop
-same-length c = ?
+same-length c = search needs
 
--- src/lib.rt:15:13
 returns : tie.Need-returns Inv-loop μ-loop
-returns c = ?
+returns c =
+    let l = c .before .before .loop in
+    copy-all _ _ _ _ (l .inv .0) (l .inv .1) (c .if1 .taken) (l .inv .2)
 
--- src/lib.rt:17:18
 shared-slice-read-dst : tie.Need-shared-slice-read-dst Inv-loop μ-loop
-shared-slice-read-dst c = ?
+shared-slice-read-dst c = search needs
 
--- src/lib.rt:17:9
 slice-write-dst : tie.Need-slice-write-dst Inv-loop μ-loop
-slice-write-dst c = ?
+slice-write-dst c = search needs
 
--- src/lib.rt:18:9
 add-i : tie.Need-add-i Inv-loop μ-loop
-add-i c = ?
+add-i c = search needs
 
--- src/lib.rt:13:5
 loop-less : tie.Need-loop-less Inv-loop μ-loop
-loop-less c = ?
+loop-less c = search needs
 
--- src/lib.rt:13:5
 loop-again : tie.Need-loop-again Inv-loop μ-loop
-loop-again c = ?
+loop-again c =
+    let l = c .before .before .before .loop in
+    (search needs, search needs, copy-turn _ _ _ _ (search needs) (search needs) (l .inv .2), simp length-set (l .inv .3))
 
--- src/lib.rt:9:1
 same-length-2 : tie.Need-same-length-2 Inv-loop μ-loop
-same-length-2 c = ?
+same-length-2 c = search needs
 
--- src/lib.rt:9:1
 returns-2 : tie.Need-returns-2 Inv-loop μ-loop
-returns-2 c = ?
+returns-2 c =
+    let l = c .before .loop in
+    copy-full _ _ _ _ (l .inv .0) (l .inv .1) (search needs) (l .inv .2)
 
 pub copy-spec : {M : Type 1} → statement M
 copy-spec =

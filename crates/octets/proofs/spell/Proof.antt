@@ -1,45 +1,40 @@
+-- `octets::spell` meets its contract: what is left of the number is spelled by the octets not written yet.
+use borrow.Author.Needs.{needs}
+use native.Mathlib.Omega.{arith}
+use lib.ListN.{length-set}
+use Rattle.octets.proofs.Turns.{Spelled, spell-none, spell-turn, spell-all, spelled-long}
 use Rattle.octets.proofs.spell.Statement.{statement}
 use Rattle.octets.proofs.spell.Tie as tie
-use Rattle.octets.proofs.spell.Reads as reads
-use Rattle.octets.proofs.spell.Lts as lts
 
 abbrev Inv-loop : tie.InvT-loop
-Inv-loop dst₀ x v₀ i₀ dst v i = ?
+Inv-loop dst₀ x v₀ i₀ dst v i = Spelled dst₀ x dst v i
 
 abbrev μ-loop : tie.MeasureT-loop
-μ-loop dst₀ x v₀ i₀ dst v i = ?
+μ-loop dst₀ x v₀ i₀ dst v i = i
 
--- src/lib.rt:58:5
 loop-holds : tie.Need-loop-holds Inv-loop μ-loop
-loop-holds c = ?
+loop-holds c = spell-none _ _
 
--- src/lib.rt:59:9
 sub-i : tie.Need-sub-i Inv-loop μ-loop
-sub-i c = ?
+sub-i c = search needs
 
--- src/lib.rt:60:18
 cast-dst : tie.Need-cast-dst Inv-loop μ-loop
-cast-dst c = ?
+cast-dst c = search needs
 
--- src/lib.rt:60:9
 slice-write-dst : tie.Need-slice-write-dst Inv-loop μ-loop
-slice-write-dst c = ?
+slice-write-dst c = omega (arith, spelled-long _ _ _ _ _ (c .before .loop .inv), c .before .loop .inv .below)
 
--- src/lib.rt:58:5
 loop-less : tie.Need-loop-less Inv-loop μ-loop
-loop-less c = ?
+loop-less c = search needs
 
--- src/lib.rt:58:5
 loop-again : tie.Need-loop-again Inv-loop μ-loop
-loop-again c = ?
+loop-again c = spell-turn _ _ _ _ _ (c .loop-test .taken) (c .before .loop .inv)
 
--- src/lib.rt:53:1
 same-length : tie.Need-same-length Inv-loop μ-loop
-same-length c = ?
+same-length c = spelled-long _ _ _ _ _ (c .before .loop .inv)
 
--- src/lib.rt:53:1
 returns : tie.Need-returns Inv-loop μ-loop
-returns c = ?
+returns c = spell-all _ _ _ _ _ (c .loop-test .left) (c .before .loop .inv)
 
 pub spell-spec : {M : Type 1} → statement M
 spell-spec =
