@@ -317,7 +317,126 @@ pub fn setting_ok(s: Setting) -> bool
         if channels {
             return lanes_ok(s);
         }
-        return false;
+    }
+    false
+}
+
+// Whether a count of n octets, the channel's, is below 256^n.
+fn count_ok(c: Channel, x: u64) -> bool
+    requires { ⌜ c .octets ≤ 7 ⌝ }
+    ensures { λ r. ⌜ r ≡ (x <? 256 ^ c .octets) ⌝ }
+{
+    let m = octets::modulus(c.octets);
+    x < m
+}
+
+// Whether each count that a reader expects is below its channel's 256^n.
+fn expects_ok(r: Reader) -> bool
+    requires { ⌜ settingOk (r .setting) ≡ true ⌝ }
+    ensures { λ b. ⌜ b ≡ every (r .setting .listed) (λ c. (expect r c) .count <? 256 ^ (channel (r .setting) c) .octets) ⌝ }
+{
+    let s = r.setting;
+    let n = s.listed;
+    let mut i: usize = 0;
+    while i < n {
+        let c = s.channels[i];
+        let e = r.expects[i];
+        let ok = count_ok(c, e.count);
+        if ok {
+            i += 1;
+        } else {
+            return false;
+        }
+    }
+    true
+}
+
+// Whether each lane holds fewer octets than its longest unit.
+fn held_ok(r: Reader) -> bool
+    requires { ⌜ r .setting .numbered ≤ 8 ⌝ }
+    ensures { λ b. ⌜ b ≡ every (r .setting .numbered) (λ l. heldBy r l <? (lane (r .setting) l) .longest) ⌝ }
+{
+    let s = r.setting;
+    let n = s.numbered;
+    let mut i: usize = 0;
+    while i < n {
+        let l = s.lanes[i];
+        let held = r.held[i];
+        if held < l.longest {
+            i += 1;
+        } else {
+            return false;
+        }
+    }
+    true
+}
+
+// Whether a reader's state is valid.
+pub fn reader_ok(r: Reader) -> bool
+    ensures { λ b. ⌜ b ≡ readerOk r ⌝ }
+{
+    let s = r.setting;
+    let setting = setting_ok(s);
+    if setting {
+        let expects = expects_ok(r);
+        if expects {
+            return held_ok(r);
+        }
+    }
+    false
+}
+
+// Whether the count of each channel's next frame is below its 256^n.
+fn counts_ok(w: Writer) -> bool
+    requires { ⌜ settingOk (w .setting) ≡ true ⌝ }
+    ensures { λ b. ⌜ b ≡ every (w .setting .listed) (λ c. count w c <? 256 ^ (channel (w .setting) c) .octets) ⌝ }
+{
+    let s = w.setting;
+    let n = s.listed;
+    let mut i: usize = 0;
+    while i < n {
+        let c = s.channels[i];
+        let x = w.counts[i];
+        let ok = count_ok(c, x);
+        if ok {
+            i += 1;
+        } else {
+            return false;
+        }
+    }
+    true
+}
+
+// Whether each lane's next frame number is at most 32,767.
+fn numbers_ok(w: Writer) -> bool
+    requires { ⌜ w .setting .numbered ≤ 8 ⌝ }
+    ensures { λ b. ⌜ b ≡ every (w .setting .numbered) (λ l. number w l ≤? 32767) ⌝ }
+{
+    let s = w.setting;
+    let n = s.numbered;
+    let mut i: usize = 0;
+    while i < n {
+        let next = w.next[i];
+        if next <= 32767 {
+            i += 1;
+        } else {
+            return false;
+        }
+    }
+    true
+}
+
+// Whether a writer's state is valid.
+pub fn writer_ok(w: Writer) -> bool
+    ensures { λ b. ⌜ b ≡ writerOk w ⌝ }
+{
+    let s = w.setting;
+    let setting = setting_ok(s);
+    if setting {
+        let counts = counts_ok(w);
+        if counts {
+            return numbers_ok(w);
+        }
     }
     false
 }

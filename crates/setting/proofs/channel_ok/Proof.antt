@@ -37,7 +37,7 @@ zone-of-requires c κs = search needs
 -- src/lib.rt:74:1
 returns-5 : tie.Need-returns-5
 unfolding channelOk
-returns-5 c = rw (c .zone-of .ensures) (one-passes _ _ _ (le-leb _ _ (search needs)) (one-passes _ _ _ (le-leb _ _ (search needs)) (one-passes _ _ _ (le-leb _ _ (search needs)) (one-passes _ _ _ (le-leb _ _ (search needs)) (last-decides _)))))
+returns-5 c = rw (c .zone-of .ensures) (one-passes _ _ _ (le-leb _ _ (c .before .before .before .before .before .before .before .if1 .left)) (one-passes _ _ _ (le-leb _ _ (c .before .before .before .before .before .if2 .left)) (one-passes _ _ _ (le-leb _ _ (c .before .before .before .if3 .left)) (one-passes _ _ _ (le-leb _ _ (c .before .if4 .left)) (last-decides _)))))
 
 pub channel-ok-spec : {M : Type 1} → statement M
 channel-ok-spec =

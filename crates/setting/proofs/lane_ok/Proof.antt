@@ -26,7 +26,7 @@ kind-ok-requires c κs = search needs
 -- src/lib.rt:206:1
 returns-3 : tie.Need-returns-3
 unfolding laneOk
-returns-3 c = one-passes _ _ _ (lt-ltb _ _ (search needs)) (one-passes _ _ _ (le-leb _ _ (search needs)) (c .kind-ok .ensures ∙ last-decides _))
+returns-3 c = one-passes _ _ _ (lt-ltb _ _ (c .before .before .before .if1 .left)) (one-passes _ _ _ (le-leb _ _ (c .before .if2 .left)) (c .kind-ok .ensures ∙ last-decides _))
 
 pub lane-ok-spec : {M : Type 1} → statement M
 lane-ok-spec = tie.close (tie.spec returns returns-2 kind-ok-requires returns-3)

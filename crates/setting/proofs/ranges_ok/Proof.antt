@@ -1,3 +1,4 @@
+use Prim.Native.Nat.{_≤_}
 use mathlib.Core.Path.{_≡_, refl, sym, ap, _∙_}
 use borrow.Author.Needs.{needs}
 use borrow.Author.Tests.{le-leb, lt-leb, lt-ltb, le-ltb, eq-eqb, ne-eqb}
@@ -26,7 +27,7 @@ returns-3 c = one-fails _ 3 (lt-leb _ _ (c .if3 .taken))
 -- src/lib.rt:58:1
 returns-4 : tie.Need-returns-4
 unfolding rangesOk
-returns-4 c = one-passes _ _ _ (le-leb _ _ (search needs)) (one-passes _ _ _ (le-leb _ _ (search needs)) (one-passes _ _ _ (le-leb _ _ (search needs)) (one-passes _ _ _ (le-leb _ _ (search needs)) (last-decides _))))
+returns-4 c = let v : (c .before .before .before .before .before .before .before .args .s) .craft ≤ 65535 = search needs in one-passes _ _ _ (le-leb _ _ (c .before .before .before .before .before .if1 .left)) (one-passes _ _ _ (le-leb _ _ (c .before .before .before .if2 .left)) (one-passes _ _ _ (le-leb _ _ (v)) (one-passes _ _ _ (le-leb _ _ (c .before .if3 .left)) (last-decides _))))
 
 pub ranges-ok-spec : {M : Type 1} → statement M
 ranges-ok-spec = tie.close (tie.spec returns returns-2 returns-3 returns-4)
