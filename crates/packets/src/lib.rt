@@ -175,7 +175,10 @@ pub fn follow_fate(longest: usize, finished: bool, h: usize, n: usize) -> Fate
 
 // Whether the octets are whole Space Packets back to back, none idle, none above the longest.
 fn back_to_back(longest: usize, batch: &[u8]) -> bool
-    ensures { λ r. ⌜ r ≡ all (length (joined (packets (now (batch .entry)))) =? length (now (batch .entry)) ∷ noneAbove longest (packets (now (batch .entry))) ∷ []) ⌝ }
+    ensures { λ r. ⌜ r ≡ all
+        (length (joined (packets (now (batch .entry)))) =? length (now (batch .entry))
+        ∷ noneAbove longest (packets (now (batch .entry)))
+        ∷ []) ⌝ }
 {
     let mut i: usize = 0;
     while i < batch.len() {
