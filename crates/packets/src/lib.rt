@@ -4,7 +4,7 @@ ghost use mathlib.Core.Path.{_≡_};
 ghost use mathlib.Core.List.{[], _∷_};
 ghost use Prim.Native.Nat.{_+_, _-_, _/_};
 ghost use lib.ListN.{length, getD};
-ghost use Rattle.rules.specs.Tests.{_≤?_, _=?_, all};
+ghost use Rattle.rules.specs.Tests.{_=?_, all};
 ghost use Rattle.rules.specs.Areas.{joined};
 ghost use Rattle.rules.specs.Packets.{sized, measured, measure, packets};
 ghost use Rattle.rules.specs.Reading.{endFate, joinedFate, leadFate, sizedNext, nextOf, unitFate, followFate};
