@@ -4,11 +4,11 @@ use mathlib.Core.Logic.{⊎-elim}
 use Prim.Native.Nat.{ℕ, zero, suc, _+_, _-_, _≤_, _<_}
 use native.Mathlib.Nat.{not-suc-le-zero, le-refl, zero-add, add-zero, add-assoc, sub-zero}
 use native.Mathlib.Omega.{arith}
-use mathlib.Core.Bool.{Bool, true, false, cond, _&&_, and-false}
+use mathlib.Core.Bool.{Bool, true, false, cond, and-false}
 use mathlib.Core.List.{List, [], _∷_, _++_}
 use lib.ListN.{length, take, drop, length-append, length-drop, drop-of-length-le}
 use lib.Seq.{length-take-le, take-all, drop-drop}
-use borrow.Author.Tests.{le-leb, lt-leb, eq-eqb, ne-eqb}
+use borrow.Author.Tests.{leb-true, le-leb, lt-leb, eq-eqb, ne-eqb}
 use denote.Enum.Declared.{tagOf}
 use types.Run.{OneOf}
 use Rattle.rules.proofs.Measure as measure-type
@@ -20,19 +20,26 @@ use Rattle.rules.specs.Tests.{_≤?_, _=?_, all}
 use Rattle.rules.specs.Areas.{joined}
 use Rattle.rules.specs.Packets.{measured, measure, whole, packetsUpTo, packets}
 use Rattle.rules.specs.Writing.{noneAbove, batchOk, startFrom}
-use Rattle.rules.proofs.Tests.{split, same}
+use Rattle.rules.proofs.Tests.{same}
 use Rattle.rules.proofs.Lanes.{measure-cases}
 
 -- ---- the packets' own equation: no count of packets in it
 
+-- To show something of the step that takes one packet, show it where there is none to take, and where there is a whole one.
+whole-cases : (P : ((List ℕ → List (List ℕ)) → List (List ℕ)) → Type 0) (xs : List ℕ) → P (λ rest. [])
+    → ((n : ℕ) → 7 ≤ n → n ≤ length xs → P (λ rest. take n xs ∷ rest (drop n xs))) → P (λ rest. whole (measure xs) xs rest)
+whole-cases P xs none one =
+    measure-cases (λ (m : Measure). P (λ rest. whole m xs rest)) xs (λ l. none) (λ n h. go n h (n ≤? length xs) refl) (λ n h. none) none
+  where
+    go : (n : ℕ) → 7 ≤ n → (t : Bool) → n ≤? length xs ≡ t → P (λ rest. cond t (take n xs ∷ rest (drop n xs)) [])
+    go n h true e = one n h (leb-true _ _ e)
+    go n h false e = none
+
 whole-same : (xs : List ℕ) (f g : List ℕ → List (List ℕ)) → ((ys : List ℕ) → length ys < length xs → f ys ≡ g ys)
     → whole (measure xs) xs f ≡ whole (measure xs) xs g
 whole-same xs f g h =
-    measure-cases (λ (m : Measure). whole m xs f ≡ whole m xs g) xs (λ l. refl)
-    (λ n k.
-    split n (length xs) (λ l. rw (le-leb n (length xs) l) (ap (λ (ps : List (List ℕ)). take n xs ∷ ps) (h (drop n xs) (rw length-drop (omega arith)))))
-    (λ l. rw (lt-leb n (length xs) l)))
-    (λ n k. refl) refl
+    whole-cases (λ w. w f ≡ w g) xs refl
+    (λ n k l. ap (λ (ps : List (List ℕ)). take n xs ∷ ps) (h (drop n xs) (rw length-drop (omega arith))))
 
 none-left : (n : ℕ) (xs : List ℕ) → length xs ≤ 0 → packetsUpTo n xs ≡ []
 unfolding packetsUpTo measure measured
@@ -46,7 +53,7 @@ enough zero m xs h k = sym (none-left m xs h)
 enough (suc n) zero xs h k = none-left (suc n) xs k
 enough (suc n) (suc m) xs h k = whole-same xs (packetsUpTo n) (packetsUpTo m) (λ ys l. enough n m ys (omega arith) (omega arith))
 
-packets-front : (xs : List ℕ) → packets xs ≡ whole (measure xs) xs packets
+pub packets-front : (xs : List ℕ) → packets xs ≡ whole (measure xs) xs packets
 unfolding packets packetsUpTo
 packets-front xs =
     enough (length xs) (suc (length xs)) xs (le-refl _) (omega arith)
@@ -75,7 +82,10 @@ module _ (b : List ℕ) (i : ℕ) (m : Measure) (is : m ≡ measure (take (lengt
     where
       go : (m : Measure) → OneOf (0 ∷ 2 ∷ 3 ∷ []) (tagOf measure-type.the-type m) → whole m (drop i b) packets ≡ []
       go Lacks o = refl
-      go (Packet n) o = absurd (⊎-elim (λ (e : _≡_ {A = ℕ} 1 0). omega arith) (λ p. ⊎-elim (λ (e : _≡_ {A = ℕ} 1 2). omega arith) (λ (e : _≡_ {A = ℕ} 1 3). omega arith) p) o)
+      go (Packet n) o =
+          absurd
+          (⊎-elim (λ (e : _≡_ {A = ℕ} 1 0). omega arith)
+          (⊎-elim (λ (e : _≡_ {A = ℕ} 1 2). omega arith) (λ (e : _≡_ {A = ℕ} 1 3). omega arith)) o)
       go (Idle n) o = refl
       go Unreadable o = refl
 
@@ -96,17 +106,13 @@ upTo-inside : (n : ℕ) (xs : List ℕ) → length (joined (packetsUpTo n xs)) �
 unfolding packetsUpTo joined
 upTo-inside zero xs = omega arith
 upTo-inside (suc n) xs =
-    measure-cases (λ (m : Measure). length (joined (whole m xs (packetsUpTo n))) ≤ length xs) xs (λ l. omega arith)
-    (λ k h.
-    split k (length xs)
-    (λ l.
+    whole-cases (λ w. length (joined (w (packetsUpTo n))) ≤ length xs) xs (omega arith)
+    (λ k h l.
     let q = upTo-inside n (drop k xs) in
     let t = length-append (take k xs) (joined (packetsUpTo n (drop k xs))) in
     let u = length-take-le k xs l in
     let v = length-drop k xs in
-    rw (le-leb k (length xs) l) (omega (arith, q, t, u, v)))
-    (λ l. rw (lt-leb k (length xs) l) (omega arith)))
-    (λ k h. omega arith) (omega arith)
+    omega (arith, q, t, u, v))
 
 pub packets-inside : (xs : List ℕ) → length (joined (packets xs)) ≤ length xs
 unfolding packets
@@ -136,16 +142,19 @@ module _ (longest : ℕ) (b : List ℕ) (i : ℕ) where
 
     pub stand-above : longest < n → stand longest (drop i b) ≡ false
     unfolding all noneAbove
-    stand-above h = rw (e, size, lt-leb n longest h) (and-false (length (joined (take n (drop i b) ∷ packets (drop (i + n) b))) =? length (drop i b)))
+    stand-above h = rw (e, size, lt-leb n longest h) (and-false (length (joined _) =? length (drop i b)))
+
+    same-rest : length (joined (packets (drop i b))) =? length (drop i b)
+        ≡ length (joined (packets (drop (i + n) b))) =? length (drop (i + n) b)
+    unfolding joined
+    same-rest =
+        let t : length (joined (packets (drop i b))) ≡ n + length (joined (packets (drop (i + n) b))) = rw (e, length-append, size) in
+        let u : length (drop i b) ≡ n + length (drop (i + n) b) = rw (length-drop i b, length-drop (i + n) b) (omega arith) in
+        shifted n _ _ _ _ t u
 
     pub stand-more : n ≤ longest → stand longest (drop i b) ≡ stand longest (drop (i + n) b)
-    unfolding all joined noneAbove
-    stand-more h =
-        let t = length-append (take n (drop i b)) (joined (packets (drop (i + n) b))) in
-        let u = length-drop i b in
-        let v = length-drop (i + n) b in
-        rw
-        (e, shifted n (length (take n (drop i b) ++ joined (packets (drop (i + n) b)))) (length (drop i b)) (length (joined (packets (drop (i + n) b)))) (length (drop (i + n) b)) (omega (arith, t, size)) (omega (arith, u, v)), size, le-leb n longest h)
+    unfolding all noneAbove
+    stand-more h = rw (same-rest, e, size, le-leb n longest h)
 
 -- ---- where they start
 

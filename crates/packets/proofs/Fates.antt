@@ -5,7 +5,7 @@ use native.Mathlib.Omega.{arith}
 use mathlib.Core.Bool.{Bool, true, false, cond}
 use borrow.Author.Tests.{le-leb, lt-leb, lt-ltb, le-ltb, ne-eqb}
 use Rattle.rules.specs.declared.Fate.{Fate}
-use Rattle.rules.specs.declared.Fate.the-variants.{Hand, Blank, Hold, Drop}
+use Rattle.rules.specs.declared.Fate.the-variants.{Drop}
 use Rattle.rules.specs.Tests.{_≤?_}
 use Rattle.rules.specs.Reading.{endFate, unitFate}
 use Rattle.rules.proofs.Tests.{split}
@@ -27,7 +27,8 @@ unit-over longest true n h = rw (lt-leb n longest h)
 unit-over longest false n h = rw (le-ltb n longest (omega arith))
 
 -- Held octets count against the longest.
-pub unit-after : (longest : ℕ) (finished : Bool) (h n : ℕ) → h ≤ longest → unitFate (longest - h) finished n ≡ unitFate longest finished (h + n)
+pub unit-after : (longest : ℕ) (finished : Bool) (h n : ℕ) → h ≤ longest
+    → unitFate (longest - h) finished n ≡ unitFate longest finished (h + n)
 unfolding unitFate
 unit-after longest true h n l =
     split (h + n) longest (λ a. rw (le-leb (h + n) longest a, le-leb n (longest - h) (omega arith)))

@@ -1,15 +1,17 @@
--- How many zones some octets take, and where zones begin.
+-- The zones that a batch is cut into: how many there are, and offsets in one.
 use mathlib.Core.Path.{_≡_, sym, ap, _∙_}
-use Prim.Native.Nat.{ℕ, zero, suc, _+_, _-_, _*_, _/_, _%_, _≤_, _<_}
+use mathlib.Core.List.{List}
+use Prim.Native.Nat.{ℕ, _+_, _-_, _*_, _/_, _%_, _<_}
 use native.Mathlib.Nat.{add-mul, one-mul, mul-one, mul-zero, mod-lt, div-add-mod', div-lt-self, div-eq-of-lt-le}
 use native.Mathlib.Omega.{arith}
-use mathlib.Core.List.{List}
 use lib.ListN.{length}
 use Rattle.rules.specs.declared.Kind.{Kind}
 use Rattle.rules.specs.declared.Kind.the-variants.{Packets, Access}
 use Rattle.rules.specs.Packets.{packets}
 use Rattle.rules.specs.Writing.{offsetOf}
 use Rattle.packets.proofs.Batches.{packets-inside, start-inside}
+
+-- ---- how many zones of z octets n octets take: the quotient, and one more where something is left
 
 module _ (z n : ℕ) (pos : 0 < z) where
   more : (k : ℕ) → (k + 1) * z ≡ k * z + z

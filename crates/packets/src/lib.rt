@@ -4,7 +4,7 @@ ghost use mathlib.Core.Path.{_≡_};
 ghost use mathlib.Core.List.{[], _∷_};
 ghost use Prim.Native.Nat.{_+_, _-_, _/_};
 ghost use lib.ListN.{length, getD};
-ghost use Rattle.rules.specs.Tests.{_≤?_, _=?_, all};
+ghost use Rattle.rules.specs.Tests.{_=?_, all};
 ghost use Rattle.rules.specs.Areas.{joined};
 ghost use Rattle.rules.specs.Packets.{sized, measured, measure, packets};
 ghost use Rattle.rules.specs.Reading.{endFate, joinedFate, leadFate, sizedNext, nextOf, unitFate, followFate};
@@ -175,7 +175,10 @@ pub fn follow_fate(longest: usize, finished: bool, h: usize, n: usize) -> Fate
 
 // Whether the octets are whole Space Packets back to back, none idle, none above the longest.
 fn back_to_back(longest: usize, batch: &[u8]) -> bool
-    ensures { λ r. ⌜ r ≡ all (length (joined (packets (now (batch .entry)))) =? length (now (batch .entry)) ∷ noneAbove longest (packets (now (batch .entry))) ∷ []) ⌝ }
+    ensures { λ r. ⌜ r ≡ all
+        (length (joined (packets (now (batch .entry)))) =? length (now (batch .entry))
+        ∷ noneAbove longest (packets (now (batch .entry)))
+        ∷ []) ⌝ }
 {
     let mut i: usize = 0;
     while i < batch.len() {

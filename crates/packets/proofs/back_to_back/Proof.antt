@@ -34,32 +34,53 @@ enum-known-m : tie.Need-enum-known-m Inv-loop μ-loop
 enum-known-m c = search needs
 
 returns : tie.Need-returns Inv-loop μ-loop
-returns c = let b = c .before .before .before .before .before .before .args .batch .now in let i = c .before .before .before .before .loop .i in
-    sym (c .before .before .before .before .loop .inv .1 ∙ stand-none _ b i (c .before .before .before .loop-test .taken) (none-here b i _ (c .before .measure-at .ensures) (c .match .keys2)))
+returns c =
+    let top = c .before .before .before .before in
+    let b = top .before .before .args .batch .now in
+    let none = none-here b (top .loop .i) _ (c .before .measure-at .ensures) (c .match .keys2) in
+    sym (top .loop .inv .1 ∙ stand-none _ b (top .loop .i) (c .before .before .before .loop-test .taken) none)
 
 sub-if1 : tie.Need-sub-if1 Inv-loop μ-loop
 sub-if1 c = search needs
 
 returns-2 : tie.Need-returns-2 Inv-loop μ-loop
-returns-2 c = let b = c .before .before .before .before .before .before .before .before .before .args .batch .now in let i = c .before .before .before .before .before .before .before .loop .i in
-    sym (c .before .before .before .before .before .before .before .loop .inv .1 ∙ stand-none _ b i (c .before .before .before .before .before .before .loop-test .taken) (cut-here b i _ (c .before .before .before .before .measure-at .ensures) _ (c .before .before .m .given .1) (c .if1 .taken)))
+returns-2 c =
+    let told = c .before .before in
+    let top = told .before .before .before .before .before in
+    let b = top .before .before .args .batch .now in
+    let cut = cut-here b (top .loop .i) _ (told .before .before .measure-at .ensures) _ (told .m .given .1) (c .if1 .taken) in
+    sym (top .loop .inv .1 ∙ stand-none _ b (top .loop .i) (told .before .before .before .before .loop-test .taken) cut)
 
 returns-3 : tie.Need-returns-3 Inv-loop μ-loop
-returns-3 c = let b = c .before .before .before .before .before .before .before .before .before .before .args .batch .now in let i = c .before .before .before .before .before .before .before .before .loop .i in
-    sym (c .before .before .before .before .before .before .before .before .loop .inv .1 ∙ stand-above _ b i _ (c .before .if1 .left) (more-here b i _ (c .before .before .before .before .before .measure-at .ensures) _ (c .before .before .before .m .given .1) (c .before .if1 .left)) (c .if2 .taken))
+returns-3 c =
+    let told = c .before .before .before in
+    let top = told .before .before .before .before .before in
+    let b = top .before .before .args .batch .now in
+    let more = more-here b (top .loop .i) _ (told .before .before .measure-at .ensures) _ (told .m .given .1) (c .before .if1 .left) in
+    sym (top .loop .inv .1 ∙ stand-above _ b (top .loop .i) _ (c .before .if1 .left) more (c .if2 .taken))
 
 add-i : tie.Need-add-i Inv-loop μ-loop
 add-i c = search needs
 
 loop-less : tie.Need-loop-less Inv-loop μ-loop
-loop-less c = let h = long-here (c .before .before .before .before .before .before .before .before .before .before .args .batch .now) (c .before .before .before .before .before .before .before .before .loop .i) _ (c .before .before .before .before .before .measure-at .ensures) _ (c .before .before .before .m .given .1) in omega arith
+loop-less c =
+    let told = c .before .before .before in
+    let top = told .before .before .before .before .before in
+    let long = long-here (top .before .before .args .batch .now) (top .loop .i) _ (told .before .before .measure-at .ensures) _ (told .m .given .1) in
+    omega arith
 
 loop-again : tie.Need-loop-again Inv-loop μ-loop
-loop-again c = let b = c .before .before .before .before .before .before .before .before .before .before .args .batch .now in let i = c .before .before .before .before .before .before .before .before .loop .i in
-    (search needs, c .before .before .before .before .before .before .before .before .loop .inv .1 ∙ stand-more _ b i _ (c .before .if1 .left) (more-here b i _ (c .before .before .before .before .before .measure-at .ensures) _ (c .before .before .before .m .given .1) (c .before .if1 .left)) (c .if2 .left))
+loop-again c =
+    let told = c .before .before .before in
+    let top = told .before .before .before .before .before in
+    let b = top .before .before .args .batch .now in
+    let more = more-here b (top .loop .i) _ (told .before .before .measure-at .ensures) _ (told .m .given .1) (c .before .if1 .left) in
+    (search needs, top .loop .inv .1 ∙ stand-more _ b (top .loop .i) _ (c .before .if1 .left) more (c .if2 .left))
 
 returns-4 : tie.Need-returns-4 Inv-loop μ-loop
-returns-4 c = sym (c .before .loop .inv .1 ∙ stand-end _ (c .before .before .before .args .batch .now) (c .before .loop .i) (c .loop-test .left))
+returns-4 c =
+    let top = c .before in
+    sym (top .loop .inv .1 ∙ stand-end _ (top .before .before .args .batch .now) (top .loop .i) (c .loop-test .left))
 
 pub back-to-back-spec : {M : Type 1} → statement M
 back-to-back-spec =

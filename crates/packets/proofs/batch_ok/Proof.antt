@@ -19,7 +19,9 @@ enum-told c = search needs
 
 returns-2 : tie.Need-returns-2
 unfolding batchOk all
-returns-2 c = let b = c .before .before .before .before .before .args .batch .now in rw (c .before .enum-told .given .1, le-leb 1 (length b) (omega arith), lt-leb (length b) 32768 (c .if2 .taken))
+returns-2 c =
+    let b = c .before .before .before .before .before .args .batch .now in
+    rw (c .before .enum-told .given .1, le-leb 1 (length b) (omega arith), lt-leb (length b) 32768 (c .if2 .taken))
 
 back-to-back-requires : tie.Need-back-to-back-requires
 back-to-back-requires c κs = search needs
@@ -29,11 +31,16 @@ enum-told-2 c = search needs
 
 returns-3 : tie.Need-returns-3
 unfolding batchOk all
-returns-3 c = let b = c .before .before .before .before .before .before .args .batch .now in c .back-to-back .ensures ∙ rw (c .before .before .enum-told .given .1, le-leb 1 (length b) (omega arith), le-leb (length b) 32768 (c .before .if2 .left))
+returns-3 c =
+    let b = c .before .before .before .before .before .before .args .batch .now in
+    c .back-to-back .ensures
+    ∙ rw (c .before .before .enum-told .given .1, le-leb 1 (length b) (omega arith), le-leb (length b) 32768 (c .before .if2 .left))
 
 returns-4 : tie.Need-returns-4
 unfolding batchOk all
-returns-4 c = let b = c .before .before .before .before .args .batch .now in rw (c .enum-told2 .given .1, le-leb 1 (length b) (omega arith)) (sym (and-true _))
+returns-4 c =
+    let b = c .before .before .before .before .args .batch .now in
+    rw (c .enum-told2 .given .1, le-leb 1 (length b) (omega arith)) (sym (and-true _))
 
 pub batch-ok-spec : {M : Type 1} → statement M
 batch-ok-spec =

@@ -14,25 +14,34 @@ unfolding endFate
 returns c = simp (lt-leb _ _ (c .if1 .taken))
 
 returns-2 : tie.Need-returns-2
-returns-2 c = let a = c .before .before .args in sym (end-sooner (a .longest) (a .on) (a .size) (a .h + a .n) (a .done) (omega arith))
+returns-2 c =
+    let a = c .before .before .args in
+    sym (end-sooner (a .longest) (a .on) (a .size) (a .h + a .n) (a .done) (omega arith))
 
 returns-3 : tie.Need-returns-3
 unfolding endFate
-returns-3 c = let a = c .before .before .before .args in let e : a .size ≡ a .h + a .n = omega arith in simp (le-leb _ _ (c .before .before .if1 .left), eq-eqb _ _ e)
+returns-3 c =
+    let a = c .before .before .before .args in
+    let e : a .size ≡ a .h + a .n = omega arith in
+    simp (le-leb _ _ (c .before .before .if1 .left), eq-eqb _ _ e)
 
 returns-4 : tie.Need-returns-4
 unfolding endFate
-returns-4 c = let a = c .before .before .before .before .before .args in
+returns-4 c =
+    let a = c .before .before .before .before .before .args in
     let e : (a .size ≡ a .h + a .n → ⊥) = λ e. omega arith in
     let h : a .h + a .n < a .size = omega arith in
     simp (le-leb _ _ (c .before .before .before .before .if1 .left), ne-eqb _ _ e, c .before .if4 .taken, lt-ltb _ _ h)
 
 returns-5 : tie.Need-returns-5
-returns-5 c = let a = c .before .before .before .before .before .args in sym (end-sooner (a .longest) (a .on) (a .size) (a .h + a .n) (a .done) (omega arith))
+returns-5 c =
+    let a = c .before .before .before .before .before .args in
+    sym (end-sooner (a .longest) (a .on) (a .size) (a .h + a .n) (a .done) (omega arith))
 
 returns-6 : tie.Need-returns-6
 unfolding endFate
-returns-6 c = let a = c .before .before .before .before .args in
+returns-6 c =
+    let a = c .before .before .before .before .args in
     let e : (a .size ≡ a .h + a .n → ⊥) = λ e. omega arith in
     simp (le-leb _ _ (c .before .before .before .if1 .left), ne-eqb _ _ e, c .if4 .left)
 

@@ -17,16 +17,19 @@ div-result : tie.Need-div-result
 div-result c = search needs
 
 returns-2 : tie.Need-returns-2
-returns-2 c = frames-full (c .before .before .args .z) (c .before .before .args .n) (omega arith) (c .if2 .taken)
+returns-2 c = let a = c .before .before .args in frames-full (a .z) (a .n) (omega arith) (c .if2 .taken)
 
 div-result-2 : tie.Need-div-result-2
 div-result-2 c = search needs
 
 add-result : tie.Need-add-result
-add-result c = let h = frames-below (c .before .before .args .z) (c .before .before .args .n) (omega arith) (c .if2 .left) in record { fits = omega arith }
+add-result c =
+    let a = c .before .before .args in
+    let h = frames-below (a .z) (a .n) (omega arith) (c .if2 .left) in
+    record { fits = omega arith }
 
 returns-3 : tie.Need-returns-3
-returns-3 c = frames-rest (c .before .before .args .z) (c .before .before .args .n) (omega arith) (c .if2 .left)
+returns-3 c = let a = c .before .before .args in frames-rest (a .z) (a .n) (omega arith) (c .if2 .left)
 
 pub frames-of-spec : {M : Type 1} → statement M
 frames-of-spec =

@@ -22,7 +22,9 @@ measured-of-requires c κs = search needs
 
 returns : tie.Need-returns
 unfolding measure
-returns c = c .measured-of .ensures ∙ rw (c .before .before .before .before .octet .ensures, c .before .before .before .octet2 .ensures, c .before .before .octet3 .ensures, c .before .octet4 .ensures)
+returns c =
+    c .measured-of .ensures
+    ∙ rw (c .before .before .before .before .octet .ensures, c .before .before .before .octet2 .ensures, c .before .before .octet3 .ensures, c .before .octet4 .ensures)
 
 pub measure-at-spec : {M : Type 1} → statement M
 measure-at-spec =

@@ -19,7 +19,9 @@ sized-of-requires c κs = search needs
 
 returns-3 : tie.Need-returns-3
 unfolding measured
-returns-3 c = c .sized-of .ensures ∙ simp (ne-eqb _ _ (c .before .before .before .if1 .left), eq-eqb _ _ (c .before .before .if2 .taken), le-ltb _ _ (c .before .if3 .left))
+returns-3 c =
+    c .sized-of .ensures
+    ∙ simp (ne-eqb _ _ (c .before .before .before .if1 .left), eq-eqb _ _ (c .before .before .if2 .taken), le-ltb _ _ (c .before .if3 .left))
 
 returns-4 : tie.Need-returns-4
 unfolding measured

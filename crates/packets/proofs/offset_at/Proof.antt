@@ -14,7 +14,9 @@ start-from-requires c κs = search needs
 
 returns : tie.Need-returns
 unfolding offsetOf
-returns c = rw (c .before .before .enum-told .given .1, mul-one (c .before .before .before .before .before .args .from)) (omega (arith, c .before .start-from .ensures))
+returns c =
+    let from = c .before .before .before .before .before .args .from in
+    rw (c .before .before .enum-told .given .1, mul-one from) (omega (arith, c .before .start-from .ensures))
 
 sub-result : tie.Need-sub-result
 sub-result c = search needs
@@ -24,7 +26,7 @@ enum-told-2 c = search needs
 
 returns-2 : tie.Need-returns-2
 unfolding offsetOf
-returns-2 c = rw (c .before .enum-told2 .given .1, mul-one (c .before .before .before .before .args .from)) (omega arith)
+returns-2 c = let from = c .before .before .before .before .args .from in rw (c .before .enum-told2 .given .1, mul-one from) (omega arith)
 
 sub-result-2 : tie.Need-sub-result-2
 sub-result-2 c = search needs
@@ -34,11 +36,13 @@ sub-result-3 c = search needs
 
 returns-3 : tie.Need-returns-3
 unfolding offsetOf
-returns-3 c = rw (c .before .before .enum-told .given .1, mul-one (c .before .before .before .before .before .args .from)) (omega (arith, c .before .start-from .ensures))
+returns-3 c =
+    let from = c .before .before .before .before .before .args .from in
+    rw (c .before .before .enum-told .given .1, mul-one from) (omega (arith, c .before .start-from .ensures))
 
 returns-4 : tie.Need-returns-4
 unfolding offsetOf
-returns-4 c = rw (c .before .enum-told2 .given .1, mul-one (c .before .before .before .before .args .from)) (omega arith)
+returns-4 c = let from = c .before .before .before .before .args .from in rw (c .before .enum-told2 .given .1, mul-one from) (omega arith)
 
 pub offset-at-spec : {M : Type 1} → statement M
 offset-at-spec =

@@ -35,28 +35,46 @@ enum-known-m : tie.Need-enum-known-m Inv-loop μ-loop
 enum-known-m c = search needs
 
 returns : tie.Need-returns Inv-loop μ-loop
-returns c = let b = c .before .before .before .before .before .before .args .batch .now in let i = c .before .before .before .before .loop .i in
-    sym (c .before .before .before .before .loop .inv .1 ∙ start-none b (c .before .before .before .before .before .before .args .n) i (none-here b i _ (c .before .measure-at .ensures) (c .match .keys2)))
+returns c =
+    let top = c .before .before .before .before in
+    let a = top .before .before .args in
+    let none = none-here (a .batch .now) (top .loop .i) _ (c .before .measure-at .ensures) (c .match .keys2) in
+    sym (top .loop .inv .1 ∙ start-none (a .batch .now) (a .n) (top .loop .i) none)
 
 sub-if1 : tie.Need-sub-if1 Inv-loop μ-loop
 sub-if1 c = search needs
 
 returns-2 : tie.Need-returns-2 Inv-loop μ-loop
-returns-2 c = let b = c .before .before .before .before .before .before .before .before .before .args .batch .now in let i = c .before .before .before .before .before .before .before .loop .i in
-    sym (c .before .before .before .before .before .before .before .loop .inv .1 ∙ start-none b (c .before .before .before .before .before .before .before .before .before .args .n) i (cut-here b i _ (c .before .before .before .before .measure-at .ensures) _ (c .before .before .m .given .1) (c .if1 .taken)))
+returns-2 c =
+    let told = c .before .before in
+    let top = told .before .before .before .before .before in
+    let a = top .before .before .args in
+    let cut = cut-here (a .batch .now) (top .loop .i) _ (told .before .before .measure-at .ensures) _ (told .m .given .1) (c .if1 .taken) in
+    sym (top .loop .inv .1 ∙ start-none (a .batch .now) (a .n) (top .loop .i) cut)
 
 add-i : tie.Need-add-i Inv-loop μ-loop
 add-i c = search needs
 
 loop-less : tie.Need-loop-less Inv-loop μ-loop
-loop-less c = let h = long-here (c .before .before .before .before .before .before .before .before .before .args .batch .now) (c .before .before .before .before .before .before .before .loop .i) _ (c .before .before .before .before .measure-at .ensures) _ (c .before .before .m .given .1) in omega arith
+loop-less c =
+    let told = c .before .before in
+    let top = told .before .before .before .before .before in
+    let long = long-here (top .before .before .args .batch .now) (top .loop .i) _ (told .before .before .measure-at .ensures) _ (told .m .given .1) in
+    omega arith
 
 loop-again : tie.Need-loop-again Inv-loop μ-loop
-loop-again c = let b = c .before .before .before .before .before .before .before .before .before .args .batch .now in let i = c .before .before .before .before .before .before .before .loop .i in
-    (search needs, c .before .before .before .before .before .before .before .loop .inv .1 ∙ start-more b (c .before .before .before .before .before .before .before .before .before .args .n) i (c .before .before .before .before .before .before .loop-test .taken) _ (c .if1 .left) (more-here b i _ (c .before .before .before .before .measure-at .ensures) _ (c .before .before .m .given .1) (c .if1 .left)))
+loop-again c =
+    let told = c .before .before in
+    let top = told .before .before .before .before .before in
+    let a = top .before .before .args in
+    let more = more-here (a .batch .now) (top .loop .i) _ (told .before .before .measure-at .ensures) _ (told .m .given .1) (c .if1 .left) in
+    (search needs, top .loop .inv .1 ∙ start-more (a .batch .now) (a .n) (top .loop .i) (told .before .before .before .before .loop-test .taken) _ (c .if1 .left) more)
 
 returns-3 : tie.Need-returns-3 Inv-loop μ-loop
-returns-3 c = sym (c .before .loop .inv .1 ∙ start-end (c .before .before .before .args .batch .now) (c .before .before .before .args .n) (c .before .loop .i) (c .loop-test .left))
+returns-3 c =
+    let top = c .before in
+    let a = top .before .before .args in
+    sym (top .loop .inv .1 ∙ start-end (a .batch .now) (a .n) (top .loop .i) (c .loop-test .left))
 
 pub start-from-spec : {M : Type 1} → statement M
 start-from-spec =
