@@ -347,7 +347,7 @@ module _ (s : Setting) (g : Good s) (l : ℕ) (lh : l < s .numbered) (k : ℕ) (
 
 -- ---- a frame of a batch
 
-pointer-small : (z n : ℕ) → z ≤ 4096 → pointerTo (inside z n) < 65536
+pub pointer-small : (z n : ℕ) → z ≤ 4096 → pointerTo (inside z n) < 65536
 unfolding inside
 pointer-small z n h = go (n <? z) refl
   where
@@ -381,7 +381,7 @@ rule-fits Access i = go (i =? 0)
     go true = refl
     go false = refl
 
-zone-small : (s : Setting) → Good s → (c : Channel) → zone s c ≤ 4096
+pub zone-small : (s : Setting) → Good s → (c : Channel) → zone s c ≤ 4096
 unfolding zone
 zone-small s g c = omega (arith, g .high)
 

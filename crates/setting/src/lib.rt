@@ -22,7 +22,7 @@ fn less(a: usize, b: usize) -> usize
 }
 
 // How many octets the OCF of a channel's frames has.
-fn ocf_octets(c: Channel) -> usize
+pub fn ocf_octets(c: Channel) -> usize
     ensures { λ r. ⌜ r ≡ ocfOctets c ⌝ }
 {
     if c.ocf {
