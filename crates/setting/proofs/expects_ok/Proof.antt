@@ -1,13 +1,14 @@
 use mathlib.Core.Path.{_≡_, refl, sym, ap, _∙_}
 use borrow.Author.Needs.{needs}
+use borrow.Author.Tests.{le-leb, lt-leb, lt-ltb, le-ltb, eq-eqb, ne-eqb}
+use Rattle.rules.specs.Tests.{_<?_, _≤?_, _=?_, every}
+use Rattle.setting.proofs.Loops.{stops, ends, finds, misses}
 use native.Mathlib.Omega.{arith}
-use mathlib.Core.Bool.{true}
+use mathlib.Core.Bool.{true, false, _&&_}
 use borrow.Author.Count.{below-none, below-more}
-use Rattle.rules.proofs.Tests.{at-every, every-not}
-use Rattle.rules.specs.Tests.{_<?_, _≤?_}
+use Prim.Native.Nat.{ℕ, _^_, _-_, _≤_, _<_}
 use Rattle.rules.proofs.Valid.{good}
 use Rattle.rules.specs.Settings.{channel, expect}
-use Prim.Native.Nat.{ℕ, _^_, _-_, _≤_, _<_}
 use Rattle.setting.proofs.expects_ok.Statement.{statement}
 use Rattle.setting.proofs.expects_ok.Tie as tie
 use Rattle.setting.proofs.expects_ok.Reads as reads
@@ -20,49 +21,41 @@ Inv-loop r s n i₀ i = (n ≤ 8) × ((k : ℕ) → k < i → ((expect r k) .cou
 abbrev μ-loop : tie.MeasureT-loop
 μ-loop r s n i₀ i = n - i
 
--- src/lib.rt:342:5
+-- src/lib.rt:339:5
 loop-holds : tie.Need-loop-holds Inv-loop μ-loop
 loop-holds c = (good _ (c .before .pre) .listed, below-none _)
 
--- src/lib.rt:343:17
-mul-c : tie.Need-mul-c Inv-loop μ-loop
-mul-c c = search needs
-
--- src/lib.rt:343:17
-element-copy-out-c : tie.Need-element-copy-out-c Inv-loop μ-loop
-element-copy-out-c c = search needs
-
--- src/lib.rt:344:17
+-- src/lib.rt:340:17
 mul-e : tie.Need-mul-e Inv-loop μ-loop
 mul-e c = search needs
 
--- src/lib.rt:344:17
+-- src/lib.rt:340:17
 element-copy-out-e : tie.Need-element-copy-out-e Inv-loop μ-loop
 element-copy-out-e c = search needs
 
--- src/lib.rt:345:13
+-- src/lib.rt:341:13
 count-ok-requires : tie.Need-count-ok-requires Inv-loop μ-loop
-count-ok-requires c κs = good _ (c .before .before .before .before .before .pre) .channels (c .before .before .before .loop .i) (c .before .before .loop-test .taken) .seven
+count-ok-requires c κs = (c .before .before .before .before .pre, c .before .loop-test .taken)
 
--- src/lib.rt:347:13
+-- src/lib.rt:343:13
 add-i : tie.Need-add-i Inv-loop μ-loop
 add-i c = search needs
 
--- src/lib.rt:342:5
+-- src/lib.rt:339:5
 loop-less : tie.Need-loop-less Inv-loop μ-loop
 loop-less c = search needs
 
--- src/lib.rt:342:5
+-- src/lib.rt:339:5
 loop-again : tie.Need-loop-again Inv-loop μ-loop
-loop-again c = (c .before .before .before .before .before .loop .inv .0, below-more _ _ (c .before .before .before .before .before .loop .inv .1) (sym (c .before .count-ok .ensures) ∙ c .if1 .taken))
+loop-again c = let l = c .before .before .before .before .loop in (l .inv .0, below-more _ _ (l .inv .1) (sym (c .before .count-ok .ensures) ∙ c .if1 .taken))
 
--- src/lib.rt:349:13
+-- src/lib.rt:345:13
 returns : tie.Need-returns Inv-loop μ-loop
-returns c = sym (every-not _ _ (c .before .before .before .before .before .loop .i) (c .before .before .before .before .loop-test .taken) (sym (c .before .count-ok .ensures) ∙ c .if1 .left))
+returns c = stops _ _ _ (c .before .before .before .loop-test .taken) (sym (c .before .count-ok .ensures) ∙ c .if1 .left)
 
--- src/lib.rt:335:1
+-- src/lib.rt:332:1
 returns-2 : tie.Need-returns-2 Inv-loop μ-loop
-returns-2 c = sym (at-every _ _ (λ k h. c .before .loop .inv .1 k (omega arith)))
+returns-2 c = ends _ _ _ (c .loop-test .left) (c .before .loop .inv .1)
 
 pub expects-ok-spec : {M : Type 1} → statement M
 expects-ok-spec =
@@ -71,8 +64,6 @@ expects-ok-spec =
     Inv-loop
     μ-loop
     loop-holds
-    mul-c
-    element-copy-out-c
     mul-e
     element-copy-out-e
     count-ok-requires

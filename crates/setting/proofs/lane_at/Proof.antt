@@ -1,3 +1,8 @@
+use borrow.Author.Tests.{le-leb, lt-leb, lt-ltb, le-ltb, eq-eqb, ne-eqb}
+use Rattle.rules.specs.Tests.{_<?_, _≤?_, _=?_, every}
+use Rattle.setting.proofs.Loops.{stops, ends, finds, misses}
+use mathlib.Core.Bool.{true, false, _&&_}
+use Prim.Native.Nat.{ℕ, _^_, _-_, _≤_, _<_}
 use mathlib.Core.Path.{_≡_, refl, sym, ap, _∙_}
 use borrow.Author.Needs.{needs}
 use Prim.Native.Nat.{ℕ, _-_, _<_}
@@ -39,7 +44,7 @@ lane-is-requires c κs = search needs
 -- src/lib.rt:358:13
 returns : tie.Need-returns Inv-loop μ-loop
 unfolding laneAt
-returns c = sym (first-at _ _ (c .before .before .before .before .loop .i) (c .before .before .before .loop-test .taken) (sym (c .before .lane-is .ensures) ∙ c .if1 .taken) (c .before .before .before .before .loop .inv))
+returns c = finds _ _ _ (c .before .before .before .loop-test .taken) (sym (c .before .lane-is .ensures) ∙ c .if1 .taken) (c .before .before .before .before .loop .inv)
 
 -- src/lib.rt:360:9
 add-i : tie.Need-add-i Inv-loop μ-loop
@@ -56,7 +61,7 @@ loop-again c = below-more _ _ (c .before .before .before .before .loop .inv) (sy
 -- src/lib.rt:348:1
 returns-2 : tie.Need-returns-2 Inv-loop μ-loop
 unfolding laneAt
-returns-2 c = sym (first-none _ _ (λ k h. c .before .loop .inv k (omega arith)))
+returns-2 c = misses _ _ _ (c .loop-test .left) (c .before .loop .inv)
 
 pub lane-at-spec : {M : Type 1} → statement M
 lane-at-spec =

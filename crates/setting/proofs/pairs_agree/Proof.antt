@@ -1,3 +1,9 @@
+use borrow.Author.Tests.{le-leb, lt-leb, lt-ltb, le-ltb, eq-eqb, ne-eqb}
+use Rattle.rules.specs.Tests.{_<?_, _≤?_, _=?_, every}
+use Rattle.setting.proofs.Loops.{stops, ends, finds, misses}
+use mathlib.Core.Bool.{true, false, _&&_}
+use Prim.Native.Nat.{ℕ, _^_, _-_, _≤_, _<_}
+use Rattle.rules.proofs.Valid.{good}
 use mathlib.Core.Path.{_≡_, refl, sym, ap, _∙_}
 use borrow.Author.Needs.{needs}
 use Prim.Native.Nat.{ℕ, _-_, _<_}
@@ -37,15 +43,15 @@ loop-less c = search needs
 
 -- src/lib.rt:151:5
 loop-again : tie.Need-loop-again Inv-loop μ-loop
-loop-again c = below-more _ _ (c .before .before .before .loop .inv) (sym (c .before .agrees-before .ensures) ∙ c .if1 .taken)
+loop-again c = let l = c .before .before .before .loop in below-more _ _ (l .inv) (sym (c .before .agrees-before .ensures) ∙ c .if1 .taken)
 
 -- src/lib.rt:156:13
 returns : tie.Need-returns Inv-loop μ-loop
-returns c = sym (every-not _ _ (c .before .before .before .loop .i) (c .before .before .loop-test .taken) (sym (c .before .agrees-before .ensures) ∙ c .if1 .left))
+returns c = stops _ _ _ (c .before .before .loop-test .taken) (sym (c .before .agrees-before .ensures) ∙ c .if1 .left)
 
 -- src/lib.rt:145:1
 returns-2 : tie.Need-returns-2 Inv-loop μ-loop
-returns-2 c = sym (at-every _ _ (λ k h. c .before .loop .inv k (omega arith)))
+returns-2 c = ends _ _ _ (c .loop-test .left) (c .before .loop .inv)
 
 pub pairs-agree-spec : {M : Type 1} → statement M
 pairs-agree-spec =
