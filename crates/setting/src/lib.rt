@@ -8,8 +8,14 @@ ghost use Rattle.rules.specs.Settings.{ocfOctets, checkOctets, zone, rangesOk, 
 ghost use Rattle.rules.specs.Settings.{kindOk, laneOk, lanesDiffer, lanesOk, settingOk, readerOk, writerOk};
 ghost use Rattle.rules.specs.Settings.{freshReader, freshWriter, noSetting, noReader, noWriter};
 ghost use Rattle.rules.specs.Refusals.{channelAt, laneAt};
-
-use rules::{Kind, Channel, Lane, Setting, Expect, Reader, Writer, Place};
+use rules::Channel;
+use rules::Expect;
+use rules::Kind;
+use rules::Lane;
+use rules::Place;
+use rules::Reader;
+use rules::Setting;
+use rules::Writer;
 
 // `a` less `b`, and 0 where `b` is more.
 fn less(a: usize, b: usize) -> usize
