@@ -8,8 +8,14 @@ ghost use Rattle.rules.specs.Settings.{ocfOctets, checkOctets, zone, rangesOk, 
 ghost use Rattle.rules.specs.Settings.{kindOk, laneOk, lanesDiffer, lanesOk, settingOk, readerOk, writerOk};
 ghost use Rattle.rules.specs.Settings.{freshReader, freshWriter, noSetting, noReader, noWriter};
 ghost use Rattle.rules.specs.Refusals.{channelAt, laneAt};
-
-use rules::{Kind, Channel, Lane, Setting, Expect, Reader, Writer, Place};
+use rules::Channel;
+use rules::Expect;
+use rules::Kind;
+use rules::Lane;
+use rules::Place;
+use rules::Reader;
+use rules::Setting;
+use rules::Writer;
 
 // `a` less `b`, and 0 where `b` is more.
 fn less(a: usize, b: usize) -> usize
@@ -180,21 +186,18 @@ fn channels_ok(s: Setting) -> bool
 fn kind_ok(k: Kind, longest: usize, upid: u8) -> bool
     ensures { λ r. ⌜ r ≡ kindOk k longest upid ⌝ }
 {
+    if 8192 < longest {
+        return false;
+    }
     match k {
         Kind::Packets => {
             if longest < 7 {
-                return false;
-            }
-            if 8192 < longest {
                 return false;
             }
             return upid == 0;
         }
         Kind::Access => {
             if longest < 1 {
-                return false;
-            }
-            if 8192 < longest {
                 return false;
             }
             if upid < 1 {
@@ -259,12 +262,12 @@ fn differs_before(s: Setting, i: usize) -> bool
     ensures { λ r. ⌜ r ≡ every i (λ j. lanesDiffer (lane s j) (lane s i)) ⌝ }
 {
     let b = s.lanes[i];
-    let mut j: usize = 0;
-    while j < i {
-        let a = s.lanes[j];
+    let mut k: usize = 0;
+    while k < i {
+        let a = s.lanes[k];
         let ok = lanes_differ(a, b);
         if ok {
-            j += 1;
+            k += 1;
         } else {
             return false;
         }
@@ -321,11 +324,12 @@ pub fn setting_ok(s: Setting) -> bool
     false
 }
 
-// Whether a count of n octets, the channel's, is below 256^n.
-fn count_ok(c: Channel, x: u64) -> bool
-    requires { ⌜ c .octets ≤ 7 ⌝ }
-    ensures { λ r. ⌜ r ≡ (x <? 256 ^ c .octets) ⌝ }
+// Whether a count is below 256^n, n the octets of channel i.
+fn count_ok(s: Setting, i: usize, x: u64) -> bool
+    requires { ⌜ (settingOk s ≡ true) × (i < s .listed) ⌝ }
+    ensures { λ r. ⌜ r ≡ (x <? 256 ^ (channel s i) .octets) ⌝ }
 {
+    let c = s.channels[i];
     let m = octets::modulus(c.octets);
     x < m
 }
@@ -339,9 +343,8 @@ fn expects_ok(r: Reader) -> bool
     let n = s.listed;
     let mut i: usize = 0;
     while i < n {
-        let c = s.channels[i];
         let e = r.expects[i];
-        let ok = count_ok(c, e.count);
+        let ok = count_ok(s, i, e.count);
         if ok {
             i += 1;
         } else {
@@ -395,9 +398,8 @@ fn counts_ok(w: Writer) -> bool
     let n = s.listed;
     let mut i: usize = 0;
     while i < n {
-        let c = s.channels[i];
         let x = w.counts[i];
-        let ok = count_ok(c, x);
+        let ok = count_ok(s, i, x);
         if ok {
             i += 1;
         } else {

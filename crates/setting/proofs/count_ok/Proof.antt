@@ -1,21 +1,28 @@
-use mathlib.Core.Path.{_≡_, refl, sym, ap, _∙_}
+-- `setting::count_ok` meets its contract: a valid setting has at most 8 channels and at most 7 octets to a count, so that 256^n
+-- is below 2^64.
+use mathlib.Core.Path.{refl, sym, ap, _∙_}
 use native.Mathlib.Omega.{arith}
-use Rattle.octets.proofs.Turns.{modulus-all}
 use lib.Dec.{ltb}
 use borrow.Author.Needs.{needs}
+use Rattle.rules.proofs.Valid.{good}
+use Rattle.octets.proofs.Turns.{modulus-all}
 use Rattle.setting.proofs.count_ok.Statement.{statement}
 use Rattle.setting.proofs.count_ok.Tie as tie
-use Rattle.setting.proofs.count_ok.Reads as reads
-use Rattle.setting.proofs.count_ok.Lts as lts
-use Rattle.octets.proofs.modulus.Reads as modulus-reads
 
--- src/lib.rt:330:9
+mul-c : tie.Need-mul-c
+mul-c c = omega (arith, good _ (c .pre .0) .listed)
+
+element-copy-out-c : tie.Need-element-copy-out-c
+element-copy-out-c c = omega (arith, good _ (c .pre .0) .listed)
+
 modulus-requires : tie.Need-modulus-requires
 modulus-requires c κs = search needs
 
--- src/lib.rt:326:1
 returns : tie.Need-returns
-returns c = let n = c .before .args .c .octets in ap (ltb (c .before .args .x)) (c .modulus .ensures ∙ sym (modulus-all n _ n (omega arith) (omega arith) (omega arith) refl))
+returns c =
+    let a = c .before .before in
+    let h = good _ (a .pre .0) .channels (a .args .i) (a .pre .1) .seven in
+    ap (ltb (a .args .x)) (c .modulus .ensures ∙ sym (modulus-all _ _ _ (omega arith) (omega arith) (omega arith) refl))
 
 pub count-ok-spec : {M : Type 1} → statement M
-count-ok-spec = tie.close (tie.spec modulus-requires returns)
+count-ok-spec = tie.close (tie.spec mul-c element-copy-out-c modulus-requires returns)

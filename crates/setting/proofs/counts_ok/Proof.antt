@@ -1,18 +1,16 @@
-use mathlib.Core.Path.{_≡_, refl, sym, ap, _∙_}
-use borrow.Author.Needs.{needs}
-use native.Mathlib.Omega.{arith}
+-- `setting::counts_ok` meets its contract: the loop keeps that each channel before i has a count below its 256^n. A valid
+-- setting has at most 8 channels.
+use Prim.Native.Nat.{ℕ, _^_, _-_, _≤_, _<_}
+use mathlib.Core.Path.{_≡_, sym, _∙_}
 use mathlib.Core.Bool.{true}
+use borrow.Author.Needs.{needs}
 use borrow.Author.Count.{below-none, below-more}
-use Rattle.rules.proofs.Tests.{at-every, every-not}
-use Rattle.rules.specs.Tests.{_<?_, _≤?_}
+use Rattle.rules.specs.Tests.{_<?_}
 use Rattle.rules.proofs.Valid.{good}
 use Rattle.rules.specs.Settings.{channel, count}
-use Prim.Native.Nat.{ℕ, _^_, _-_, _≤_, _<_}
+use Rattle.setting.proofs.Loops.{stops, ends}
 use Rattle.setting.proofs.counts_ok.Statement.{statement}
 use Rattle.setting.proofs.counts_ok.Tie as tie
-use Rattle.setting.proofs.counts_ok.Reads as reads
-use Rattle.setting.proofs.counts_ok.Lts as lts
-use Rattle.setting.proofs.count_ok.Reads as count-ok-reads
 
 abbrev Inv-loop : tie.InvT-loop
 Inv-loop w s n i₀ i = (n ≤ 8) × ((k : ℕ) → k < i → (count w k <? 256 ^ (channel s k) .octets) ≡ true)
@@ -20,49 +18,35 @@ Inv-loop w s n i₀ i = (n ≤ 8) × ((k : ℕ) → k < i → (count w k <? 256 
 abbrev μ-loop : tie.MeasureT-loop
 μ-loop w s n i₀ i = n - i
 
--- src/lib.rt:399:5
 loop-holds : tie.Need-loop-holds Inv-loop μ-loop
 loop-holds c = (good _ (c .before .pre) .listed, below-none _)
 
--- src/lib.rt:400:17
-mul-c : tie.Need-mul-c Inv-loop μ-loop
-mul-c c = search needs
-
--- src/lib.rt:400:17
-element-copy-out-c : tie.Need-element-copy-out-c Inv-loop μ-loop
-element-copy-out-c c = search needs
-
--- src/lib.rt:401:17
 mul-x : tie.Need-mul-x Inv-loop μ-loop
 mul-x c = search needs
 
--- src/lib.rt:401:17
 element-copy-out-x : tie.Need-element-copy-out-x Inv-loop μ-loop
 element-copy-out-x c = search needs
 
--- src/lib.rt:402:13
 count-ok-requires : tie.Need-count-ok-requires Inv-loop μ-loop
-count-ok-requires c κs = good _ (c .before .before .before .before .before .pre) .channels (c .before .before .before .loop .i) (c .before .before .loop-test .taken) .seven
+count-ok-requires c κs = (c .before .before .before .before .pre, c .before .loop-test .taken)
 
--- src/lib.rt:404:13
 add-i : tie.Need-add-i Inv-loop μ-loop
 add-i c = search needs
 
--- src/lib.rt:399:5
 loop-less : tie.Need-loop-less Inv-loop μ-loop
 loop-less c = search needs
 
--- src/lib.rt:399:5
 loop-again : tie.Need-loop-again Inv-loop μ-loop
-loop-again c = (c .before .before .before .before .before .loop .inv .0, below-more _ _ (c .before .before .before .before .before .loop .inv .1) (sym (c .before .count-ok .ensures) ∙ c .if1 .taken))
+loop-again c =
+    let l = c .before .before .before .before .loop in
+    (l .inv .0, below-more _ _ (l .inv .1) (sym (c .before .count-ok .ensures) ∙ c .if1 .taken))
 
--- src/lib.rt:406:13
 returns : tie.Need-returns Inv-loop μ-loop
-returns c = sym (every-not _ _ (c .before .before .before .before .before .loop .i) (c .before .before .before .before .loop-test .taken) (sym (c .before .count-ok .ensures) ∙ c .if1 .left))
+returns c =
+    stops _ _ _ (c .before .before .before .loop-test .taken) (sym (c .before .count-ok .ensures) ∙ c .if1 .left)
 
--- src/lib.rt:392:1
 returns-2 : tie.Need-returns-2 Inv-loop μ-loop
-returns-2 c = sym (at-every _ _ (λ k h. c .before .loop .inv .1 k (omega arith)))
+returns-2 c = ends _ _ _ (c .loop-test .left) (c .before .loop .inv .1)
 
 pub counts-ok-spec : {M : Type 1} → statement M
 counts-ok-spec =
@@ -71,8 +55,6 @@ counts-ok-spec =
     Inv-loop
     μ-loop
     loop-holds
-    mul-c
-    element-copy-out-c
     mul-x
     element-copy-out-x
     count-ok-requires

@@ -1,66 +1,55 @@
-use mathlib.Core.Path.{_≡_, refl, sym, ap, _∙_}
-use borrow.Author.Needs.{needs}
+-- `setting::differs_before` meets its contract: the loop keeps that each lane before k differs from lane i.
 use Prim.Native.Nat.{ℕ, _-_, _<_}
-use native.Mathlib.Omega.{arith}
+use mathlib.Core.Path.{_≡_, sym, _∙_}
 use mathlib.Core.Bool.{true}
+use borrow.Author.Needs.{needs}
 use borrow.Author.Count.{below-none, below-more}
-use Rattle.rules.proofs.Tests.{at-every, every-not}
 use Rattle.rules.specs.Settings.{lane, lanesDiffer}
+use Rattle.setting.proofs.Loops.{stops, ends}
 use Rattle.setting.proofs.differs_before.Statement.{statement}
 use Rattle.setting.proofs.differs_before.Tie as tie
-use Rattle.setting.proofs.differs_before.Reads as reads
-use Rattle.setting.proofs.differs_before.Lts as lts
-use Rattle.setting.proofs.lanes_differ.Reads as lanes-differ-reads
 
 abbrev Inv-loop : tie.InvT-loop
-Inv-loop i s b j₀ j = (k : ℕ) → k < j → lanesDiffer (lane s k) (lane s i) ≡ true
+Inv-loop i s b k₀ k = (j : ℕ) → j < k → lanesDiffer (lane s j) (lane s i) ≡ true
 
 abbrev μ-loop : tie.MeasureT-loop
-μ-loop i s b j₀ j = i - j
+μ-loop i s b k₀ k = i - k
 
--- src/lib.rt:258:13
 mul-b : tie.Need-mul-b Inv-loop μ-loop
 mul-b c = search needs
 
--- src/lib.rt:258:13
 element-copy-out-b : tie.Need-element-copy-out-b Inv-loop μ-loop
 element-copy-out-b c = search needs
 
--- src/lib.rt:260:5
 loop-holds : tie.Need-loop-holds Inv-loop μ-loop
 loop-holds c = below-none _
 
--- src/lib.rt:261:17
 mul-a : tie.Need-mul-a Inv-loop μ-loop
 mul-a c = search needs
 
--- src/lib.rt:261:17
 element-copy-out-a : tie.Need-element-copy-out-a Inv-loop μ-loop
 element-copy-out-a c = search needs
 
--- src/lib.rt:262:13
 lanes-differ-requires : tie.Need-lanes-differ-requires Inv-loop μ-loop
 lanes-differ-requires c κs = search needs
 
--- src/lib.rt:264:13
-add-j : tie.Need-add-j Inv-loop μ-loop
-add-j c = search needs
+add-k : tie.Need-add-k Inv-loop μ-loop
+add-k c = search needs
 
--- src/lib.rt:260:5
 loop-less : tie.Need-loop-less Inv-loop μ-loop
 loop-less c = search needs
 
--- src/lib.rt:260:5
 loop-again : tie.Need-loop-again Inv-loop μ-loop
-loop-again c = below-more _ _ (c .before .before .before .before .loop .inv) (sym (c .before .lanes-differ .ensures) ∙ c .if1 .taken)
+loop-again c =
+    let l = c .before .before .before .before .loop in
+    below-more _ _ (l .inv) (sym (c .before .lanes-differ .ensures) ∙ c .if1 .taken)
 
--- src/lib.rt:266:13
 returns : tie.Need-returns Inv-loop μ-loop
-returns c = sym (every-not _ _ (c .before .before .before .before .loop .j) (c .before .before .before .loop-test .taken) (sym (c .before .lanes-differ .ensures) ∙ c .if1 .left))
+returns c =
+    stops _ _ _ (c .before .before .before .loop-test .taken) (sym (c .before .lanes-differ .ensures) ∙ c .if1 .left)
 
--- src/lib.rt:254:1
 returns-2 : tie.Need-returns-2 Inv-loop μ-loop
-returns-2 c = sym (at-every _ _ (λ k h. c .before .loop .inv k (omega arith)))
+returns-2 c = ends _ _ _ (c .loop-test .left) (c .before .loop .inv)
 
 pub differs-before-spec : {M : Type 1} → statement M
 differs-before-spec =
@@ -74,7 +63,7 @@ differs-before-spec =
     mul-a
     element-copy-out-a
     lanes-differ-requires
-    add-j
+    add-k
     loop-less
     loop-again
     returns

@@ -1,16 +1,13 @@
-use mathlib.Core.Path.{_≡_, refl, sym, ap, _∙_}
-use borrow.Author.Needs.{needs}
+-- `setting::each_channel_ok` meets its contract: the loop keeps that each channel before i is in its ranges.
 use Prim.Native.Nat.{ℕ, _-_, _<_}
-use native.Mathlib.Omega.{arith}
 use mathlib.Core.Bool.{true}
+use mathlib.Core.Path.{_≡_, sym, _∙_}
+use borrow.Author.Needs.{needs}
 use borrow.Author.Count.{below-none, below-more}
-use Rattle.rules.proofs.Tests.{at-every, every-not}
 use Rattle.rules.specs.Settings.{channel, channelOk}
+use Rattle.setting.proofs.Loops.{stops, ends}
 use Rattle.setting.proofs.each_channel_ok.Statement.{statement}
 use Rattle.setting.proofs.each_channel_ok.Tie as tie
-use Rattle.setting.proofs.each_channel_ok.Reads as reads
-use Rattle.setting.proofs.each_channel_ok.Lts as lts
-use Rattle.setting.proofs.channel_ok.Reads as channel-ok-reads
 
 abbrev Inv-loop : tie.InvT-loop
 Inv-loop s n i₀ i = (k : ℕ) → k < i → channelOk s (channel s k) ≡ true
@@ -18,41 +15,35 @@ Inv-loop s n i₀ i = (k : ℕ) → k < i → channelOk s (channel s k) ≡ true
 abbrev μ-loop : tie.MeasureT-loop
 μ-loop s n i₀ i = n - i
 
--- src/lib.rt:113:5
 loop-holds : tie.Need-loop-holds Inv-loop μ-loop
 loop-holds c = below-none _
 
--- src/lib.rt:114:17
 mul-c : tie.Need-mul-c Inv-loop μ-loop
 mul-c c = search needs
 
--- src/lib.rt:114:17
 element-copy-out-c : tie.Need-element-copy-out-c Inv-loop μ-loop
 element-copy-out-c c = search needs
 
--- src/lib.rt:115:13
 channel-ok-requires : tie.Need-channel-ok-requires Inv-loop μ-loop
 channel-ok-requires c κs = search needs
 
--- src/lib.rt:117:13
 add-i : tie.Need-add-i Inv-loop μ-loop
 add-i c = search needs
 
--- src/lib.rt:113:5
 loop-less : tie.Need-loop-less Inv-loop μ-loop
 loop-less c = search needs
 
--- src/lib.rt:113:5
 loop-again : tie.Need-loop-again Inv-loop μ-loop
-loop-again c = below-more _ _ (c .before .before .before .before .loop .inv) (sym (c .before .channel-ok .ensures) ∙ c .if1 .taken)
+loop-again c =
+    let l = c .before .before .before .before .loop in
+    below-more _ _ (l .inv) (sym (c .before .channel-ok .ensures) ∙ c .if1 .taken)
 
--- src/lib.rt:119:13
 returns : tie.Need-returns Inv-loop μ-loop
-returns c = sym (every-not _ _ (c .before .before .before .before .loop .i) (c .before .before .before .loop-test .taken) (sym (c .before .channel-ok .ensures) ∙ c .if1 .left))
+returns c =
+    stops _ _ _ (c .before .before .before .loop-test .taken) (sym (c .before .channel-ok .ensures) ∙ c .if1 .left)
 
--- src/lib.rt:107:1
 returns-2 : tie.Need-returns-2 Inv-loop μ-loop
-returns-2 c = sym (at-every _ _ (λ k h. c .before .loop .inv k (omega arith)))
+returns-2 c = ends _ _ _ (c .loop-test .left) (c .before .loop .inv)
 
 pub each-channel-ok-spec : {M : Type 1} → statement M
 each-channel-ok-spec =

@@ -1,17 +1,12 @@
-use mathlib.Core.Path.{_≡_, refl, sym, ap, _∙_}
-use Rattle.rules.specs.Settings.{freshReader}
+-- `setting::fresh_reader` meets its contract: the list of what is expected is eight times nothing.
 use borrow.Author.Needs.{needs}
+use Rattle.rules.specs.Settings.{freshReader}
 use Rattle.setting.proofs.fresh_reader.Statement.{statement}
 use Rattle.setting.proofs.fresh_reader.Tie as tie
-use Rattle.setting.proofs.fresh_reader.Reads as reads
-use Rattle.setting.proofs.fresh_reader.Lts as lts
-use Rattle.setting.proofs.no_expect.Reads as no-expect-reads
 
--- src/lib.rt:425:9
 no-expect-requires : tie.Need-no-expect-requires
 no-expect-requires c κs = search needs
 
--- src/lib.rt:422:1
 returns : tie.Need-returns
 unfolding freshReader
 returns c = rw (c .no-expect .ensures)

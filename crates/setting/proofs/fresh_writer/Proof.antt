@@ -1,11 +1,9 @@
-use mathlib.Core.Path.{_≡_, refl, sym, ap, _∙_}
+-- `setting::fresh_writer` meets its contract: the struct is the rule written out.
+use mathlib.Core.Path.{refl}
 use Rattle.rules.specs.Settings.{freshWriter}
 use Rattle.setting.proofs.fresh_writer.Statement.{statement}
 use Rattle.setting.proofs.fresh_writer.Tie as tie
-use Rattle.setting.proofs.fresh_writer.Reads as reads
-use Rattle.setting.proofs.fresh_writer.Lts as lts
 
--- src/lib.rt:435:1
 returns : tie.Need-returns
 unfolding freshWriter
 returns c = refl

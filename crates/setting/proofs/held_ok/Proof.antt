@@ -1,17 +1,15 @@
-use mathlib.Core.Path.{_≡_, refl, sym, ap, _∙_}
-use borrow.Author.Needs.{needs}
-use native.Mathlib.Omega.{arith}
-use mathlib.Core.Bool.{true}
-use borrow.Author.Count.{below-none, below-more}
-use Rattle.rules.proofs.Tests.{at-every, every-not}
-use Rattle.rules.specs.Tests.{_<?_, _≤?_}
-use Rattle.rules.specs.Settings.{lane, heldBy}
-use borrow.Author.Tests.{lt-ltb, le-ltb}
+-- `setting::held_ok` meets its contract: the loop keeps that each lane before i holds fewer octets than its longest unit.
 use Prim.Native.Nat.{ℕ, _-_, _<_}
+use mathlib.Core.Bool.{true}
+use mathlib.Core.Path.{_≡_}
+use borrow.Author.Tests.{lt-ltb, le-ltb}
+use borrow.Author.Needs.{needs}
+use borrow.Author.Count.{below-none, below-more}
+use Rattle.rules.specs.Tests.{_<?_}
+use Rattle.rules.specs.Settings.{lane, heldBy}
+use Rattle.setting.proofs.Loops.{stops, ends}
 use Rattle.setting.proofs.held_ok.Statement.{statement}
 use Rattle.setting.proofs.held_ok.Tie as tie
-use Rattle.setting.proofs.held_ok.Reads as reads
-use Rattle.setting.proofs.held_ok.Lts as lts
 
 abbrev Inv-loop : tie.InvT-loop
 Inv-loop r s n i₀ i = (k : ℕ) → k < i → (heldBy r k <? (lane s k) .longest) ≡ true
@@ -19,45 +17,37 @@ Inv-loop r s n i₀ i = (k : ℕ) → k < i → (heldBy r k <? (lane s k) .longe
 abbrev μ-loop : tie.MeasureT-loop
 μ-loop r s n i₀ i = n - i
 
--- src/lib.rt:363:5
 loop-holds : tie.Need-loop-holds Inv-loop μ-loop
 loop-holds c = below-none _
 
--- src/lib.rt:364:17
 mul-l : tie.Need-mul-l Inv-loop μ-loop
 mul-l c = search needs
 
--- src/lib.rt:364:17
 element-copy-out-l : tie.Need-element-copy-out-l Inv-loop μ-loop
 element-copy-out-l c = search needs
 
--- src/lib.rt:365:20
 mul-held : tie.Need-mul-held Inv-loop μ-loop
 mul-held c = search needs
 
--- src/lib.rt:365:20
 element-copy-out-held : tie.Need-element-copy-out-held Inv-loop μ-loop
 element-copy-out-held c = search needs
 
--- src/lib.rt:367:13
 add-i : tie.Need-add-i Inv-loop μ-loop
 add-i c = search needs
 
--- src/lib.rt:363:5
 loop-less : tie.Need-loop-less Inv-loop μ-loop
 loop-less c = search needs
 
--- src/lib.rt:363:5
 loop-again : tie.Need-loop-again Inv-loop μ-loop
-loop-again c = below-more _ _ (c .before .before .before .before .before .loop .inv) (lt-ltb _ _ (c .if1 .taken))
+loop-again c =
+    let l = c .before .before .before .before .before .loop in
+    below-more _ _ (l .inv) (lt-ltb _ _ (c .if1 .taken))
 
--- src/lib.rt:369:13
 returns : tie.Need-returns Inv-loop μ-loop
-returns c = sym (every-not _ _ (c .before .before .before .before .before .loop .i) (c .before .before .before .before .loop-test .taken) (le-ltb _ _ (c .if1 .left)))
+returns c = stops _ _ _ (c .before .before .before .before .loop-test .taken) (le-ltb _ _ (c .if1 .left))
 
--- src/lib.rt:356:1
 returns-2 : tie.Need-returns-2 Inv-loop μ-loop
-returns-2 c = sym (at-every _ _ (λ k h. c .before .loop .inv k (omega arith)))
+returns-2 c = ends _ _ _ (c .loop-test .left) (c .before .loop .inv)
 
 pub held-ok-spec : {M : Type 1} → statement M
 held-ok-spec =

@@ -1,66 +1,59 @@
-use mathlib.Core.Path.{_≡_, refl, sym, ap, _∙_}
-use borrow.Author.Tests.{le-leb, lt-leb, lt-ltb, le-ltb, eq-eqb, ne-eqb}
-use Rattle.setting.proofs.Alls.{one-fails, one-passes, last-decides}
-use Rattle.rules.specs.Settings.{kindOk}
+-- `setting::kind_ok` meets its contract: in each case of the kind an early return is at one test that fails, and at the end all
+-- but the last pass. Both kinds have the most that the longest may be as their second test.
+use Prim.Native.Nat.{ℕ, _<_}
+use mathlib.Core.Path.{_≡_}
+use mathlib.Core.Bool.{false}
+use borrow.Author.Tests.{le-leb, lt-leb}
 use borrow.Author.Needs.{needs}
+use Rattle.rules.specs.Settings.{kindOk}
+use Rattle.rules.specs.declared.Kind.{Kind}
+use Rattle.rules.specs.declared.Kind.the-variants.{Packets, Access}
+use Rattle.setting.proofs.Alls.{one-fails, one-passes, last-decides}
 use Rattle.setting.proofs.kind_ok.Statement.{statement}
 use Rattle.setting.proofs.kind_ok.Tie as tie
-use Rattle.setting.proofs.kind_ok.Reads as reads
-use Rattle.setting.proofs.kind_ok.Lts as lts
 
--- src/lib.rt:185:16
+too-long : (k : Kind) (longest upid : ℕ) → 8192 < longest → false ≡ kindOk k longest upid
+unfolding kindOk
+too-long Packets longest upid h = one-fails _ 1 (lt-leb _ _ h)
+too-long Access longest upid h = one-fails _ 1 (lt-leb _ _ h)
+
+returns : tie.Need-returns
+returns c = too-long _ _ _ (c .if1 .taken)
+
 enum-told : tie.Need-enum-told
 enum-told c = search needs
 
--- src/lib.rt:186:17
-returns : tie.Need-returns
-unfolding kindOk
-returns c = rw (c .before .enum-told .given .1) (one-fails _ 0 (lt-leb _ _ (c .if1 .taken)))
-
--- src/lib.rt:189:17
 returns-2 : tie.Need-returns-2
 unfolding kindOk
-returns-2 c = rw (c .before .before .enum-told .given .1) (one-fails _ 1 (lt-leb _ _ (c .if2 .taken)))
+returns-2 c = rw (c .before .enum-told .given .1) (one-fails _ 0 (lt-leb _ _ (c .if2 .taken)))
 
--- src/lib.rt:191:13
 returns-3 : tie.Need-returns-3
 unfolding kindOk
-returns-3 c = rw (c .before .before .enum-told .given .1) (one-passes _ _ _ (le-leb _ _ (c .before .if1 .left)) (one-passes _ _ _ (le-leb _ _ (c .if2 .left)) (last-decides _)))
+returns-3 c =
+    rw (c .before .enum-told .given .1)
+    (one-passes _ _ _ (le-leb _ _ (c .if2 .left))
+    (one-passes _ _ _ (le-leb _ _ (c .before .before .before .if1 .left)) (last-decides _)))
 
--- src/lib.rt:194:16
 enum-told-2 : tie.Need-enum-told-2
 enum-told-2 c = search needs
 
--- src/lib.rt:195:17
 returns-4 : tie.Need-returns-4
 unfolding kindOk
 returns-4 c = rw (c .before .enum-told2 .given .1) (one-fails _ 0 (lt-leb _ _ (c .if3 .taken)))
 
--- src/lib.rt:198:17
 returns-5 : tie.Need-returns-5
 unfolding kindOk
-returns-5 c = rw (c .before .before .enum-told2 .given .1) (one-fails _ 1 (lt-leb _ _ (c .if4 .taken)))
+returns-5 c = rw (c .before .before .enum-told2 .given .1) (one-fails _ 2 (lt-leb _ _ (c .if4 .taken)))
 
--- src/lib.rt:201:17
 returns-6 : tie.Need-returns-6
 unfolding kindOk
-returns-6 c = rw (c .before .before .before .enum-told2 .given .1) (one-fails _ 2 (lt-leb _ _ (c .if5 .taken)))
-
--- src/lib.rt:203:13
-returns-7 : tie.Need-returns-7
-unfolding kindOk
-returns-7 c = rw (c .before .before .before .enum-told2 .given .1) (one-passes _ _ _ (le-leb _ _ (c .before .before .if3 .left)) (one-passes _ _ _ (le-leb _ _ (c .before .if4 .left)) (one-passes _ _ _ (le-leb _ _ (c .if5 .left)) (last-decides _))))
+returns-6 c =
+    rw (c .before .before .enum-told2 .given .1)
+    (one-passes _ _ _ (le-leb _ _ (c .before .if3 .left))
+    (one-passes _ _ _ (le-leb _ _ (c .before .before .before .before .if1 .left))
+    (one-passes _ _ _ (le-leb _ _ (c .if4 .left)) (last-decides _))))
 
 pub kind-ok-spec : {M : Type 1} → statement M
 kind-ok-spec =
     tie.close
-    (tie.spec
-    enum-told
-    returns
-    returns-2
-    returns-3
-    enum-told-2
-    returns-4
-    returns-5
-    returns-6
-    returns-7)
+    (tie.spec returns enum-told returns-2 returns-3 enum-told-2 returns-4 returns-5 returns-6)

@@ -1,18 +1,14 @@
-use mathlib.Core.Path.{_≡_, refl, sym, ap, _∙_}
+-- `setting::lanes_differ` meets its contract: the rule is the other answer of `lane_is`.
+use mathlib.Core.Path.{ap}
 use mathlib.Core.Bool.{not}
-use Rattle.rules.specs.Settings.{lanesDiffer}
 use borrow.Author.Needs.{needs}
+use Rattle.rules.specs.Settings.{lanesDiffer}
 use Rattle.setting.proofs.lanes_differ.Statement.{statement}
 use Rattle.setting.proofs.lanes_differ.Tie as tie
-use Rattle.setting.proofs.lanes_differ.Reads as reads
-use Rattle.setting.proofs.lanes_differ.Lts as lts
-use Rattle.setting.proofs.lane_is.Reads as lane-is-reads
 
--- src/lib.rt:230:9
 lane-is-requires : tie.Need-lane-is-requires
 lane-is-requires c κs = search needs
 
--- src/lib.rt:227:1
 returns : tie.Need-returns
 unfolding lanesDiffer
 returns c = ap not (c .lane-is .ensures)

@@ -1,17 +1,14 @@
-use mathlib.Core.Path.{_≡_, refl, sym, ap, _∙_}
-use borrow.Author.Needs.{needs}
+-- `setting::pairs_differ` meets its contract: the loop keeps that each lane before i differs from those before it.
 use Prim.Native.Nat.{ℕ, _-_, _<_}
-use native.Mathlib.Omega.{arith}
 use mathlib.Core.Bool.{true}
+use mathlib.Core.Path.{_≡_, sym, _∙_}
+use borrow.Author.Needs.{needs}
 use borrow.Author.Count.{below-none, below-more}
-use Rattle.rules.proofs.Tests.{at-every, every-not}
 use Rattle.rules.specs.Tests.{every}
 use Rattle.rules.specs.Settings.{lane, lanesDiffer}
+use Rattle.setting.proofs.Loops.{stops, ends}
 use Rattle.setting.proofs.pairs_differ.Statement.{statement}
 use Rattle.setting.proofs.pairs_differ.Tie as tie
-use Rattle.setting.proofs.pairs_differ.Reads as reads
-use Rattle.setting.proofs.pairs_differ.Lts as lts
-use Rattle.setting.proofs.differs_before.Reads as differs-before-reads
 
 abbrev Inv-loop : tie.InvT-loop
 Inv-loop s n i₀ i = (k : ℕ) → k < i → every k (λ j. lanesDiffer (lane s j) (lane s k)) ≡ true
@@ -19,33 +16,28 @@ Inv-loop s n i₀ i = (k : ℕ) → k < i → every k (λ j. lanesDiffer (lane s
 abbrev μ-loop : tie.MeasureT-loop
 μ-loop s n i₀ i = n - i
 
--- src/lib.rt:282:5
 loop-holds : tie.Need-loop-holds Inv-loop μ-loop
 loop-holds c = below-none _
 
--- src/lib.rt:283:13
 differs-before-requires : tie.Need-differs-before-requires Inv-loop μ-loop
 differs-before-requires c κs = search needs
 
--- src/lib.rt:285:13
 add-i : tie.Need-add-i Inv-loop μ-loop
 add-i c = search needs
 
--- src/lib.rt:282:5
 loop-less : tie.Need-loop-less Inv-loop μ-loop
 loop-less c = search needs
 
--- src/lib.rt:282:5
 loop-again : tie.Need-loop-again Inv-loop μ-loop
-loop-again c = below-more _ _ (c .before .before .before .loop .inv) (sym (c .before .differs-before .ensures) ∙ c .if1 .taken)
+loop-again c =
+    let l = c .before .before .before .loop in
+    below-more _ _ (l .inv) (sym (c .before .differs-before .ensures) ∙ c .if1 .taken)
 
--- src/lib.rt:287:13
 returns : tie.Need-returns Inv-loop μ-loop
-returns c = sym (every-not _ _ (c .before .before .before .loop .i) (c .before .before .loop-test .taken) (sym (c .before .differs-before .ensures) ∙ c .if1 .left))
+returns c = stops _ _ _ (c .before .before .loop-test .taken) (sym (c .before .differs-before .ensures) ∙ c .if1 .left)
 
--- src/lib.rt:276:1
 returns-2 : tie.Need-returns-2 Inv-loop μ-loop
-returns-2 c = sym (at-every _ _ (λ k h. c .before .loop .inv k (omega arith)))
+returns-2 c = ends _ _ _ (c .loop-test .left) (c .before .loop .inv)
 
 pub pairs-differ-spec : {M : Type 1} → statement M
 pairs-differ-spec =
