@@ -5,18 +5,20 @@ use native.Mathlib.Nat.{le-div-iff-mul-le, pow-le-pow-right, zero-lt-suc, mod-eq
 use native.Mathlib.Omega.{arith}
 use mathlib.Core.Bool.{Bool, true, false, cond}
 use mathlib.Core.List.{List}
-use lib.ListN.{length}
+use lib.ListN.{length, set}
 use Rattle.rules.specs.declared.Setting.{Setting}
 use Rattle.rules.specs.declared.Writer.{Writer}
+use Rattle.rules.specs.declared.Outcome.the-variants.{Done, Refused}
 use Rattle.rules.specs.Tests.{given}
-use Rattle.rules.specs.Settings.{lane, channelOf, number, zone, ocfOctets, checkOctets, writerOk}
-use Rattle.rules.specs.Writing.{frames}
-use Rattle.rules.specs.Calls.{writeRefusals}
+use Rattle.rules.specs.Areas.{laid}
+use Rattle.rules.specs.Settings.{lane, channelOf, count, number, zone, ocfOctets, checkOctets, writerOk}
+use Rattle.rules.specs.Writing.{frames, frameOf, numberAfter, countAfter, writerAfter}
+use Rattle.rules.specs.Calls.{Sent, writeRefusals, written, write}
 use Rattle.rules.proofs.Valid.{Good, GoodWriter, good-writer, good-channelOf}
 use Rattle.rules.proofs.Calls.{Accepted, none-refused}
 use Rattle.rules.proofs.Written.{zone-small}
 use Rattle.writer.specs.declared.Line.{Line}
-use Rattle.writer.specs.Lines.{lineOf, Ready}
+use Rattle.writer.specs.Lines.{lineOf, lineFrame, Ready}
 
 -- ---- slots
 
@@ -31,7 +33,7 @@ slots w l ok h =
     record {
       eight = omega (arith, g .numbered);
       place = omega (arith, g .listed, g .lanes l h .channel);
-      octets = good-channelOf g l h .seven
+      octets = good-channelOf g l h .seven;
     }
 
 -- ---- counts
@@ -62,5 +64,63 @@ ready w l batch insert ocf area a =
       octets = c .seven;
       begins = begins (zone (w .setting) (channelOf (w .setting) l)) (length batch) (number w l) (a .below);
       small = zone-small (w .setting) g (channelOf (w .setting) l);
-      room = omega (arith, a .room, a .insert, a .ocf, c .room)
+      room = omega (arith, a .room, a .insert, a .ocf, c .room);
     }
+
+-- ---- the state after
+
+pub record Counting (w : Writer) (l : ℕ) (x : Line) (m : ℕ) : Type 0 where
+  pub small : x .count + 1 < 2 ^ 64
+  pub some : 0 < m
+  pub place : x .place < 8
+  pub eight : l < 8
+
+pub counting : (w : Writer) (l : ℕ) (x : Line) (m : ℕ) → writerOk w ≡ true → l < w .setting .numbered → x ≡ lineOf w l
+    → m ≡ 256 ^ x .channel .octets % 2 ^ 64 → Counting w l x m
+unfolding lineOf
+counting w l x m ok h e f =
+    let s = slots w l ok h in
+    let g = good-writer w ok in
+    let n : x .channel .octets ≤ 7 = rw e (s .octets) in
+    let b : 256 ^ x .channel .octets ≤ 256 ^ 7 = pow-le-pow-right (zero-lt-suc 255) n in
+    let k : x .count < 256 ^ x .channel .octets = rw e (g .counts ((lane (w .setting) l) .channel) (g .setting .lanes l h .channel)) in
+    record {
+      small = omega arith;
+      some = rw (modulus-small (x .channel .octets) m n f) (omega arith);
+      place = rw e (s .place);
+      eight = s .eight;
+    }
+
+pub after-is : (w : Writer) (l : ℕ) (batch : List ℕ) (x : Line) (m n k : ℕ) → writerOk w ≡ true → l < w .setting .numbered → x ≡ lineOf w l
+    → m ≡ 256 ^ x .channel .octets % 2 ^ 64 → n ≡ (length batch + (x .zone - 1)) / x .zone → k ≡ numberAfter (x .number) n
+    → _≡_ {A = Writer} (record { setting = w .setting; counts = set (w .counts) (x .place) ((x .count + 1) % m); next = set (w .next) l k }) (writerAfter w l batch)
+unfolding lineOf writerAfter countAfter frames
+after-is w l batch x m n k ok h e f a b =
+    let s = slots w l ok h in
+    let q : m ≡ 256 ^ x .channel .octets = modulus-small (x .channel .octets) m (rw e (s .octets)) f in
+    rw (b, a, q, e)
+
+-- ---- the call
+
+-- The line's frame is the rule's.
+pub same-frame : (w : Writer) (l : ℕ) (batch insert ocf : List ℕ)
+    → lineFrame (w .setting) (lineOf w l) batch insert ocf ≡ frameOf (w .setting) l (count w ((lane (w .setting) l) .channel)) batch insert ocf (number w l)
+unfolding lineFrame lineOf frameOf
+same-frame w l batch insert ocf = refl
+
+pub written-is : (w : Writer) (l : ℕ) (batch insert ocf area : List ℕ) (x : Line) (t : Writer) (d : List ℕ)
+    → given (writeRefusals w l batch insert ocf area) ≡ 0 → x ≡ lineOf w l → t ≡ writerAfter w l batch
+    → d ≡ laid area 0 (lineFrame (w .setting) x batch insert ocf)
+    → _≡_ {A = Sent} (record { sender = record { outcome = Done; state = t }; area = d }) (write w l batch insert ocf area)
+unfolding write written
+written-is w l batch insert ocf area x t d z e f g =
+    rw (z, f, g, e) (ap (λ (y : List ℕ). record { sender = record { outcome = Done; state = writerAfter w l batch }; area = laid area 0 y }) (same-frame w l batch insert ocf))
+
+pub refused-is : (w : Writer) (l : ℕ) (batch insert ocf area : List ℕ) (n : ℕ) → n ≡ given (writeRefusals w l batch insert ocf area) → (n ≡ 0 → ⊥)
+    → _≡_ {A = Sent} (record { sender = record { outcome = Refused n; state = w }; area = area }) (write w l batch insert ocf area)
+unfolding write
+refused-is w l batch insert ocf area n e h = go n h ∙ ap (written w l batch insert ocf area) e
+  where
+    go : (n : ℕ) → (n ≡ 0 → ⊥) → _≡_ {A = Sent} (record { sender = record { outcome = Refused n; state = w }; area = area }) (written w l batch insert ocf area n)
+    go zero h = absurd (h refl)
+    go (suc n) h = unfold written in refl

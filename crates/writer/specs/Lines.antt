@@ -13,8 +13,14 @@ use Rattle.writer.specs.declared.Line.{Line}
 
 unfoldable pub lineOf : Writer → ℕ → Line
 lineOf w l =
-    record { place = (lane (w .setting) l) .channel; lane = lane (w .setting) l; channel = channelOf (w .setting) l;
-      zone = zone (w .setting) (channelOf (w .setting) l); count = count w ((lane (w .setting) l) .channel); number = number w l }
+    record {
+      place = (lane (w .setting) l) .channel;
+      lane = lane (w .setting) l;
+      channel = channelOf (w .setting) l;
+      zone = zone (w .setting) (channelOf (w .setting) l);
+      count = count w ((lane (w .setting) l) .channel);
+      number = number w l;
+    }
 
 -- Refusals 15 and 16, of a lane that is there and a batch that keeps its rule.
 unfoldable pub lateRefusals : Setting → Line → List ℕ → List ℕ → List ℕ → List Refusal
@@ -31,7 +37,7 @@ unfoldable pub lineFrame : Setting → Line → List ℕ → List ℕ → List �
 lineFrame s x batch insert ocf =
     checked s
     (body s (x .channel) (x .lane) (x .count) insert (ruleOf (x .lane .kind) (x .number)) (pointerOf (x .lane .kind) (x .zone) batch (x .number))
-      (zoneOf (x .lane .kind) (x .zone) batch (x .number)) ocf)
+    (zoneOf (x .lane .kind) (x .zone) batch (x .number)) ocf)
 
 -- Its fields fit, the batch has it, and the area has room for it.
 pub record Ready (s : Setting) (x : Line) (batch insert ocf area : List ℕ) : Type 0 where

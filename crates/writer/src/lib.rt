@@ -12,8 +12,13 @@ ghost use Rattle.rules.specs.Frames.{primary, dataHeader};
 ghost use Rattle.rules.specs.Writing.{frames, zoneOf, ruleOf, pointerOf, numberAfter, writerAfter};
 ghost use Rattle.rules.specs.Calls.{setUpWriter, writeRefusals, write};
 ghost use Rattle.writer.specs.Lines.{lineOf, lateRefusals, batchRefusals, lineFrame, Ready};
-
-use rules::{Channel, Kind, Lane, Outcome, Sender, Setting, Writer};
+use rules::Channel;
+use rules::Kind;
+use rules::Lane;
+use rules::Outcome;
+use rules::Sender;
+use rules::Setting;
+use rules::Writer;
 
 // What a write looks up of its lane: the channel's place, the lane, the channel, its zone, the channel's count, the lane's next number.
 pub struct Line {
@@ -35,7 +40,14 @@ fn line_of(w: Writer, l: usize) -> Line
     let p = a.channel;
     let c = s.channels[p];
     let z = setting::zone_of(s, c);
-    Line { place: p, lane: a, channel: c, zone: z, count: w.counts[p], number: w.next[l] }
+    Line {
+        place: p,
+        lane: a,
+        channel: c,
+        zone: z,
+        count: w.counts[p],
+        number: w.next[l],
+    }
 }
 
 // ---- a frame's parts
@@ -210,14 +222,27 @@ pub fn set_up(s: Setting) -> Sender
     let ok = setting::setting_ok(s);
     if ok {
         let w = setting::fresh_writer(s);
-        return Sender { outcome: Outcome::Done, state: w };
+        return Sender {
+            outcome: Outcome::Done,
+            state: w,
+        };
     }
     let w = setting::no_writer();
-    Sender { outcome: Outcome::Refused(1), state: w }
+    Sender {
+        outcome: Outcome::Refused(1),
+        state: w,
+    }
 }
 
 // Writes the next frame of lane l's batch into the first octets of the area, or refuses and changes nothing.
-pub fn write(w: Writer, l: usize, batch: &[u8], insert: &[u8], ocf: &[u8], area: &mut [u8]) -> Sender
+pub fn write(
+    w: Writer,
+    l: usize,
+    batch: &[u8],
+    insert: &[u8],
+    ocf: &[u8],
+    area: &mut [u8],
+) -> Sender
     ensures { λ r. ⌜ record { sender = r; area = now (area .exit) } ≡ write w l (now (batch .entry)) (now (insert .entry)) (now (ocf .entry)) (now (area .entry)) ⌝ }
 {
     let n = refusal(w, l, batch, insert, ocf, area);
@@ -226,7 +251,13 @@ pub fn write(w: Writer, l: usize, batch: &[u8], insert: &[u8], ocf: &[u8], area:
         let s = w.setting;
         put_frame(s, x, batch, insert, ocf, area);
         let t = after(w, l, batch);
-        return Sender { outcome: Outcome::Done, state: t };
+        return Sender {
+            outcome: Outcome::Done,
+            state: t,
+        };
     }
-    Sender { outcome: Outcome::Refused(n), state: w }
+    Sender {
+        outcome: Outcome::Refused(n),
+        state: w,
+    }
 }

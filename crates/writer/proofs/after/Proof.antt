@@ -1,56 +1,47 @@
+-- `writer::after` meets its contract: the channel's count and the lane's number are stored, each at its place.
+use mathlib.Core.Path.{_≡_, sym, ap, _∙_}
+use native.Mathlib.Omega.{arith}
+use Rattle.writer.specs.declared.Line.{Line}
+use Rattle.writer.specs.Lines.{lineOf}
+use Rattle.rules.specs.Writing.{frames}
+use Rattle.writer.proofs.Lines.{counting, after-is}
 use borrow.Author.Needs.{needs}
 use Rattle.writer.proofs.after.Statement.{statement}
 use Rattle.writer.proofs.after.Tie as tie
-use Rattle.writer.proofs.after.Reads as reads
-use Rattle.writer.proofs.after.Lts as lts
-use Rattle.octets.proofs.modulus.Reads as modulus-reads
-use Rattle.packets.proofs.frames_of.Reads as frames-of-reads
-use Rattle.writer.proofs.line_of.Reads as line-of-reads
-use Rattle.writer.proofs.number_after.Reads as number-after-reads
 
--- src/lib.rt:137:9
 line-of-requires : tie.Need-line-of-requires
 line-of-requires c κs = search needs
 
--- src/lib.rt:139:9
 modulus-requires : tie.Need-modulus-requires
 modulus-requires c κs = search needs
 
--- src/lib.rt:140:9
 frames-of-requires : tie.Need-frames-of-requires
 frames-of-requires c κs = search needs
 
--- src/lib.rt:141:9
 number-after-requires : tie.Need-number-after-requires
-number-after-requires c κs = ?
+unfolding lineOf frames
+number-after-requires c κs = rw (c .frames-of .ensures, c .before .before .before .line-of .ensures) (c .before .before .before .before .before .pre .2)
 
--- src/lib.rt:144:20
 add-t : tie.Need-add-t
-add-t c = ?
+add-t c = let q = counting _ _ _ _ (c .before .before .before .before .before .before .before .pre .0) (c .before .before .before .before .before .before .before .pre .1) (c .before .before .before .before .before .line-of .ensures) (c .before .before .before .modulus .ensures) in omega (arith, q .small)
 
--- src/lib.rt:144:19
 rem-t : tie.Need-rem-t
-rem-t c = ?
+rem-t c = counting _ _ _ _ (c .before .before .before .before .before .before .before .pre .0) (c .before .before .before .before .before .before .before .pre .1) (c .before .before .before .before .before .line-of .ensures) (c .before .before .before .modulus .ensures) .some
 
--- src/lib.rt:144:5
 mul-t : tie.Need-mul-t
-mul-t c = ?
+mul-t c = let q = counting _ _ _ _ (c .before .before .before .before .before .before .before .pre .0) (c .before .before .before .before .before .before .before .pre .1) (c .before .before .before .before .before .line-of .ensures) (c .before .before .before .modulus .ensures) in omega (arith, q .place)
 
--- src/lib.rt:144:5
 element-write-t : tie.Need-element-write-t
-element-write-t c = ?
+element-write-t c = counting _ _ _ _ (c .before .before .before .before .before .before .before .pre .0) (c .before .before .before .before .before .before .before .pre .1) (c .before .before .before .before .before .line-of .ensures) (c .before .before .before .modulus .ensures) .place
 
--- src/lib.rt:145:5
 mul-t-2 : tie.Need-mul-t-2
-mul-t-2 c = ?
+mul-t-2 c = let q = counting _ _ _ _ (c .before .before .before .before .before .before .before .pre .0) (c .before .before .before .before .before .before .before .pre .1) (c .before .before .before .before .before .line-of .ensures) (c .before .before .before .modulus .ensures) in omega (arith, q .eight)
 
--- src/lib.rt:145:5
 element-write-t-2 : tie.Need-element-write-t-2
-element-write-t-2 c = ?
+element-write-t-2 c = counting _ _ _ _ (c .before .before .before .before .before .before .before .pre .0) (c .before .before .before .before .before .before .before .pre .1) (c .before .before .before .before .before .line-of .ensures) (c .before .before .before .modulus .ensures) .eight
 
--- src/lib.rt:133:1
 returns : tie.Need-returns
-returns c = ?
+returns c = after-is _ _ (c .before .before .before .before .before .before .before .args .batch .now) _ _ _ _ (c .before .before .before .before .before .before .before .pre .0) (c .before .before .before .before .before .before .before .pre .1) (c .before .before .before .before .before .line-of .ensures) (c .before .before .before .modulus .ensures) (c .before .before .frames-of .ensures) (c .before .number-after .ensures)
 
 pub after-spec : {M : Type 1} → statement M
 after-spec =

@@ -1,3 +1,4 @@
+-- `writer::batch_refusal` meets its contract: the line's lane is the lane, so its batch rule is the row's.
 use mathlib.Core.Path.{_≡_, sym, ap, _∙_}
 use mathlib.Core.Bool.{Bool, true, false, cond, not}
 use Prim.Native.Nat.{ℕ}
@@ -9,41 +10,31 @@ use Rattle.writer.specs.Lines.{lineOf, lateRefusals, batchRefusals}
 use borrow.Author.Needs.{needs}
 use Rattle.writer.proofs.batch_refusal.Statement.{statement}
 use Rattle.writer.proofs.batch_refusal.Tie as tie
-use Rattle.writer.proofs.batch_refusal.Reads as reads
-use Rattle.writer.proofs.batch_refusal.Lts as lts
-use Rattle.packets.proofs.batch_ok.Reads as batch-ok-reads
-use Rattle.writer.proofs.late_refusal.Reads as late-refusal-reads
-use Rattle.writer.proofs.line_of.Reads as line-of-reads
 
--- src/lib.rt:175:9
 line-of-requires : tie.Need-line-of-requires
 line-of-requires c κs = search needs
 
--- src/lib.rt:178:9
 batch-ok-requires : tie.Need-batch-ok-requires
 batch-ok-requires c κs = search needs
 
--- src/lib.rt:181:9
 late-refusal-requires : tie.Need-late-refusal-requires
 late-refusal-requires c κs = search needs
 
--- src/lib.rt:181:9
 returns : tie.Need-returns
 unfolding given batchRefusals lineOf
-returns c = 
+returns c =
     let a = c .before .before .before .before .before .before .before .before .before .args in
     let e = c .before .before .before .before .before .line-of .ensures in
     let k : batchOk ((lane (a .w .setting) (a .l)) .kind) ((lane (a .w .setting) (a .l)) .longest) (a .batch .now) ≡ true =
-        sym (c .before .before .before .batch-ok .ensures ∙ ap (λ (x : Line). batchOk (x .lane .kind) (x .lane .longest) (a .batch .now)) e) ∙ c .before .before .if1 .taken in
+    sym (c .before .before .before .batch-ok .ensures ∙ ap (λ (x : Line). batchOk (x .lane .kind) (x .lane .longest) (a .batch .now)) e) ∙ c .before .before .if1 .taken in
     rw k (c .late-refusal .ensures ∙ ap (λ (x : Line). given (lateRefusals (a .w .setting) x (a .batch .now) (a .insert .now) (a .ocf .now))) e)
 
--- src/lib.rt:171:1
 returns-2 : tie.Need-returns-2
 unfolding given batchRefusals lineOf
-returns-2 c = 
+returns-2 c =
     let a = c .before .before .before .before .before .before .before .args in
     let k : batchOk ((lane (a .w .setting) (a .l)) .kind) ((lane (a .w .setting) (a .l)) .longest) (a .batch .now) ≡ false =
-        sym (c .before .batch-ok .ensures ∙ ap (λ (x : Line). batchOk (x .lane .kind) (x .lane .longest) (a .batch .now)) (c .before .before .before .line-of .ensures)) ∙ c .if1 .left in
+    sym (c .before .batch-ok .ensures ∙ ap (λ (x : Line). batchOk (x .lane .kind) (x .lane .longest) (a .batch .now)) (c .before .before .before .line-of .ensures)) ∙ c .if1 .left in
     rw k
 
 pub batch-refusal-spec : {M : Type 1} → statement M

@@ -1,3 +1,4 @@
+-- `writer::late_refusal` meets its contract: the tests are the rows', in their order.
 use mathlib.Core.Path.{_≡_, sym, _∙_}
 use mathlib.Core.Bool.{or-true}
 use borrow.Author.Tests.{eq-eqb, ne-eqb, le-leb, lt-leb}
@@ -7,35 +8,25 @@ use Rattle.writer.specs.Lines.{lateRefusals}
 use borrow.Author.Needs.{needs}
 use Rattle.writer.proofs.late_refusal.Statement.{statement}
 use Rattle.writer.proofs.late_refusal.Tie as tie
-use Rattle.writer.proofs.late_refusal.Reads as reads
-use Rattle.writer.proofs.late_refusal.Lts as lts
-use Rattle.packets.proofs.frames_of.Reads as frames-of-reads
-use Rattle.setting.proofs.ocf_octets.Reads as ocf-octets-reads
 
--- src/lib.rt:156:9
 returns : tie.Need-returns
 unfolding given lateRefusals
 returns c = rw (ne-eqb _ _ (c .if1 .taken))
 
--- src/lib.rt:159:9
 ocf-octets-requires : tie.Need-ocf-octets-requires
 ocf-octets-requires c κs = search needs
 
--- src/lib.rt:161:9
 returns-2 : tie.Need-returns-2
 unfolding given lateRefusals
 returns-2 c = rw (eq-eqb _ _ (c .before .before .before .if1 .left), sym (c .before .ocf-octets .ensures), ne-eqb _ _ (c .if2 .taken))
 
--- src/lib.rt:163:9
 frames-of-requires : tie.Need-frames-of-requires
 frames-of-requires c κs = search needs
 
--- src/lib.rt:165:9
 returns-3 : tie.Need-returns-3
 unfolding given lateRefusals frames
 returns-3 c = rw (eq-eqb _ _ (c .before .before .before .before .before .before .if1 .left), sym (c .before .before .before .before .ocf-octets .ensures), eq-eqb _ _ (c .before .before .before .if2 .left), sym (c .before .before .frames-of .ensures), le-leb _ _ (c .if3 .taken))
 
--- src/lib.rt:152:1
 returns-4 : tie.Need-returns-4
 unfolding given lateRefusals frames
 returns-4 c = rw (eq-eqb _ _ (c .before .before .before .before .before .before .if1 .left), sym (c .before .before .before .before .ocf-octets .ensures), eq-eqb _ _ (c .before .before .before .if2 .left), sym (c .before .before .frames-of .ensures), lt-leb _ _ (c .if3 .left))

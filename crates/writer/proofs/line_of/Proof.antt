@@ -1,3 +1,4 @@
+-- `writer::line_of` meets its contract: a valid state's lane and its channel stand in the first eight slots.
 use mathlib.Core.Path.{_≡_}
 use native.Mathlib.Omega.{arith}
 use Rattle.writer.specs.Lines.{lineOf}
@@ -5,47 +6,34 @@ use Rattle.writer.proofs.Lines.{slots}
 use borrow.Author.Needs.{needs}
 use Rattle.writer.proofs.line_of.Statement.{statement}
 use Rattle.writer.proofs.line_of.Tie as tie
-use Rattle.writer.proofs.line_of.Reads as reads
-use Rattle.writer.proofs.line_of.Lts as lts
-use Rattle.setting.proofs.zone_of.Reads as zone-of-reads
 
--- src/lib.rt:34:13
 mul-a : tie.Need-mul-a
 mul-a c = let q = slots _ _ (c .before .pre .0) (c .before .pre .1) in omega (arith, q .eight)
 
--- src/lib.rt:34:13
 element-copy-out-a : tie.Need-element-copy-out-a
 element-copy-out-a c = slots _ _ (c .before .pre .0) (c .before .pre .1) .eight
 
--- src/lib.rt:36:13
 mul-c : tie.Need-mul-c
 mul-c c = let q = slots _ _ (c .before .before .pre .0) (c .before .before .pre .1) in omega (arith, q .place)
 
--- src/lib.rt:36:13
 element-copy-out-c : tie.Need-element-copy-out-c
 element-copy-out-c c = slots _ _ (c .before .before .pre .0) (c .before .before .pre .1) .place
 
--- src/lib.rt:37:9
 zone-of-requires : tie.Need-zone-of-requires
 zone-of-requires c κs = search needs
 
--- src/lib.rt:38:59
 mul-t10 : tie.Need-mul-t10
 mul-t10 c = let q = slots _ _ (c .before .before .before .before .pre .0) (c .before .before .before .before .pre .1) in omega (arith, q .place)
 
--- src/lib.rt:38:59
 element-copy-out-t19 : tie.Need-element-copy-out-t19
 element-copy-out-t19 c = slots _ _ (c .before .before .before .before .pre .0) (c .before .before .before .before .pre .1) .place
 
--- src/lib.rt:38:80
 mul-t20 : tie.Need-mul-t20
 mul-t20 c = let q = slots _ _ (c .before .before .before .before .before .pre .0) (c .before .before .before .before .before .pre .1) in omega (arith, q .eight)
 
--- src/lib.rt:38:80
 element-copy-out-t23 : tie.Need-element-copy-out-t23
 element-copy-out-t23 c = slots _ _ (c .before .before .before .before .before .pre .0) (c .before .before .before .before .before .pre .1) .eight
 
--- src/lib.rt:29:1
 returns : tie.Need-returns
 unfolding lineOf
 returns c = rw (c .before .before .zone-of .ensures)

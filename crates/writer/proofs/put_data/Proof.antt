@@ -1,71 +1,69 @@
+-- `writer::put_data` meets its contract: the pointer fits two octets, and the piece is the batch's, cut after z octets or where it ends.
+use Prim.Native.Nat.{ℕ, _+_, _-_, _*_}
+use mathlib.Core.Path.{_≡_, sym, ap, ap₂, _∙_}
+use mathlib.Core.List.{List, _++_}
+use native.Mathlib.Omega.{arith}
+use lib.ListN.{length, take, drop, replicate}
+use Rattle.rules.specs.Octets.{be}
+use Rattle.rules.specs.Areas.{laid}
+use Rattle.rules.specs.Frames.{pointerTo}
+use Rattle.rules.specs.Writing.{ruleOf, pointerOf, inside, offsetOf}
+use Rattle.rules.proofs.Written.{pointer-small}
+use Rattle.writer.proofs.Laying.{piece-is, data-laid}
 use borrow.Author.Needs.{needs}
 use Rattle.writer.proofs.put_data.Statement.{statement}
 use Rattle.writer.proofs.put_data.Tie as tie
-use Rattle.writer.proofs.put_data.Reads as reads
-use Rattle.writer.proofs.put_data.Lts as lts
-use Rattle.header.proofs.data_header_of.Reads as data-header-of-reads
-use Rattle.octets.proofs.lay_number.Reads as lay-number-reads
-use Rattle.packets.proofs.fill_of.Reads as fill-of-reads
-use Rattle.packets.proofs.pointer_of.Reads as pointer-of-reads
-use Rattle.packets.proofs.rule_of.Reads as rule-of-reads
-use Rattle.writer.proofs.piece_end.Reads as piece-end-reads
-use Rattle.writer.proofs.put_zone.Reads as put-zone-reads
 
--- src/lib.rt:58:9
 rule-of-requires : tie.Need-rule-of-requires
 rule-of-requires c κs = search needs
 
--- src/lib.rt:59:9
 pointer-of-requires : tie.Need-pointer-of-requires
 pointer-of-requires c κs = search needs
 
--- src/lib.rt:60:9
 data-header-of-requires : tie.Need-data-header-of-requires
-data-header-of-requires c κs = ?
+unfolding pointerOf
+data-header-of-requires c κs = rw (c .pointer-of .ensures) (pointer-small _ _ (search needs))
 
--- src/lib.rt:61:5
 lay-number-requires : tie.Need-lay-number-requires
 lay-number-requires c κs = search needs
 
--- src/lib.rt:62:13
 mul-a : tie.Need-mul-a
 mul-a c = search needs
 
--- src/lib.rt:63:9
 piece-end-requires : tie.Need-piece-end-requires
 piece-end-requires c κs = search needs
 
--- src/lib.rt:64:9
 fill-of-requires : tie.Need-fill-of-requires
 fill-of-requires c κs = search needs
 
--- src/lib.rt:65:20
 add-put-zone : tie.Need-add-put-zone
 add-put-zone c = search needs
 
--- src/lib.rt:65:30
 sub-put-zone : tie.Need-sub-put-zone
 sub-put-zone c = search needs
 
--- src/lib.rt:65:30
 part-put-zone-start : tie.Need-part-put-zone-start
 part-put-zone-start c = search needs
 
--- src/lib.rt:65:30
 part-put-zone-end : tie.Need-part-put-zone-end
 part-put-zone-end c = search needs
 
--- src/lib.rt:65:5
 put-zone-requires : tie.Need-put-zone-requires
 put-zone-requires c κs = search needs
 
--- src/lib.rt:54:1
 same-length : tie.Need-same-length
 same-length c = search needs
 
--- src/lib.rt:54:1
 returns : tie.Need-returns
-returns c = ?
+returns c =
+    let a = c .before .before .before .before .before .before .before .before .before .before .before .before .before .before .before .before .args in
+    let q = c .before .before .before .before .before .before .piece-end .ensures in
+    c .before .before .put-zone .ensures
+    ∙ ap (λ (d : List ℕ). laid d (a .from + 3) (take (c .before .before .before .before .before .before .piece-end .result - a .i * a .z) (drop (a .i * a .z) (a .batch .now)) ++ replicate (a .z - length (take (c .before .before .before .before .before .before .piece-end .result - a .i * a .z) (drop (a .i * a .z) (a .batch .now)))) (c .before .before .before .before .before .fill-of .result))) (c .before .before .before .before .before .before .before .before .before .lay-number .ensures)
+    ∙ data-laid (a .area .now) (a .from) (c .before .before .before .before .before .before .before .before .before .before .before .before .before .rule-of .result) (a .upid) (c .before .before .before .before .before .before .before .before .before .before .before .before .pointer-of .result) (c .before .before .before .before .before .before .before .before .before .before .before .data-header-of .result) (a .kind) (a .z) (a .batch .now) (a .i) (c .before .before .before .before .before .fill-of .result)
+    (take (c .before .before .before .before .before .before .piece-end .result - a .i * a .z) (drop (a .i * a .z) (a .batch .now))) (search needs) (c .before .before .before .before .before .before .before .before .before .before .before .data-header-of .ensures)
+    (piece-is (a .batch .now) (a .z) (a .i * a .z) (c .before .before .before .before .before .before .piece-end .result) (q .0) (q .1) (q .2) (q .3)) (c .before .before .before .before .before .fill-of .ensures)
+    ∙ ap₂ (λ (r p : ℕ). laid (a .area .now) (a .from) (Rattle.rules.specs.Frames.dataHeader r (a .upid) p ++ Rattle.rules.specs.Writing.zoneOf (a .kind) (a .z) (a .batch .now) (a .i))) (c .before .before .before .before .before .before .before .before .before .before .before .before .before .rule-of .ensures) (c .before .before .before .before .before .before .before .before .before .before .before .before .pointer-of .ensures)
 
 pub put-data-spec : {M : Type 1} → statement M
 put-data-spec =

@@ -1,3 +1,4 @@
+-- `writer::put_end` meets its contract: the check is over the octets before it as they stand once the OCF is laid.
 use mathlib.Core.Path.{_≡_, sym, ap, _∙_}
 use Prim.Native.Nat.{ℕ, _+_, _≤_}
 use native.Mathlib.Omega.{arith}
@@ -12,63 +13,47 @@ use Rattle.writer.proofs.Laying.{end-laid}
 use borrow.Author.Needs.{needs}
 use Rattle.writer.proofs.put_end.Statement.{statement}
 use Rattle.writer.proofs.put_end.Tie as tie
-use Rattle.writer.proofs.put_end.Reads as reads
-use Rattle.writer.proofs.put_end.Lts as lts
-use Rattle.fecf.proofs.check_of.Reads as check-of-reads
-use Rattle.octets.proofs.lay.Reads as lay-reads
-use Rattle.octets.proofs.lay_number.Reads as lay-number-reads
 
--- src/lib.rt:40:5
 lay-requires : tie.Need-lay-requires
 lay-requires c κs = search needs
 
--- src/lib.rt:42:19
 add-end : tie.Need-add-end
 add-end c = search needs
 
--- src/lib.rt:43:32
 slice-reshare-prefix-check-of : tie.Need-slice-reshare-prefix-check-of
 slice-reshare-prefix-check-of c = search needs
 
--- src/lib.rt:43:32
 slice-aggregate-check-of : tie.Need-slice-aggregate-check-of
 slice-aggregate-check-of c = sym (length-take-le _ _ (search needs))
 
--- src/lib.rt:43:13
 check-of-requires : tie.Need-check-of-requires
 check-of-requires c κs = search needs
 
--- src/lib.rt:44:42
 cast-lay-number : tie.Need-cast-lay-number
 cast-lay-number c = search needs
 
--- src/lib.rt:44:9
 lay-number-requires : tie.Need-lay-number-requires
-lay-number-requires c κs = 
+lay-number-requires c κs =
     let a = c .before .before .before .before .before .before .before .before .before .before .args in
     let h : a .from + length (a .ocf .now) + 2 ≤ length (a .area .now) = rw (c .before .before .before .if1 .taken) at (c .before .before .before .before .before .before .before .before .before .before .pre) in
     rw (c .before .before .before .before .before .before .lay .ensures, length-laid (a .area .now) (a .from) (a .ocf .now) (omega arith)) h
 
--- src/lib.rt:36:1
 same-length : tie.Need-same-length
 same-length c = search needs
 
--- src/lib.rt:36:1
 returns : tie.Need-returns
-returns c = 
+returns c =
     let a = c .before .before .before .before .before .before .before .before .before .before .before .before .before .args in
     let n = a .from + length (a .ocf .now) in
     rw (c .before .before .before .before .before .before .if1 .taken)
     (c .before .before .lay-number .ensures ∙ ap (λ (v : ℕ). laid (c .before .before .before .before .before .before .before .before .before .lay .last .0) n (be 2 v)) (c .before .before .before .before .check-of .ensures)
     ∙ ap (λ (x : List ℕ). laid x n (be 2 (checkOf (take n x)))) (c .before .before .before .before .before .before .before .before .before .lay .ensures) ∙ end-laid (a .area .now) (a .from) (a .ocf .now) (omega arith))
 
--- src/lib.rt:36:1
 same-length-2 : tie.Need-same-length-2
 same-length-2 c = search needs
 
--- src/lib.rt:36:1
 returns-2 : tie.Need-returns-2
-returns-2 c = 
+returns-2 c =
     let a = c .before .before .before .before .before .before .before .args in
     rw (c .if1 .left) (c .before .before .before .lay .ensures ∙ ap (laid (a .area .now) (a .from)) (sym (append-nil (a .ocf .now))))
 

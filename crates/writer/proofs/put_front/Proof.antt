@@ -1,3 +1,4 @@
+-- `writer::put_front` meets its contract: header, count and insert zone are laid one after another.
 use mathlib.Core.Path.{_≡_, ap, _∙_}
 use Prim.Native.Nat.{ℕ, _+_}
 use mathlib.Core.List.{List}
@@ -7,43 +8,31 @@ use Rattle.writer.proofs.Laying.{front-laid}
 use borrow.Author.Needs.{needs}
 use Rattle.writer.proofs.put_front.Statement.{statement}
 use Rattle.writer.proofs.put_front.Tie as tie
-use Rattle.writer.proofs.put_front.Reads as reads
-use Rattle.writer.proofs.put_front.Lts as lts
-use Rattle.header.proofs.header_of.Reads as header-of-reads
-use Rattle.octets.proofs.lay.Reads as lay-reads
-use Rattle.octets.proofs.lay_number.Reads as lay-number-reads
 
--- src/lib.rt:18:9
 header-of-requires : tie.Need-header-of-requires
 header-of-requires c κs = search needs
 
--- src/lib.rt:19:5
 lay-number-requires : tie.Need-lay-number-requires
 lay-number-requires c κs = search needs
 
--- src/lib.rt:21:5
 lay-number-requires-2 : tie.Need-lay-number-requires-2
 lay-number-requires-2 c κs = search needs
 
--- src/lib.rt:22:23
 add-lay : tie.Need-add-lay
 add-lay c = search needs
 
--- src/lib.rt:22:5
 lay-requires : tie.Need-lay-requires
 lay-requires c κs = search needs
 
--- src/lib.rt:14:1
 same-length : tie.Need-same-length
 same-length c = search needs
 
--- src/lib.rt:14:1
 returns : tie.Need-returns
-returns c = 
+returns c =
     let a = c .before .before .before .before .before .before .before .before .before .before .before .before .before .before .before .args in
     c .before .before .lay .ensures
     ∙ ap (λ (x : List ℕ). laid x (7 + a .c .octets) (a .insert .now))
-      (c .before .before .before .before .before .before .lay-number2 .ensures ∙ ap (λ (x : List ℕ). laid x 7 (be (a .c .octets) (a .k))) (c .before .before .before .before .before .before .before .before .before .before .lay-number .ensures ∙ ap (λ (n : ℕ). laid (a .area .now) 0 (be 7 n)) (c .before .before .before .before .before .before .before .before .before .before .before .before .header-of .ensures)))
+    (c .before .before .before .before .before .before .lay-number2 .ensures ∙ ap (λ (x : List ℕ). laid x 7 (be (a .c .octets) (a .k))) (c .before .before .before .before .before .before .before .before .before .before .lay-number .ensures ∙ ap (λ (n : ℕ). laid (a .area .now) 0 (be 7 n)) (c .before .before .before .before .before .before .before .before .before .before .before .before .header-of .ensures)))
     ∙ front-laid (a .area .now) (a .s) (a .c) (a .l) (a .k) (a .insert .now) (search needs)
 
 pub put-front-spec : {M : Type 1} → statement M

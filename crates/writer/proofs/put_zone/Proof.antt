@@ -1,3 +1,4 @@
+-- `writer::put_zone` meets its contract: the piece is laid, and the fill behind it.
 use mathlib.Core.Path.{_≡_, ap, _∙_}
 use Prim.Native.Nat.{ℕ, _+_, _-_}
 use native.Mathlib.Omega.{arith}
@@ -8,34 +9,24 @@ use Rattle.rules.proofs.Areas.{laid-laid}
 use borrow.Author.Needs.{needs}
 use Rattle.writer.proofs.put_zone.Statement.{statement}
 use Rattle.writer.proofs.put_zone.Tie as tie
-use Rattle.writer.proofs.put_zone.Reads as reads
-use Rattle.writer.proofs.put_zone.Lts as lts
-use Rattle.octets.proofs.lay.Reads as lay-reads
-use Rattle.octets.proofs.lay_fill.Reads as lay-fill-reads
 
--- src/lib.rt:30:5
 lay-requires : tie.Need-lay-requires
 lay-requires c κs = search needs
 
--- src/lib.rt:32:28
 add-lay-fill : tie.Need-add-lay-fill
 add-lay-fill c = search needs
 
--- src/lib.rt:32:38
 sub-lay-fill : tie.Need-sub-lay-fill
 sub-lay-fill c = search needs
 
--- src/lib.rt:32:5
 lay-fill-requires : tie.Need-lay-fill-requires
 lay-fill-requires c κs = search needs
 
--- src/lib.rt:26:1
 same-length : tie.Need-same-length
 same-length c = search needs
 
--- src/lib.rt:26:1
 returns : tie.Need-returns
-returns c = 
+returns c =
     let a = c .before .before .before .before .before .before .before .before .before .before .args in
     c .before .before .lay-fill .ensures ∙ ap (λ (x : List ℕ). laid x (a .from + length (a .piece .now)) (replicate (a .z - length (a .piece .now)) (a .x))) (c .before .before .before .before .before .before .lay .ensures)
     ∙ laid-laid (a .area .now) (a .from) (a .piece .now) (omega arith) (replicate (a .z - length (a .piece .now)) (a .x))

@@ -1,3 +1,4 @@
+-- `writer::refusal` meets its contract: the tests are the rows', in their order.
 use mathlib.Core.Path.{_≡_, sym, _∙_}
 use borrow.Author.Tests.{lt-ltb, le-ltb, le-leb, lt-leb}
 use Rattle.rules.specs.Tests.{given}
@@ -6,35 +7,25 @@ use Rattle.writer.specs.Lines.{lineOf, lateRefusals, batchRefusals}
 use borrow.Author.Needs.{needs}
 use Rattle.writer.proofs.refusal.Statement.{statement}
 use Rattle.writer.proofs.refusal.Tie as tie
-use Rattle.writer.proofs.refusal.Reads as reads
-use Rattle.writer.proofs.refusal.Lts as lts
-use Rattle.setting.proofs.writer_ok.Reads as writer-ok-reads
-use Rattle.writer.proofs.batch_refusal.Reads as batch-refusal-reads
 
--- src/lib.rt:190:9
 writer-ok-requires : tie.Need-writer-ok-requires
 writer-ok-requires c κs = search needs
 
--- src/lib.rt:194:13
 returns : tie.Need-returns
 unfolding given writeRefusals
 returns c = rw (sym (c .before .before .before .before .writer-ok .ensures) ∙ c .before .before .before .if1 .taken, lt-ltb _ _ (c .if2 .taken))
 
--- src/lib.rt:197:13
 returns-2 : tie.Need-returns-2
 unfolding given writeRefusals
 returns-2 c = rw (sym (c .before .before .before .before .before .before .writer-ok .ensures) ∙ c .before .before .before .before .before .if1 .taken, le-ltb _ _ (c .before .before .if2 .left), le-leb _ _ (c .if3 .taken))
 
--- src/lib.rt:199:9
 batch-refusal-requires : tie.Need-batch-refusal-requires
 batch-refusal-requires c κs = (sym (c .before .before .before .before .before .before .writer-ok .ensures) ∙ c .before .before .before .before .before .if1 .taken, c .if3 .left)
 
--- src/lib.rt:199:9
 returns-3 : tie.Need-returns-3
 unfolding given writeRefusals batchRefusals lateRefusals lineOf
 returns-3 c = rw (sym (c .before .before .before .before .before .before .before .writer-ok .ensures) ∙ c .before .before .before .before .before .before .if1 .taken, le-ltb _ _ (c .before .before .before .if2 .left), lt-leb _ _ (c .before .if3 .left)) (c .batch-refusal .ensures)
 
--- src/lib.rt:187:1
 returns-4 : tie.Need-returns-4
 unfolding given writeRefusals
 returns-4 c = rw (sym (c .before .writer-ok .ensures) ∙ c .if1 .left)

@@ -1,44 +1,43 @@
+-- `writer::write` meets its contract: where no refusal applies the frame is laid and the state moves on; otherwise nothing changes.
+use mathlib.Core.Path.{_≡_, sym, ap, _∙_}
+use Rattle.rules.proofs.Calls.{none-refused}
+use Rattle.rules.proofs.States.{writer-ok}
+use Rattle.writer.proofs.Lines.{ready, written-is, refused-is}
 use borrow.Author.Needs.{needs}
 use Rattle.writer.proofs.write.Statement.{statement}
 use Rattle.writer.proofs.write.Tie as tie
-use Rattle.writer.proofs.write.Reads as reads
-use Rattle.writer.proofs.write.Lts as lts
-use Rattle.writer.proofs.after.Reads as after-reads
-use Rattle.writer.proofs.line_of.Reads as line-of-reads
-use Rattle.writer.proofs.put_frame.Reads as put-frame-reads
-use Rattle.writer.proofs.refusal.Reads as refusal-reads
 
--- src/lib.rt:223:9
 refusal-requires : tie.Need-refusal-requires
 refusal-requires c κs = search needs
 
--- src/lib.rt:225:13
 line-of-requires : tie.Need-line-of-requires
-line-of-requires c κs = ?
+line-of-requires c κs =
+    let a = none-refused _ _ _ _ _ _ (sym (c .before .refusal .ensures) ∙ c .if1 .taken) in
+    (writer-ok _ (a .good), a .numbered)
 
--- src/lib.rt:227:9
 put-frame-requires : tie.Need-put-frame-requires
-put-frame-requires c κs = ?
+put-frame-requires c κs = rw (c .before .before .line-of .ensures) (ready _ _ _ _ _ _ (none-refused _ _ _ _ _ _ (sym (c .before .before .before .before .refusal .ensures) ∙ c .before .before .before .if1 .taken)))
 
--- src/lib.rt:228:13
 after-requires : tie.Need-after-requires
-after-requires c κs = ?
+after-requires c κs =
+    let a = none-refused _ _ _ _ _ _ (sym (c .before .before .before .before .before .before .before .refusal .ensures) ∙ c .before .before .before .before .before .before .if1 .taken) in
+    (writer-ok _ (a .good), a .numbered, a .below)
 
--- src/lib.rt:229:9
 same-length : tie.Need-same-length
 same-length c = search needs
 
--- src/lib.rt:229:9
 returns : tie.Need-returns
-returns c = ?
+returns c =
+    let a = c .before .before .before .before .before .before .before .before .before .before .before .before .before .before .args in
+    written-is (a .w) (a .l) (a .batch .now) (a .insert .now) (a .ocf .now) (a .area .now) (c .before .before .before .before .before .before .line-of .result) (c .after .result) _ (sym (c .before .before .before .before .before .before .before .before .refusal .ensures) ∙ c .before .before .before .before .before .before .before .if1 .taken) (c .before .before .before .before .before .before .line-of .ensures) (c .after .ensures) (c .before .before .before .put-frame .ensures)
 
--- src/lib.rt:220:1
 same-length-2 : tie.Need-same-length-2
 same-length-2 c = search needs
 
--- src/lib.rt:220:1
 returns-2 : tie.Need-returns-2
-returns-2 c = ?
+returns-2 c =
+    let a = c .before .before .before .before .before .before .before .args in
+    refused-is (a .w) (a .l) (a .batch .now) (a .insert .now) (a .ocf .now) (a .area .now) (c .before .refusal .result) (c .before .refusal .ensures) (c .if1 .left)
 
 pub write-spec : {M : Type 1} → statement M
 write-spec =
