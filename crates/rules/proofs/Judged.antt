@@ -95,7 +95,7 @@ points p z e = go (p =? 0xFFFF) (p <? z) refl e
     go false false q h = absurd (false≢true h)
 
 -- A bit is 0 or 1.
-neither : (n from : ℕ) (xs : List ℕ) → bits n from 1 xs =? 1 ≡ false → bits n from 1 xs =? 0 ≡ false → ⊥
+pub neither : (n from : ℕ) (xs : List ℕ) → bits n from 1 xs =? 1 ≡ false → bits n from 1 xs =? 0 ≡ false → ⊥
 unfolding bits
 neither n from xs a b =
     let x : ℕ = num (take n xs) / 2 ^ (8 * n - (from + 1)) in

@@ -110,6 +110,14 @@ module _ (p : ℕ → Bool) where
       go Nowhere h true e = (omega arith, e)
       go Nowhere h false e = tt
 
+-- A place that was found is below n, and passes.
+pub found-at : (p : ℕ → Bool) (n i : ℕ) → first n p ≡ At i → (i < n) × (p i ≡ true)
+found-at p n i e = go (first n p) (first-found p n) e
+  where
+    go : (q : Place) → Found p n q → q ≡ At i → (i < n) × (p i ≡ true)
+    go (At j) h k = let m : j ≡ i = cc in rw (sym m) h
+    go Nowhere h k = let z : _≡_ {A = ℕ} 0 1 = cc in absurd (omega arith)
+
 -- ---- the refusal given
 
 pub given-skip : (r : Refusal) (rs : List Refusal) → r .applies ≡ false → given (r ∷ rs) ≡ given rs
