@@ -1,0 +1,78 @@
+use borrow.Author.Needs.{needs}
+use Rattle.lanes.proofs.portion_step.Statement.{statement}
+use Rattle.lanes.proofs.portion_step.Tie as tie
+use Rattle.lanes.proofs.portion_step.Reads as reads
+use Rattle.lanes.proofs.portion_step.Lts as lts
+use Rattle.lanes.proofs.settle.Reads as settle-reads
+use Rattle.packets.proofs.follow_fate.Reads as follow-fate-reads
+use Rattle.packets.proofs.unit_fate.Reads as unit-fate-reads
+
+-- src/lib.rt:219:21
+add-s : tie.Need-add-s
+add-s c = search needs
+
+-- src/lib.rt:220:13
+unit-fate-requires : tie.Need-unit-fate-requires
+unit-fate-requires c κs = search needs
+
+-- src/lib.rt:221:9
+settle-requires : tie.Need-settle-requires
+settle-requires c κs = ?
+
+-- src/lib.rt:221:9
+same-length : tie.Need-same-length
+same-length c = search needs
+
+-- src/lib.rt:221:9
+same-length-2 : tie.Need-same-length-2
+same-length-2 c = search needs
+
+-- src/lib.rt:221:9
+same-length-3 : tie.Need-same-length-3
+same-length-3 c = search needs
+
+-- src/lib.rt:221:9
+returns : tie.Need-returns
+returns c = ?
+
+-- src/lib.rt:223:9
+follow-fate-requires : tie.Need-follow-fate-requires
+follow-fate-requires c κs = search needs
+
+-- src/lib.rt:224:5
+settle-requires-2 : tie.Need-settle-requires-2
+settle-requires-2 c κs = ?
+
+-- src/lib.rt:213:1
+same-length-4 : tie.Need-same-length-4
+same-length-4 c = search needs
+
+-- src/lib.rt:213:1
+same-length-5 : tie.Need-same-length-5
+same-length-5 c = search needs
+
+-- src/lib.rt:213:1
+same-length-6 : tie.Need-same-length-6
+same-length-6 c = search needs
+
+-- src/lib.rt:213:1
+returns-2 : tie.Need-returns-2
+returns-2 c = ?
+
+pub portion-step-spec : {M : Type 1} → statement M
+portion-step-spec =
+    tie.close
+    (tie.spec
+    add-s
+    unit-fate-requires
+    settle-requires
+    same-length
+    same-length-2
+    same-length-3
+    returns
+    follow-fate-requires
+    settle-requires-2
+    same-length-4
+    same-length-5
+    same-length-6
+    returns-2)
