@@ -1,3 +1,11 @@
+use mathlib.Core.Path.{_≡_, refl, sym}
+use Prim.Native.Nat.{_+_, _<_}
+use native.Mathlib.Omega.{arith}
+use lib.ListN.{length, take}
+use lib.Seq.{length-take-le}
+use Rattle.rules.specs.Reading.{accessLane}
+use Rattle.lanes.proofs.Laws.{only-counted, went-after}
+use Rattle.lanes.proofs.Parts.{ready-second}
 use borrow.Author.Needs.{needs}
 use Rattle.lanes.proofs.access_step.Statement.{statement}
 use Rattle.lanes.proofs.access_step.Tie as tie
@@ -11,11 +19,11 @@ enum-known-place c = search needs
 
 -- src/lib.rt:234:21
 add-e : tie.Need-add-e
-add-e c = ?
+add-e c = let q = rw (c .before .place .given .1) at (c .before .before .before .before .before .before .before .pre .0) in search needs
 
 -- src/lib.rt:236:32
 sub-s : tie.Need-sub-s
-sub-s c = ?
+sub-s c = let q = rw (c .before .place .given .1) at (c .before .before .before .before .before .before .before .pre .0) in search needs
 
 -- src/lib.rt:236:22
 add-s : tie.Need-add-s
@@ -23,11 +31,18 @@ add-s c = search needs
 
 -- src/lib.rt:237:65
 slice-aggregate-portion-step : tie.Need-slice-aggregate-portion-step
-slice-aggregate-portion-step c = ?
+slice-aggregate-portion-step c = let q = rw (c .before .before .before .before .place .given .1) at (c .before .before .before .before .before .before .before .before .before .before .pre .0) in sym (length-take-le _ _ (omega arith))
 
 -- src/lib.rt:237:13
 portion-step-requires : tie.Need-portion-step-requires
-portion-step-requires c κs = ?
+unfolding accessLane
+portion-step-requires c κs = 
+    let a = c .before .before .before .before .before .before .before .before .before .before .before .before .args in
+    let p = c .before .before .before .before .before .before .place .given .0 .0 in
+    let q : p < length (a .zone .now) = rw (c .before .before .before .before .before .before .place .given .1) at (c .before .before .before .before .before .before .before .before .before .before .before .before .pre .0) in
+    let n : length (take (p + 1) (a .zone .now)) ≡ p + 1 = length-take-le (p + 1) (a .zone .now) (omega arith) in
+    ready-second _ _ (rw (c .before .before .before .before .before .before .place .given .1) at (c .before .before .before .before .before .before .before .before .before .before .before .before .pre .1)) (a .h) (take (p + 1) (a .zone .now)) (c .before .before .before .before .before .before .before .before .before .before .before .before .pre .1 .inside) (omega arith)
+    (only-counted refl refl refl (omega arith) refl (omega arith))
 
 -- src/lib.rt:237:13
 same-length : tie.Need-same-length
@@ -43,7 +58,10 @@ same-length-3 c = search needs
 
 -- src/lib.rt:237:13
 returns : tie.Need-returns
-returns c = ?
+unfolding accessLane
+returns c = 
+    rw (c .before .before .before .before .before .before .before .before .before .before .before .before .before .place .given .1)
+    (went-after _ _ (rw (c .before .before .before .before .before .before .before .before .before .before .before .before .before .place .given .1) at (c .before .before .before .before .before .before .before .before .before .before .before .before .before .before .before .before .before .before .before .pre .1 .room)) (only-counted refl refl refl (omega arith) refl (omega arith)) (c .before .before .before .before .before .before .portion-step .ensures))
 
 -- src/lib.rt:240:57
 enum-told : tie.Need-enum-told
@@ -51,7 +69,8 @@ enum-told c = search needs
 
 -- src/lib.rt:240:13
 portion-step-requires-2 : tie.Need-portion-step-requires-2
-portion-step-requires-2 c κs = ?
+unfolding accessLane
+portion-step-requires-2 c κs = rw (c .before .before .before .enum-told .given .1) at (c .before .before .before .before .before .before .before .before .before .pre .1)
 
 -- src/lib.rt:240:13
 same-length-4 : tie.Need-same-length-4
@@ -67,7 +86,8 @@ same-length-6 c = search needs
 
 -- src/lib.rt:240:13
 returns-2 : tie.Need-returns-2
-returns-2 c = ?
+unfolding accessLane
+returns-2 c = rw (c .before .before .before .before .before .before .before .before .before .before .enum-told .given .1) (c .before .before .before .before .before .before .portion-step2 .ensures)
 
 pub access-step-spec : {M : Type 1} → statement M
 access-step-spec =

@@ -21,15 +21,15 @@ add-middle c = search needs
 
 -- src/lib.rt:87:15
 add-end : tie.Need-add-end
-add-end c = let q = two-fit _ _ (c .before .before .before .before .before .pre) in search needs
+add-end c = let q = two-fit (c .before .before .before .before .args .first .now) (c .before .before .before .before .args .second .now) (c .before .before .before .before .pre) in search needs
 
 -- src/lib.rt:88:5
 lay-requires : tie.Need-lay-requires
-lay-requires c κs = let q = two-fit _ _ (c .before .before .before .before .before .pre) in search needs
+lay-requires c κs = let q = two-fit (c .before .before .before .before .before .args .first .now) (c .before .before .before .before .before .args .second .now) (c .before .before .before .before .before .pre) in search needs
 
 -- src/lib.rt:89:5
 lay-requires-2 : tie.Need-lay-requires-2
-lay-requires-2 c κs = let q = two-fit _ _ (c .before .before .before .before .before .before .before .before .before .pre) in search needs
+lay-requires-2 c κs = let q = two-fit (c .before .before .before .before .before .before .before .before .before .args .first .now) (c .before .before .before .before .before .before .before .before .before .args .second .now) (c .before .before .before .before .before .before .before .before .before .pre) in search needs
 
 -- src/lib.rt:90:25
 mul-lay-record : tie.Need-mul-lay-record

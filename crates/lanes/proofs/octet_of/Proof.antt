@@ -38,7 +38,7 @@ returns-3 : tie.Need-returns-3
 returns-3 c = 
     let a = c .before .before .args in
     let n = length-append (a .first .now) (a .second .now) in
-    sym (List·getD-eq-default (a .first .now ++ a .second .now) 0 (a .i) (omega arith))
+    sym (List·getD-eq-default (a .first .now ++ a .second .now) 0 (omega arith))
 
 pub octet-of-spec : {M : Type 1} → statement M
 octet-of-spec =

@@ -1,3 +1,7 @@
+use mathlib.Core.Path.{_≡_, refl}
+use native.Mathlib.Omega.{arith}
+use Rattle.lanes.proofs.Laws.{only-counted, went-after}
+use Rattle.lanes.proofs.Parts.{ready-second, begin-is, follow-is}
 use borrow.Author.Needs.{needs}
 use Rattle.lanes.proofs.portion_step.Statement.{statement}
 use Rattle.lanes.proofs.portion_step.Tie as tie
@@ -17,7 +21,10 @@ unit-fate-requires c κs = search needs
 
 -- src/lib.rt:221:9
 settle-requires : tie.Need-settle-requires
-settle-requires c κs = ?
+settle-requires c κs = 
+    let a = c .before .before .before .before .before .before .before .before .before .before .args in
+    let e = begin-is (a .longest) (a .part .now) (a .h) (a .next .now) (c .before .before .before .before .before .before .before .before .before .before .pre .inside) _ (a .finished) (a .begins) (c .before .before .before .before .before .if1 .taken) (c .before .before .before .unit-fate .ensures) in
+    ready-second _ _ (rw e at (c .before .before .before .before .before .before .before .before .before .before .pre)) 0 (a .next .now) (omega arith) (omega arith) (only-counted refl refl refl (omega arith) (omega arith) refl)
 
 -- src/lib.rt:221:9
 same-length : tie.Need-same-length
@@ -33,7 +40,10 @@ same-length-3 c = search needs
 
 -- src/lib.rt:221:9
 returns : tie.Need-returns
-returns c = ?
+returns c = 
+    let a = c .before .before .before .before .before .before .before .before .before .before .before .before .before .before .before .before .before .args in
+    let e = begin-is (a .longest) (a .part .now) (a .h) (a .next .now) (c .before .before .before .before .before .before .before .before .before .before .before .before .before .before .before .before .before .pre .inside) _ (a .finished) (a .begins) (c .before .before .before .before .before .before .before .before .before .before .before .before .if1 .taken) (c .before .before .before .before .before .before .before .before .before .before .unit-fate .ensures) in
+    rw e (went-after _ _ (rw e at (c .before .before .before .before .before .before .before .before .before .before .before .before .before .before .before .before .before .pre .room)) (only-counted refl refl refl (omega arith) (omega arith) refl) (c .before .before .before .before .before .before .settle .ensures))
 
 -- src/lib.rt:223:9
 follow-fate-requires : tie.Need-follow-fate-requires
@@ -41,7 +51,9 @@ follow-fate-requires c κs = search needs
 
 -- src/lib.rt:224:5
 settle-requires-2 : tie.Need-settle-requires-2
-settle-requires-2 c κs = ?
+settle-requires-2 c κs = 
+    let a = c .before .before .before .before .before .before .before .before .before .args in
+    rw (follow-is (a .longest) (a .part .now) (a .h) (a .next .now) (c .before .before .before .before .before .before .before .before .before .pre .inside) _ (a .finished) (a .begins) (c .before .before .before .before .if1 .left) (c .before .before .before .follow-fate .ensures)) at (c .before .before .before .before .before .before .before .before .before .pre)
 
 -- src/lib.rt:213:1
 same-length-4 : tie.Need-same-length-4
@@ -57,7 +69,9 @@ same-length-6 c = search needs
 
 -- src/lib.rt:213:1
 returns-2 : tie.Need-returns-2
-returns-2 c = ?
+returns-2 c = 
+    let a = c .before .before .before .before .before .before .before .before .before .before .before .before .before .before .before .before .args in
+    rw (follow-is (a .longest) (a .part .now) (a .h) (a .next .now) (c .before .before .before .before .before .before .before .before .before .before .before .before .before .before .before .before .pre .inside) _ (a .finished) (a .begins) (c .before .before .before .before .before .before .before .before .before .before .before .if1 .left) (c .before .before .before .before .before .before .before .before .before .before .follow-fate .ensures)) (c .before .before .before .before .before .before .settle2 .ensures)
 
 pub portion-step-spec : {M : Type 1} → statement M
 portion-step-spec =
