@@ -42,7 +42,7 @@ portion-step-requires c κs =
     let q : p < length (a .zone .now) = rw (c .before .before .before .before .before .before .place .given .1) at (c .before .before .before .before .before .before .before .before .before .before .before .before .pre .0) in
     let n : length (take (p + 1) (a .zone .now)) ≡ p + 1 = length-take-le (p + 1) (a .zone .now) (omega arith) in
     ready-second _ _ (rw (c .before .before .before .before .before .before .place .given .1) at (c .before .before .before .before .before .before .before .before .before .before .before .before .pre .1)) (a .h) (take (p + 1) (a .zone .now)) (c .before .before .before .before .before .before .before .before .before .before .before .before .pre .1 .inside) (omega arith)
-    (only-counted refl refl refl (omega arith) refl (omega arith))
+    (only-counted {i = a .info} refl refl refl (omega arith) refl (omega arith))
 
 -- src/lib.rt:237:13
 same-length : tie.Need-same-length

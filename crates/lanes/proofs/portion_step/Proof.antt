@@ -24,7 +24,7 @@ settle-requires : tie.Need-settle-requires
 settle-requires c κs = 
     let a = c .before .before .before .before .before .before .before .before .before .before .args in
     let e = begin-is (a .longest) (a .part .now) (a .h) (a .next .now) (c .before .before .before .before .before .before .before .before .before .before .pre .inside) _ (a .finished) (a .begins) (c .before .before .before .before .before .if1 .taken) (c .before .before .before .unit-fate .ensures) in
-    ready-second _ _ (rw e at (c .before .before .before .before .before .before .before .before .before .before .pre)) 0 (a .next .now) (omega arith) (omega arith) (only-counted refl refl refl (omega arith) (omega arith) refl)
+    ready-second _ _ (rw e at (c .before .before .before .before .before .before .before .before .before .before .pre)) 0 (a .next .now) (omega arith) (omega arith) (only-counted {i = a .info} refl refl refl (omega arith) (omega arith) refl)
 
 -- src/lib.rt:221:9
 same-length : tie.Need-same-length
