@@ -27,16 +27,16 @@ pub struct Led {
 }
 
 // Where a walk over a zone ends: with the zone, at a packet that the zone's end cuts, or at one that drops the rest with itself.
-pub enum Walk {
+enum Walk {
     Finished,
     Held(usize),
     Dropped(usize),
 }
 
 // How a walk ended, and the tally then.
-pub struct Walked {
-    pub end: Walk,
-    pub tally: Tally,
+struct Walked {
+    end: Walk,
+    tally: Tally,
 }
 
 // Octet i of two parts that follow each other, or 0 past their end.
@@ -164,6 +164,7 @@ fn walk_step(longest: usize, zone: &[u8], from: usize, part: &mut [u8], info: In
     requires { ⌜ (from ≤ length (now zone)) × (length (now zone) ≤ length (now part)) × Room t (now units) (now records) (walk longest (drop from (now zone))) ⌝ }
     ensures { λ r. ⌜ Went info t (now (units .entry)) (now (records .entry)) (now (part .entry)) (walk longest (drop from (now (zone .entry)))) r (now (units .exit)) (now (records .exit)) (now (part .exit)) ⌝ }
 {
+    let n = zone.len();
     let w = read_on(longest, zone, from, info, t, units, records);
     let end = w.end;
     let mut s = w.tally;
@@ -172,11 +173,12 @@ fn walk_step(longest: usize, zone: &[u8], from: usize, part: &mut [u8], info: In
             return Led { tally: s, held: 0 };
         }
         Walk::Held(at) => {
+            let rest = n - at;
             octets::lay(part, 0, &zone[at..]);
-            return Led { tally: s, held: zone.len() - at };
+            return Led { tally: s, held: rest };
         }
         Walk::Dropped(at) => {
-            s.dropped = s.dropped + (zone.len() - at);
+            s.dropped = s.dropped + (n - at);
             return Led { tally: s, held: 0 };
         }
     }

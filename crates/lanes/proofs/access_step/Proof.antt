@@ -1,39 +1,31 @@
+-- With a pointer the fill is counted first, and the octets up to the last are the portion; with none all of the zone is.
 use mathlib.Core.Path.{_≡_, refl, sym}
 use Prim.Native.Nat.{_+_, _<_}
 use native.Mathlib.Omega.{arith}
 use lib.ListN.{length, take}
 use lib.Seq.{length-take-le}
+use borrow.Author.Needs.{needs}
 use Rattle.rules.specs.Reading.{accessLane}
 use Rattle.lanes.proofs.Laws.{only-counted, went-after}
 use Rattle.lanes.proofs.Parts.{ready-second}
-use borrow.Author.Needs.{needs}
 use Rattle.lanes.proofs.access_step.Statement.{statement}
 use Rattle.lanes.proofs.access_step.Tie as tie
-use Rattle.lanes.proofs.access_step.Reads as reads
-use Rattle.lanes.proofs.access_step.Lts as lts
-use Rattle.lanes.proofs.portion_step.Reads as portion-step-reads
 
--- src/lib.rt:233:19
 enum-known-place : tie.Need-enum-known-place
 enum-known-place c = search needs
 
--- src/lib.rt:234:21
 add-e : tie.Need-add-e
 add-e c = let q = rw (c .before .place .given .1) at (c .before .before .before .before .before .before .before .pre .0) in search needs
 
--- src/lib.rt:236:32
 sub-s : tie.Need-sub-s
 sub-s c = let q = rw (c .before .place .given .1) at (c .before .before .before .before .before .before .before .pre .0) in search needs
 
--- src/lib.rt:236:22
 add-s : tie.Need-add-s
 add-s c = search needs
 
--- src/lib.rt:237:65
 slice-aggregate-portion-step : tie.Need-slice-aggregate-portion-step
 slice-aggregate-portion-step c = let q = rw (c .before .before .before .before .place .given .1) at (c .before .before .before .before .before .before .before .before .before .before .pre .0) in sym (length-take-le _ _ (omega arith))
 
--- src/lib.rt:237:13
 portion-step-requires : tie.Need-portion-step-requires
 unfolding accessLane
 portion-step-requires c κs = 
@@ -44,47 +36,37 @@ portion-step-requires c κs =
     ready-second _ _ (rw (c .before .before .before .before .before .before .place .given .1) at (c .before .before .before .before .before .before .before .before .before .before .before .before .pre .1)) (a .h) (take (p + 1) (a .zone .now)) (c .before .before .before .before .before .before .before .before .before .before .before .before .pre .1 .inside) (omega arith)
     (only-counted {i = a .info} refl refl refl (omega arith) refl (omega arith))
 
--- src/lib.rt:237:13
 same-length : tie.Need-same-length
 same-length c = search needs
 
--- src/lib.rt:237:13
 same-length-2 : tie.Need-same-length-2
 same-length-2 c = search needs
 
--- src/lib.rt:237:13
 same-length-3 : tie.Need-same-length-3
 same-length-3 c = search needs
 
--- src/lib.rt:237:13
 returns : tie.Need-returns
 unfolding accessLane
 returns c = 
     rw (c .before .before .before .before .before .before .before .before .before .before .before .before .before .place .given .1)
     (went-after _ _ (rw (c .before .before .before .before .before .before .before .before .before .before .before .before .before .place .given .1) at (c .before .before .before .before .before .before .before .before .before .before .before .before .before .before .before .before .before .before .before .pre .1 .room)) (only-counted refl refl refl (omega arith) refl (omega arith)) (c .before .before .before .before .before .before .portion-step .ensures))
 
--- src/lib.rt:240:57
 enum-told : tie.Need-enum-told
 enum-told c = search needs
 
--- src/lib.rt:240:13
 portion-step-requires-2 : tie.Need-portion-step-requires-2
 unfolding accessLane
 portion-step-requires-2 c κs = rw (c .before .before .before .enum-told .given .1) at (c .before .before .before .before .before .before .before .before .before .pre .1)
 
--- src/lib.rt:240:13
 same-length-4 : tie.Need-same-length-4
 same-length-4 c = search needs
 
--- src/lib.rt:240:13
 same-length-5 : tie.Need-same-length-5
 same-length-5 c = search needs
 
--- src/lib.rt:240:13
 same-length-6 : tie.Need-same-length-6
 same-length-6 c = search needs
 
--- src/lib.rt:240:13
 returns-2 : tie.Need-returns-2
 unfolding accessLane
 returns-2 c = rw (c .before .before .before .before .before .before .before .before .before .before .enum-told .given .1) (c .before .before .before .before .before .before .portion-step2 .ensures)

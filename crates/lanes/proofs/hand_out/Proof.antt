@@ -1,61 +1,47 @@
-use mathlib.Core.Path.{_≡_, refl, sym, ap, _∙_}
+-- The second part is laid where the first ends, the record gives start and length, and the tally rises by one unit of both lengths.
+use mathlib.Core.Path.{_≡_, refl, ap, _∙_}
 use mathlib.Core.List.{List, _++_}
-use Prim.Native.Nat.{ℕ, _+_, _-_, _*_, _≤_}
+use Prim.Native.Nat.{ℕ, _+_, _-_, _*_}
 use native.Mathlib.Omega.{arith}
 use lib.ListN.{length, length-append}
+use borrow.Author.Needs.{needs}
 use Rattle.rules.specs.Areas.{laid}
 use Rattle.rules.specs.Reading.{recordOf}
 use Rattle.rules.proofs.Areas.{laid-laid}
 use Rattle.lanes.proofs.Laws.{two-fit, one-handed}
-use borrow.Author.Needs.{needs}
 use Rattle.lanes.proofs.hand_out.Statement.{statement}
 use Rattle.lanes.proofs.hand_out.Tie as tie
-use Rattle.lanes.proofs.hand_out.Reads as reads
-use Rattle.lanes.proofs.hand_out.Lts as lts
-use Rattle.lanes.proofs.lay_record.Reads as lay-record-reads
-use Rattle.octets.proofs.lay.Reads as lay-reads
 
--- src/lib.rt:86:18
 add-middle : tie.Need-add-middle
 add-middle c = search needs
 
--- src/lib.rt:87:15
 add-end : tie.Need-add-end
 add-end c = let q = two-fit (c .before .before .before .before .args .first .now) (c .before .before .before .before .args .second .now) (c .before .before .before .before .pre) in search needs
 
--- src/lib.rt:88:5
 lay-requires : tie.Need-lay-requires
 lay-requires c κs = let q = two-fit (c .before .before .before .before .before .args .first .now) (c .before .before .before .before .before .args .second .now) (c .before .before .before .before .before .pre) in search needs
 
--- src/lib.rt:89:5
 lay-requires-2 : tie.Need-lay-requires-2
 lay-requires-2 c κs = let q = two-fit (c .before .before .before .before .before .before .before .before .before .args .first .now) (c .before .before .before .before .before .before .before .before .before .args .second .now) (c .before .before .before .before .before .before .before .before .before .pre) in search needs
 
--- src/lib.rt:90:25
 mul-lay-record : tie.Need-mul-lay-record
 mul-lay-record c = search needs
 
--- src/lib.rt:90:52
 sub-lay-record : tie.Need-sub-lay-record
 sub-lay-record c = search needs
 
--- src/lib.rt:90:5
 lay-record-requires : tie.Need-lay-record-requires
 lay-record-requires c κs = search needs
 
--- src/lib.rt:91:20
 add-t10 : tie.Need-add-t10
 add-t10 c = search needs
 
--- src/lib.rt:81:1
 same-length : tie.Need-same-length
 same-length c = search needs
 
--- src/lib.rt:81:1
 same-length-2 : tie.Need-same-length-2
 same-length-2 c = search needs
 
--- src/lib.rt:81:1
 returns : tie.Need-returns
 returns c = 
     let a = c .before .before .before .before .before .before .before .before .before .before .before .before .before .before .before .before .before .before .args in

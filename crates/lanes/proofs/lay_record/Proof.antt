@@ -1,54 +1,41 @@
-use mathlib.Core.Path.{_≡_, ap, _∙_}
-use Prim.Native.Nat.{ℕ, _+_}
+-- The four fields are laid one after another, as the rule's record has them.
+use mathlib.Core.Path.{ap, _∙_}
 use mathlib.Core.List.{List}
+use Prim.Native.Nat.{ℕ, _+_}
+use borrow.Author.Needs.{needs}
 use Rattle.rules.specs.Octets.{be}
 use Rattle.rules.specs.Areas.{laid}
 use Rattle.lanes.proofs.Laws.{record-laid}
-use borrow.Author.Needs.{needs}
 use Rattle.lanes.proofs.lay_record.Statement.{statement}
 use Rattle.lanes.proofs.lay_record.Tie as tie
-use Rattle.lanes.proofs.lay_record.Reads as reads
-use Rattle.lanes.proofs.lay_record.Lts as lts
-use Rattle.octets.proofs.lay.Reads as lay-reads
-use Rattle.octets.proofs.lay_number.Reads as lay-number-reads
 
--- src/lib.rt:74:29
 slice-aggregate-lay : tie.Need-slice-aggregate-lay
 slice-aggregate-lay c = search needs
 
--- src/lib.rt:74:5
 lay-requires : tie.Need-lay-requires
 lay-requires c κs = search needs
 
--- src/lib.rt:75:30
 add-lay-number : tie.Need-add-lay-number
 add-lay-number c = search needs
 
--- src/lib.rt:75:5
 lay-number-requires : tie.Need-lay-number-requires
 lay-number-requires c κs = search needs
 
--- src/lib.rt:76:30
 add-lay-number-2 : tie.Need-add-lay-number-2
 add-lay-number-2 c = search needs
 
--- src/lib.rt:76:5
 lay-number-requires-2 : tie.Need-lay-number-requires-2
 lay-number-requires-2 c κs = search needs
 
--- src/lib.rt:77:30
 add-lay-number-3 : tie.Need-add-lay-number-3
 add-lay-number-3 c = search needs
 
--- src/lib.rt:77:5
 lay-number-requires-3 : tie.Need-lay-number-requires-3
 lay-number-requires-3 c κs = search needs
 
--- src/lib.rt:69:1
 same-length : tie.Need-same-length
 same-length c = search needs
 
--- src/lib.rt:69:1
 returns : tie.Need-returns
 returns c = 
     let a = c .before .before .before .before .before .before .before .before .before .before .before .before .before .before .before .before .before .before .args in

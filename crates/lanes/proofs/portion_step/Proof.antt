@@ -1,73 +1,56 @@
-use mathlib.Core.Path.{_≡_, refl}
+-- Octets that begin a unit follow the count of those dropped; others follow those held.
+use mathlib.Core.Path.{refl}
 use native.Mathlib.Omega.{arith}
+use borrow.Author.Needs.{needs}
 use Rattle.lanes.proofs.Laws.{only-counted, went-after}
 use Rattle.lanes.proofs.Parts.{ready-second, begin-is, follow-is}
-use borrow.Author.Needs.{needs}
 use Rattle.lanes.proofs.portion_step.Statement.{statement}
 use Rattle.lanes.proofs.portion_step.Tie as tie
-use Rattle.lanes.proofs.portion_step.Reads as reads
-use Rattle.lanes.proofs.portion_step.Lts as lts
-use Rattle.lanes.proofs.settle.Reads as settle-reads
-use Rattle.packets.proofs.follow_fate.Reads as follow-fate-reads
-use Rattle.packets.proofs.unit_fate.Reads as unit-fate-reads
 
--- src/lib.rt:219:21
 add-s : tie.Need-add-s
 add-s c = search needs
 
--- src/lib.rt:220:13
 unit-fate-requires : tie.Need-unit-fate-requires
 unit-fate-requires c κs = search needs
 
--- src/lib.rt:221:9
 settle-requires : tie.Need-settle-requires
 settle-requires c κs = 
     let a = c .before .before .before .before .before .before .before .before .before .before .args in
     let e = begin-is (a .longest) (a .part .now) (a .h) (a .next .now) (c .before .before .before .before .before .before .before .before .before .before .pre .inside) _ (a .finished) (a .begins) (c .before .before .before .before .before .if1 .taken) (c .before .before .before .unit-fate .ensures) in
     ready-second _ _ (rw e at (c .before .before .before .before .before .before .before .before .before .before .pre)) 0 (a .next .now) (omega arith) (omega arith) (only-counted {i = a .info} refl refl refl (omega arith) (omega arith) refl)
 
--- src/lib.rt:221:9
 same-length : tie.Need-same-length
 same-length c = search needs
 
--- src/lib.rt:221:9
 same-length-2 : tie.Need-same-length-2
 same-length-2 c = search needs
 
--- src/lib.rt:221:9
 same-length-3 : tie.Need-same-length-3
 same-length-3 c = search needs
 
--- src/lib.rt:221:9
 returns : tie.Need-returns
 returns c = 
     let a = c .before .before .before .before .before .before .before .before .before .before .before .before .before .before .before .before .before .args in
     let e = begin-is (a .longest) (a .part .now) (a .h) (a .next .now) (c .before .before .before .before .before .before .before .before .before .before .before .before .before .before .before .before .before .pre .inside) _ (a .finished) (a .begins) (c .before .before .before .before .before .before .before .before .before .before .before .before .if1 .taken) (c .before .before .before .before .before .before .before .before .before .before .unit-fate .ensures) in
     rw e (went-after _ _ (rw e at (c .before .before .before .before .before .before .before .before .before .before .before .before .before .before .before .before .before .pre .room)) (only-counted refl refl refl (omega arith) (omega arith) refl) (c .before .before .before .before .before .before .settle .ensures))
 
--- src/lib.rt:223:9
 follow-fate-requires : tie.Need-follow-fate-requires
 follow-fate-requires c κs = search needs
 
--- src/lib.rt:224:5
 settle-requires-2 : tie.Need-settle-requires-2
 settle-requires-2 c κs = 
     let a = c .before .before .before .before .before .before .before .before .before .args in
     rw (follow-is (a .longest) (a .part .now) (a .h) (a .next .now) (c .before .before .before .before .before .before .before .before .before .pre .inside) _ (a .finished) (a .begins) (c .before .before .before .before .if1 .left) (c .before .before .before .follow-fate .ensures)) at (c .before .before .before .before .before .before .before .before .before .pre)
 
--- src/lib.rt:213:1
 same-length-4 : tie.Need-same-length-4
 same-length-4 c = search needs
 
--- src/lib.rt:213:1
 same-length-5 : tie.Need-same-length-5
 same-length-5 c = search needs
 
--- src/lib.rt:213:1
 same-length-6 : tie.Need-same-length-6
 same-length-6 c = search needs
 
--- src/lib.rt:213:1
 returns-2 : tie.Need-returns-2
 returns-2 c = 
     let a = c .before .before .before .before .before .before .before .before .before .before .before .before .before .before .before .before .args in

@@ -1,21 +1,17 @@
-use mathlib.Core.Path.{_≡_, refl, sym, ap, _∙_}
-use Prim.Native.Nat.{ℕ, _+_, _*_, _-_, _≤_, _<_}
-use mathlib.Core.List.{List, []}
-use lib.ListN.{length, take, drop, length-drop}
-use lib.Seq.{length-take-le}
+-- The invariant: what the whole walk makes is what was handed out so far and then what a walk from `at` makes. A turn hands out or leaves
+-- out the packet at the front, which has an octet at least, so the measure is what is left of the zone. Where the walk ends, the rest is the
+-- rule's own.
+use mathlib.Core.Path.{refl}
+use Prim.Native.Nat.{_-_, _≤_}
 use native.Mathlib.Omega.{arith}
+use lib.ListN.{length, drop, length-drop}
 use borrow.Author.Needs.{needs}
-use Rattle.rules.specs.Areas.{joined}
-use Rattle.rules.specs.Reading.{walk, nothing, hands, idles}
-use Rattle.lanes.specs.Steps.{Room, Handed, Begun, Left}
+use Rattle.rules.specs.Reading.{walk}
+use Rattle.lanes.specs.Steps.{Begun}
 use Rattle.lanes.proofs.Laws.{begun-none, begun-on, begun-is, begun-room, begun-units, begun-records, room-first, only-counted}
 use Rattle.lanes.proofs.Walks.{walk-none, give-size, skip-size, given, skipped, kept, lost}
 use Rattle.lanes.proofs.read_on.Statement.{statement}
 use Rattle.lanes.proofs.read_on.Tie as tie
-use Rattle.lanes.proofs.read_on.Reads as reads
-use Rattle.lanes.proofs.read_on.Lts as lts
-use Rattle.lanes.proofs.hand_out.Reads as hand-out-reads
-use Rattle.lanes.proofs.next_at.Reads as next-at-reads
 
 abbrev Inv-loop : tie.InvT-loop
 Inv-loop longest zone from info units₀ records₀ at₀ t₀ units records at t =
@@ -24,62 +20,48 @@ Inv-loop longest zone from info units₀ records₀ at₀ t₀ units records at 
 abbrev μ-loop : tie.MeasureT-loop
 μ-loop longest zone from info units₀ records₀ at₀ t₀ units records at t = length zone - at
 
--- src/lib.rt:136:9
 loop-holds : tie.Need-loop-holds Inv-loop μ-loop
 loop-holds c = (c .before .before .before .pre .0, begun-none _)
 
--- src/lib.rt:140:37
 sub-next-at : tie.Need-sub-next-at Inv-loop μ-loop
 sub-next-at c = search needs
 
--- src/lib.rt:140:37
 part-next-at-start : tie.Need-part-next-at-start Inv-loop μ-loop
 part-next-at-start c = search needs
 
--- src/lib.rt:140:37
 part-next-at-end : tie.Need-part-next-at-end Inv-loop μ-loop
 part-next-at-end c = search needs
 
--- src/lib.rt:140:13
 next-at-requires : tie.Need-next-at-requires Inv-loop μ-loop
 next-at-requires c κs = search needs
 
--- src/lib.rt:142:24
 enum-known-next : tie.Need-enum-known-next Inv-loop μ-loop
 enum-known-next c = search needs
 
--- src/lib.rt:143:25
 add-e : tie.Need-add-e Inv-loop μ-loop
 add-e c = let q = give-size (c .before .before .before .before .before .before .before .before .before .before .args .longest) (c .before .before .before .before .before .before .before .before .before .before .args .zone .now) (c .before .before .before .before .before .before .loop .at) _ (c .before .before .before .next-at .ensures) _ (c .before .next .given .1) in search needs
 
--- src/lib.rt:144:30
 slice-aggregate-hand-out : tie.Need-slice-aggregate-hand-out Inv-loop μ-loop
 slice-aggregate-hand-out c = search needs
 
--- src/lib.rt:144:42
 sub-hand-out : tie.Need-sub-hand-out Inv-loop μ-loop
 sub-hand-out c = search needs
 
--- src/lib.rt:144:42
 part-hand-out-start : tie.Need-part-hand-out-start Inv-loop μ-loop
 part-hand-out-start c = search needs
 
--- src/lib.rt:144:42
 part-hand-out-end : tie.Need-part-hand-out-end Inv-loop μ-loop
 part-hand-out-end c = let q = give-size (c .before .before .before .before .before .before .before .before .before .before .before .args .longest) (c .before .before .before .before .before .before .before .before .before .before .before .args .zone .now) (c .before .before .before .before .before .before .before .loop .at) _ (c .before .before .before .before .next-at .ensures) _ (c .before .before .next .given .1) in search needs
 
--- src/lib.rt:144:17
 hand-out-requires : tie.Need-hand-out-requires Inv-loop μ-loop
 hand-out-requires c κs = 
     room-first _ _
     (rw (given (c .before .before .before .before .before .before .before .before .before .before .before .before .before .before .args .longest) (c .before .before .before .before .before .before .before .before .before .before .before .before .before .before .args .zone .now) (c .before .before .before .before .before .before .before .before .before .before .loop .at) _ (c .before .before .before .before .before .before .before .next-at .ensures) _ (c .before .before .before .before .before .next .given .1)) at
     (begun-room (c .before .before .before .before .before .before .before .before .before .before .before .before .before .before .pre .1) (c .before .before .before .before .before .before .before .before .before .before .loop .inv .1)))
 
--- src/lib.rt:136:9
 loop-less : tie.Need-loop-less Inv-loop μ-loop
 loop-less c = let q = give-size (c .before .before .before .before .before .before .before .before .before .before .before .before .before .before .before .before .before .before .before .args .longest) (c .before .before .before .before .before .before .before .before .before .before .before .before .before .before .before .before .before .before .before .args .zone .now) (c .before .before .before .before .before .before .before .before .before .before .before .before .before .before .before .loop .at) _ (c .before .before .before .before .before .before .before .before .before .before .before .before .next-at .ensures) _ (c .before .before .before .before .before .before .before .before .before .before .next .given .1) in omega arith
 
--- src/lib.rt:136:9
 loop-again : tie.Need-loop-again Inv-loop μ-loop
 loop-again c = 
     let q = give-size (c .before .before .before .before .before .before .before .before .before .before .before .before .before .before .before .before .before .before .before .args .longest) (c .before .before .before .before .before .before .before .before .before .before .before .before .before .before .before .before .before .before .before .args .zone .now) (c .before .before .before .before .before .before .before .before .before .before .before .before .before .before .before .loop .at) _ (c .before .before .before .before .before .before .before .before .before .before .before .before .next-at .ensures) _ (c .before .before .before .before .before .before .before .before .before .before .next .given .1) in
@@ -87,25 +69,20 @@ loop-again c =
     begun-on (c .before .before .before .before .before .before .before .before .before .before .before .before .before .before .before .before .before .before .before .pre .1) (c .before .before .before .before .before .before .before .before .before .before .before .before .before .before .before .loop .inv .1)
     (given (c .before .before .before .before .before .before .before .before .before .before .before .before .before .before .before .before .before .before .before .args .longest) (c .before .before .before .before .before .before .before .before .before .before .before .before .before .before .before .before .before .before .before .args .zone .now) (c .before .before .before .before .before .before .before .before .before .before .before .before .before .before .before .loop .at) _ (c .before .before .before .before .before .before .before .before .before .before .before .before .next-at .ensures) _ (c .before .before .before .before .before .before .before .before .before .before .next .given .1)) (c .before .before .before .before .hand-out .ensures))
 
--- src/lib.rt:147:24
 enum-known-next-2 : tie.Need-enum-known-next-2 Inv-loop μ-loop
 enum-known-next-2 c = search needs
 
--- src/lib.rt:148:26
 add-t : tie.Need-add-t Inv-loop μ-loop
 add-t c = 
     let q = room-first _ _ (rw (skipped (c .before .before .before .before .before .before .before .before .before .before .before .args .longest) (c .before .before .before .before .before .before .before .before .before .before .before .args .zone .now) (c .before .before .before .before .before .before .before .loop .at) _ (c .before .before .before .before .next-at .ensures) _ (c .before .before .next2 .given .1)) at (begun-room (c .before .before .before .before .before .before .before .before .before .before .before .pre .1) (c .before .before .before .before .before .before .before .loop .inv .1))) in
     search needs
 
--- src/lib.rt:149:22
 add-at : tie.Need-add-at Inv-loop μ-loop
 add-at c = let q = skip-size (c .before .before .before .before .before .before .before .before .before .before .before .args .longest) (c .before .before .before .before .before .before .before .before .before .before .before .args .zone .now) (c .before .before .before .before .before .before .before .loop .at) _ (c .before .before .before .before .next-at .ensures) _ (c .before .before .next2 .given .1) in search needs
 
--- src/lib.rt:136:9
 loop-less-2 : tie.Need-loop-less-2 Inv-loop μ-loop
 loop-less-2 c = let q = skip-size (c .before .before .before .before .before .before .before .before .before .before .before .args .longest) (c .before .before .before .before .before .before .before .before .before .before .before .args .zone .now) (c .before .before .before .before .before .before .before .loop .at) _ (c .before .before .before .before .next-at .ensures) _ (c .before .before .next2 .given .1) in omega arith
 
--- src/lib.rt:136:9
 loop-again-2 : tie.Need-loop-again-2 Inv-loop μ-loop
 loop-again-2 c = 
     let q = skip-size (c .before .before .before .before .before .before .before .before .before .before .before .args .longest) (c .before .before .before .before .before .before .before .before .before .before .before .args .zone .now) (c .before .before .before .before .before .before .before .loop .at) _ (c .before .before .before .before .next-at .ensures) _ (c .before .before .next2 .given .1) in
@@ -114,23 +91,18 @@ loop-again-2 c =
     (skipped (c .before .before .before .before .before .before .before .before .before .before .before .args .longest) (c .before .before .before .before .before .before .before .before .before .before .before .args .zone .now) (c .before .before .before .before .before .before .before .loop .at) _ (c .before .before .before .before .next-at .ensures) _ (c .before .before .next2 .given .1))
     (only-counted refl refl refl (omega arith) (omega arith) (omega arith)))
 
--- src/lib.rt:152:23
 enum-told : tie.Need-enum-told Inv-loop μ-loop
 enum-told c = search needs
 
--- src/lib.rt:155:23
 enum-told-2 : tie.Need-enum-told-2 Inv-loop μ-loop
 enum-told-2 c = search needs
 
--- src/lib.rt:130:1
 same-length : tie.Need-same-length Inv-loop μ-loop
 same-length c = begun-units (c .before .before .before .before .before .pre .1) (c .before .loop .inv .1)
 
--- src/lib.rt:130:1
 same-length-2 : tie.Need-same-length-2 Inv-loop μ-loop
 same-length-2 c = begun-records (c .before .before .before .before .before .pre .1) (c .before .loop .inv .1)
 
--- src/lib.rt:130:1
 returns : tie.Need-returns Inv-loop μ-loop
 returns c = 
     record {
@@ -138,15 +110,12 @@ returns c =
       begun = begun-is (walk-none (c .before .before .before .before .before .args .longest) (drop (c .before .loop .at) (c .before .before .before .before .before .args .zone .now)) (rw length-drop (omega arith))) (c .before .loop .inv .1);
     }
 
--- src/lib.rt:130:1
 same-length-3 : tie.Need-same-length-3 Inv-loop μ-loop
 same-length-3 c = begun-units (c .before .before .before .before .before .before .before .before .before .pre .1) (c .before .before .before .before .before .loop .inv .1)
 
--- src/lib.rt:130:1
 same-length-4 : tie.Need-same-length-4 Inv-loop μ-loop
 same-length-4 c = begun-records (c .before .before .before .before .before .before .before .before .before .pre .1) (c .before .before .before .before .before .loop .inv .1)
 
--- src/lib.rt:130:1
 returns-2 : tie.Need-returns-2 Inv-loop μ-loop
 returns-2 c = 
     record {
@@ -154,15 +123,12 @@ returns-2 c =
       begun = begun-is (kept (c .before .before .before .before .before .before .before .before .before .args .longest) (c .before .before .before .before .before .before .before .before .before .args .zone .now) (c .before .before .before .before .before .loop .at) _ (c .before .before .next-at .ensures) (c .enum-told .given .1)) (c .before .before .before .before .before .loop .inv .1);
     }
 
--- src/lib.rt:130:1
 same-length-5 : tie.Need-same-length-5 Inv-loop μ-loop
 same-length-5 c = begun-units (c .before .before .before .before .before .before .before .before .before .pre .1) (c .before .before .before .before .before .loop .inv .1)
 
--- src/lib.rt:130:1
 same-length-6 : tie.Need-same-length-6 Inv-loop μ-loop
 same-length-6 c = begun-records (c .before .before .before .before .before .before .before .before .before .pre .1) (c .before .before .before .before .before .loop .inv .1)
 
--- src/lib.rt:130:1
 returns-3 : tie.Need-returns-3 Inv-loop μ-loop
 returns-3 c = 
     record {

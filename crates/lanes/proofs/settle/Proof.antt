@@ -1,73 +1,57 @@
-use mathlib.Core.Path.{_≡_, refl, sym, _∙_}
-use mathlib.Core.List.{List, _++_}
-use Prim.Native.Nat.{ℕ, _+_, _≤_}
+-- In each case the octets go where the rule puts them: out as one unit, into the count of idle or dropped ones, or behind the held ones,
+-- which stand at the front of the lane's part already.
+use mathlib.Core.Path.{refl, sym, _∙_}
+use mathlib.Core.List.{_++_}
+use Prim.Native.Nat.{_+_, _≤_}
 use native.Mathlib.Omega.{arith}
 use lib.ListN.{length, take}
 use lib.Seq.{length-take-le}
-use Rattle.lanes.proofs.Laws.{only-counted, part-stays, follow-length, follow-laid}
 use borrow.Author.Needs.{needs}
+use Rattle.lanes.proofs.Laws.{only-counted, part-stays, follow-length, follow-laid}
 use Rattle.lanes.proofs.settle.Statement.{statement}
 use Rattle.lanes.proofs.settle.Tie as tie
-use Rattle.lanes.proofs.settle.Reads as reads
-use Rattle.lanes.proofs.settle.Lts as lts
-use Rattle.lanes.proofs.hand_out.Reads as hand-out-reads
-use Rattle.octets.proofs.lay.Reads as lay-reads
 
--- src/lib.rt:99:13
 add-n : tie.Need-add-n
 add-n c = search needs
 
--- src/lib.rt:103:26
 enum-told : tie.Need-enum-told
 enum-told c = search needs
 
--- src/lib.rt:103:26
 slice-reshare-prefix-hand-out : tie.Need-slice-reshare-prefix-hand-out
 slice-reshare-prefix-hand-out c = search needs
 
--- src/lib.rt:103:26
 slice-aggregate-hand-out : tie.Need-slice-aggregate-hand-out
 slice-aggregate-hand-out c = sym (length-take-le _ _ (c .before .before .before .before .before .before .before .pre .inside))
 
--- src/lib.rt:103:13
 hand-out-requires : tie.Need-hand-out-requires
 hand-out-requires c κs = rw (c .before .before .before .enum-told .given .1) at (c .before .before .before .before .before .before .before .before .before .pre .room)
 
--- src/lib.rt:104:13
 same-length : tie.Need-same-length
 same-length c = search needs
 
--- src/lib.rt:104:13
 same-length-2 : tie.Need-same-length-2
 same-length-2 c = search needs
 
--- src/lib.rt:104:13
 same-length-3 : tie.Need-same-length-3
 same-length-3 c = search needs
 
--- src/lib.rt:104:13
 returns : tie.Need-returns
 returns c = rw (c .before .before .before .before .before .before .before .before .enum-told .given .1) (part-stays refl (c .before .before .before .before .hand-out .ensures))
 
--- src/lib.rt:107:22
 enum-told-2 : tie.Need-enum-told-2
 enum-told-2 c = search needs
 
--- src/lib.rt:107:22
 add-s : tie.Need-add-s
 add-s c = search needs
 
--- src/lib.rt:108:13
 returns-2 : tie.Need-returns-2
 returns-2 c = 
     let n = follow-length (c .before .before .before .before .before .before .before .args .part .now) (c .before .before .before .before .before .before .before .args .h) (c .before .before .before .before .before .before .before .args .next .now) (c .before .before .before .before .before .before .before .pre .inside) in
     rw (c .before .enum-told2 .given .1) (part-stays refl (only-counted refl refl refl (omega arith) (omega arith) (omega arith)))
 
--- src/lib.rt:111:25
 enum-told-3 : tie.Need-enum-told-3
 enum-told-3 c = search needs
 
--- src/lib.rt:111:13
 lay-requires : tie.Need-lay-requires
 lay-requires c κs = 
     let a = c .before .before .before .before .before .before .before .args in
@@ -75,11 +59,9 @@ lay-requires c κs =
     let q : length (take (a .h) (a .part .now) ++ a .next .now) ≤ length (a .part .now) = rw (c .before .enum-told3 .given .1) at (c .before .before .before .before .before .before .before .pre .held) in
     omega arith
 
--- src/lib.rt:112:13
 same-length-4 : tie.Need-same-length-4
 same-length-4 c = search needs
 
--- src/lib.rt:112:13
 returns-3 : tie.Need-returns-3
 returns-3 c = 
     let a = c .before .before .before .before .before .before .before .before .before .before .args in
@@ -90,15 +72,12 @@ returns-3 c =
       held = sym (follow-length (a .part .now) (a .h) (a .next .now) (c .before .before .before .before .before .before .before .before .before .before .pre .inside));
     })
 
--- src/lib.rt:115:25
 enum-told-4 : tie.Need-enum-told-4
 enum-told-4 c = search needs
 
--- src/lib.rt:115:25
 add-s-2 : tie.Need-add-s-2
 add-s-2 c = search needs
 
--- src/lib.rt:116:13
 returns-4 : tie.Need-returns-4
 returns-4 c = 
     let n = follow-length (c .before .before .before .before .before .before .before .args .part .now) (c .before .before .before .before .before .before .before .args .h) (c .before .before .before .before .before .before .before .args .next .now) (c .before .before .before .before .before .before .before .pre .inside) in

@@ -1,78 +1,59 @@
-use mathlib.Core.Path.{_≡_, refl, sym, ap, _∙_}
-use mathlib.Core.List.{List}
-use Prim.Native.Nat.{ℕ, _-_, _≤_}
+-- What the walk left is held or dropped as its end says, and the rest of what it makes was handed out.
+use mathlib.Core.Path.{refl, sym, ap, _∙_}
+use Prim.Native.Nat.{_-_}
 use native.Mathlib.Omega.{arith}
-use lib.ListN.{length, drop, length-drop}
+use lib.ListN.{length-drop}
+use borrow.Author.Needs.{needs}
 use Rattle.rules.specs.Areas.{laid}
 use Rattle.lanes.proofs.Laws.{begun-room, begun-went, only-counted, part-stays}
 use Rattle.lanes.proofs.Walks.{rest-lent}
-use borrow.Author.Needs.{needs}
 use Rattle.lanes.proofs.walk_step.Statement.{statement}
 use Rattle.lanes.proofs.walk_step.Tie as tie
-use Rattle.lanes.proofs.walk_step.Reads as reads
-use Rattle.lanes.proofs.walk_step.Lts as lts
-use Rattle.lanes.proofs.read_on.Reads as read-on-reads
-use Rattle.octets.proofs.lay.Reads as lay-reads
 
--- src/lib.rt:167:9
 read-on-requires : tie.Need-read-on-requires
 read-on-requires c κs = search needs
 
--- src/lib.rt:172:13
 enum-told : tie.Need-enum-told
 enum-told c = search needs
 
--- src/lib.rt:172:13
 same-length : tie.Need-same-length
 same-length c = search needs
 
--- src/lib.rt:172:13
 same-length-2 : tie.Need-same-length-2
 same-length-2 c = search needs
 
--- src/lib.rt:172:13
 returns : tie.Need-returns
 returns c = 
     begun-went (c .before .before .before .before .before .before .before .before .before .before .before .before .before .before .pre .2) (rw (c .enum-told .given .1) at (c .before .before .before .before .before .before .before .read-on .ensures .begun))
     (part-stays refl (only-counted refl refl refl (omega arith) (omega arith) (omega arith)))
 
--- src/lib.rt:174:20
 enum-known-end : tie.Need-enum-known-end
 enum-known-end c = search needs
 
--- src/lib.rt:175:34
+sub-rest : tie.Need-sub-rest
+sub-rest c = let q = rw (c .before .end .given .1) at (c .before .before .before .before .before .before .before .before .read-on .ensures .within) in search needs
+
 sub-lay : tie.Need-sub-lay
 sub-lay c = let q = rw (c .before .before .end .given .1) at (c .before .before .before .before .before .before .before .before .before .read-on .ensures .within) in search needs
 
--- src/lib.rt:175:34
 part-lay-start : tie.Need-part-lay-start
 part-lay-start c = rw (c .before .before .end .given .1) at (c .before .before .before .before .before .before .before .before .before .read-on .ensures .within)
 
--- src/lib.rt:175:34
 part-lay-end : tie.Need-part-lay-end
 part-lay-end c = search needs
 
--- src/lib.rt:175:13
 lay-requires : tie.Need-lay-requires
 lay-requires c κs = search needs
 
--- src/lib.rt:176:42
-sub-t25 : tie.Need-sub-t25
-sub-t25 c = let q = rw (c .before .before .before .before .before .before .end .given .1) at (c .before .before .before .before .before .before .before .before .before .before .before .before .before .read-on .ensures .within) in search needs
-
--- src/lib.rt:176:13
 same-length-3 : tie.Need-same-length-3
 same-length-3 c = search needs
 
--- src/lib.rt:176:13
 same-length-4 : tie.Need-same-length-4
 same-length-4 c = search needs
 
--- src/lib.rt:176:13
 same-length-5 : tie.Need-same-length-5
 same-length-5 c = search needs
 
--- src/lib.rt:176:13
 returns-2 : tie.Need-returns-2
 returns-2 c = 
     let a = c .before .before .before .before .before .before .before .before .before .before .before .before .before .before .before .before .before .before .before .before .args in
@@ -84,30 +65,24 @@ returns-2 c =
       held = sym (length-drop from (a .zone .now));
     })
 
--- src/lib.rt:178:23
 enum-known-end-2 : tie.Need-enum-known-end-2
 enum-known-end-2 c = search needs
 
--- src/lib.rt:179:38
 sub-s : tie.Need-sub-s
 sub-s c = let q = rw (c .before .end2 .given .1) at (c .before .before .before .before .before .before .before .before .read-on .ensures .within) in search needs
 
--- src/lib.rt:179:25
 add-s : tie.Need-add-s
 add-s c = 
     let n = length-drop (c .before .before .end2 .given .0 .0) (c .before .before .before .before .before .before .before .before .before .before .before .before .before .before .before .before .args .zone .now) in
     let q = begun-room (c .before .before .before .before .before .before .before .before .before .before .before .before .before .before .before .before .pre .2) (rw (c .before .before .end2 .given .1) at (c .before .before .before .before .before .before .before .before .before .read-on .ensures .begun)) in
     search needs
 
--- src/lib.rt:180:13
 same-length-6 : tie.Need-same-length-6
 same-length-6 c = search needs
 
--- src/lib.rt:180:13
 same-length-7 : tie.Need-same-length-7
 same-length-7 c = search needs
 
--- src/lib.rt:180:13
 returns-3 : tie.Need-returns-3
 returns-3 c = 
     let n = length-drop (c .before .before .end2 .given .0 .0) (c .before .before .before .before .before .before .before .before .before .before .before .before .before .before .before .before .args .zone .now) in
@@ -124,11 +99,11 @@ walk-step-spec =
     same-length-2
     returns
     enum-known-end
+    sub-rest
     sub-lay
     part-lay-start
     part-lay-end
     lay-requires
-    sub-t25
     same-length-3
     same-length-4
     same-length-5
