@@ -42,7 +42,7 @@ records-append i start (e ∷ es) bs =
 -- Four octets and three numbers of four, laid one after another, are a record.
 pub record-laid : (area : List ℕ) (from : ℕ) (i : Info) (start size : ℕ) → from + 16 ≤ length area
     → laid (laid (laid (laid area from (i .lane ∷ i .vc ∷ i .map ∷ i .service ∷ [])) (from + 4) (be 4 start)) (from + 8) (be 4 size)) (from + 12) (be 4 (i .count))
-      ≡ laid area from (recordOf i start size)
+    ≡ laid area from (recordOf i start size)
 unfolding recordOf
 record-laid area from i start size room =
     let whose : List ℕ = i .lane ∷ i .vc ∷ i .map ∷ i .service ∷ [] in

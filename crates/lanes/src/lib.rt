@@ -9,7 +9,12 @@ ghost use Rattle.rules.specs.Packets.{measure};
 ghost use Rattle.rules.specs.Reading.{nothing, hands, become, lead, nextOf, walk, packetLane, portion, accessLane, laneStep, recordOf};
 ghost use Rattle.rules.proofs.Judged.{Inside};
 ghost use Rattle.lanes.specs.Steps.{Room, Handed, Begun, Left, Ready, Went, Lent, Stepped};
-use rules::{Fate, Info, Kind, Measure, Next, Place};
+use rules::Fate;
+use rules::Info;
+use rules::Kind;
+use rules::Measure;
+use rules::Next;
+use rules::Place;
 
 // How many units were handed out, how many octets they have, and how many octets were idle, fill or dropped.
 pub struct Tally {
@@ -78,7 +83,14 @@ fn lay_record(area: &mut [u8], from: usize, info: Info, start: usize, size: usiz
 }
 
 // Hands out a unit of two parts: its octets, its record, and the tally with it.
-fn hand_out(first: &[u8], second: &[u8], info: Info, t: Tally, units: &mut [u8], records: &mut [u8]) -> Tally
+fn hand_out(
+    first: &[u8],
+    second: &[u8],
+    info: Info,
+    t: Tally,
+    units: &mut [u8],
+    records: &mut [u8],
+) -> Tally
     requires { ⌜ Room t (now units) (now records) (hands (now first ++ now second) nothing) ⌝ }
     ensures { λ r. ⌜ Handed info t (now (units .entry)) (now (records .entry)) (hands (now (first .entry) ++ now (second .entry)) nothing) r (now (units .exit)) (now (records .exit)) ⌝ }
 {
@@ -88,11 +100,26 @@ fn hand_out(first: &[u8], second: &[u8], info: Info, t: Tally, units: &mut [u8],
     octets::lay(units, start, first);
     octets::lay(units, middle, second);
     lay_record(records, 16 * t.count, info, start, end - start);
-    Tally { count: t.count + 1, octets: end, idle: t.idle, fill: t.fill, dropped: t.dropped }
+    Tally {
+        count: t.count + 1,
+        octets: end,
+        idle: t.idle,
+        fill: t.fill,
+        dropped: t.dropped,
+    }
 }
 
 // Does with h held octets and those that follow them what is to become of them.
-fn settle(fate: Fate, part: &mut [u8], h: usize, next: &[u8], info: Info, t: Tally, units: &mut [u8], records: &mut [u8]) -> Led
+fn settle(
+    fate: Fate,
+    part: &mut [u8],
+    h: usize,
+    next: &[u8],
+    info: Info,
+    t: Tally,
+    units: &mut [u8],
+    records: &mut [u8],
+) -> Led
     requires { ⌜ Ready t (now units) (now records) (now part) h (now next) (become fate (take h (now part) ++ now next)) ⌝ }
     ensures { λ r. ⌜ Went info t (now (units .entry)) (now (records .entry)) (now (part .entry)) (become fate (take h (now (part .entry)) ++ now (next .entry))) r (now (units .exit)) (now (records .exit)) (now (part .exit)) ⌝ }
 {
@@ -127,7 +154,15 @@ fn next_at(longest: usize, octets: &[u8]) -> Next
 }
 
 // From octet `from` on, reads one packet after another.
-fn read_on(longest: usize, zone: &[u8], from: usize, info: Info, t0: Tally, units: &mut [u8], records: &mut [u8]) -> Walked
+fn read_on(
+    longest: usize,
+    zone: &[u8],
+    from: usize,
+    info: Info,
+    t0: Tally,
+    units: &mut [u8],
+    records: &mut [u8],
+) -> Walked
     requires { ⌜ (from ≤ length (now zone)) × Room t0 (now units) (now records) (walk longest (drop from (now zone))) ⌝ }
     ensures { λ r. ⌜ Left info t0 (now (units .entry)) (now (records .entry)) (now (zone .entry)) (walk longest (drop from (now (zone .entry)))) r (now (units .exit)) (now (records .exit)) ⌝ }
 {
@@ -160,7 +195,16 @@ fn read_on(longest: usize, zone: &[u8], from: usize, info: Info, t0: Tally, unit
 }
 
 // The packets from the pointer on: a tail that the zone's end cuts goes to the lane's part of the held area.
-fn walk_step(longest: usize, zone: &[u8], from: usize, part: &mut [u8], info: Info, t: Tally, units: &mut [u8], records: &mut [u8]) -> Led
+fn walk_step(
+    longest: usize,
+    zone: &[u8],
+    from: usize,
+    part: &mut [u8],
+    info: Info,
+    t: Tally,
+    units: &mut [u8],
+    records: &mut [u8],
+) -> Led
     requires { ⌜ (from ≤ length (now zone)) × (length (now zone) ≤ length (now part)) × Room t (now units) (now records) (walk longest (drop from (now zone))) ⌝ }
     ensures { λ r. ⌜ Went info t (now (units .entry)) (now (records .entry)) (now (part .entry)) (walk longest (drop from (now (zone .entry)))) r (now (units .exit)) (now (records .exit)) (now (part .exit)) ⌝ }
 {
@@ -175,7 +219,10 @@ fn walk_step(longest: usize, zone: &[u8], from: usize, part: &mut [u8], info: In
         Walk::Held(at) => {
             let rest = n - at;
             octets::lay(part, 0, &zone[at..]);
-            return Led { tally: s, held: rest };
+            return Led {
+                tally: s,
+                held: rest,
+            };
         }
         Walk::Dropped(at) => {
             s.dropped = s.dropped + (n - at);
@@ -185,7 +232,17 @@ fn walk_step(longest: usize, zone: &[u8], from: usize, part: &mut [u8], info: In
 }
 
 // The lead after the held octets: the packet must end with it, or may go on.
-fn lead_step(longest: usize, on: bool, part: &mut [u8], h: usize, next: &[u8], info: Info, t: Tally, units: &mut [u8], records: &mut [u8]) -> Led
+fn lead_step(
+    longest: usize,
+    on: bool,
+    part: &mut [u8],
+    h: usize,
+    next: &[u8],
+    info: Info,
+    t: Tally,
+    units: &mut [u8],
+    records: &mut [u8],
+) -> Led
     requires { ⌜ Ready t (now units) (now records) (now part) h (now next) (lead longest on (take h (now part)) (now next)) ⌝ }
     ensures { λ r. ⌜ Went info t (now (units .entry)) (now (records .entry)) (now (part .entry)) (lead longest on (take h (now (part .entry))) (now (next .entry))) r (now (units .exit)) (now (records .exit)) (now (part .exit)) ⌝ }
 {
@@ -195,7 +252,17 @@ fn lead_step(longest: usize, on: bool, part: &mut [u8], h: usize, next: &[u8], i
 }
 
 // A packet lane's step: the lead, and the packets from the pointer on.
-fn packet_step(longest: usize, place: Place, zone: &[u8], part: &mut [u8], h: usize, info: Info, t: Tally, units: &mut [u8], records: &mut [u8]) -> Led
+fn packet_step(
+    longest: usize,
+    place: Place,
+    zone: &[u8],
+    part: &mut [u8],
+    h: usize,
+    info: Info,
+    t: Tally,
+    units: &mut [u8],
+    records: &mut [u8],
+) -> Led
     requires { ⌜ Inside (length (now zone)) place × (length (now zone) ≤ length (now part)) × Ready t (now units) (now records) (now part) h (now zone) (packetLane longest (take h (now part)) place (now zone)) ⌝ }
     ensures { λ r. ⌜ Went info t (now (units .entry)) (now (records .entry)) (now (part .entry)) (packetLane longest (take h (now (part .entry))) place (now (zone .entry))) r (now (units .exit)) (now (records .exit)) (now (part .exit)) ⌝ }
 {
@@ -212,7 +279,18 @@ fn packet_step(longest: usize, place: Place, zone: &[u8], part: &mut [u8], h: us
 }
 
 // Octets of an access unit, which begin it or follow those held.
-fn portion_step(longest: usize, finished: bool, begins: bool, part: &mut [u8], h: usize, next: &[u8], info: Info, t: Tally, units: &mut [u8], records: &mut [u8]) -> Led
+fn portion_step(
+    longest: usize,
+    finished: bool,
+    begins: bool,
+    part: &mut [u8],
+    h: usize,
+    next: &[u8],
+    info: Info,
+    t: Tally,
+    units: &mut [u8],
+    records: &mut [u8],
+) -> Led
     requires { ⌜ Ready t (now units) (now records) (now part) h (now next) (portion longest finished begins (take h (now part)) (now next)) ⌝ }
     ensures { λ r. ⌜ Went info t (now (units .entry)) (now (records .entry)) (now (part .entry)) (portion longest finished begins (take h (now (part .entry))) (now (next .entry))) r (now (units .exit)) (now (records .exit)) (now (part .exit)) ⌝ }
 {
@@ -227,7 +305,18 @@ fn portion_step(longest: usize, finished: bool, begins: bool, part: &mut [u8], h
 }
 
 // An access lane's step: the unit's octets, and the fill after its last.
-fn access_step(longest: usize, begins: bool, place: Place, zone: &[u8], part: &mut [u8], h: usize, info: Info, t: Tally, units: &mut [u8], records: &mut [u8]) -> Led
+fn access_step(
+    longest: usize,
+    begins: bool,
+    place: Place,
+    zone: &[u8],
+    part: &mut [u8],
+    h: usize,
+    info: Info,
+    t: Tally,
+    units: &mut [u8],
+    records: &mut [u8],
+) -> Led
     requires { ⌜ Inside (length (now zone)) place × Ready t (now units) (now records) (now part) h (now zone) (accessLane longest begins (take h (now part)) place (now zone)) ⌝ }
     ensures { λ r. ⌜ Went info t (now (units .entry)) (now (records .entry)) (now (part .entry)) (accessLane longest begins (take h (now (part .entry))) place (now (zone .entry))) r (now (units .exit)) (now (records .exit)) (now (part .exit)) ⌝ }
 {
@@ -236,22 +325,72 @@ fn access_step(longest: usize, begins: bool, place: Place, zone: &[u8], part: &m
             let e = p + 1;
             let mut s = t;
             s.fill = s.fill + (zone.len() - e);
-            return portion_step(longest, true, begins, part, h, &zone[..e], info, s, units, records);
+            return portion_step(
+                longest,
+                true,
+                begins,
+                part,
+                h,
+                &zone[..e],
+                info,
+                s,
+                units,
+                records,
+            );
         }
         Place::Nowhere => {
-            return portion_step(longest, false, begins, part, h, zone, info, t, units, records);
+            return portion_step(
+                longest,
+                false,
+                begins,
+                part,
+                h,
+                zone,
+                info,
+                t,
+                units,
+                records,
+            );
         }
     }
 }
 
 // A lane's step: its units and their records to the front of their areas, what it then holds to the front of its part of the held area.
-pub fn lane_step(kind: Kind, longest: usize, rule: u8, place: Place, zone: &[u8], part: &mut [u8], h: usize, info: Info, units: &mut [u8], records: &mut [u8]) -> Led
+pub fn lane_step(
+    kind: Kind,
+    longest: usize,
+    rule: u8,
+    place: Place,
+    zone: &[u8],
+    part: &mut [u8],
+    h: usize,
+    info: Info,
+    units: &mut [u8],
+    records: &mut [u8],
+) -> Led
     requires { ⌜ Lent kind longest h place (now zone) (now part) (now units) (now records) ⌝ }
     ensures { λ r. ⌜ Stepped info (laneStep kind longest rule (take h (now (part .entry))) place (now (zone .entry))) (now (part .entry)) (now (units .entry)) (now (records .entry)) r (now (part .exit)) (now (units .exit)) (now (records .exit)) ⌝ }
 {
-    let t = Tally { count: 0, octets: 0, idle: 0, fill: 0, dropped: 0 };
+    let t = Tally {
+        count: 0,
+        octets: 0,
+        idle: 0,
+        fill: 0,
+        dropped: 0,
+    };
     match kind {
         Kind::Packets => packet_step(longest, place, zone, part, h, info, t, units, records),
-        Kind::Access => access_step(longest, rule == 0b001, place, zone, part, h, info, t, units, records),
+        Kind::Access => access_step(
+            longest,
+            rule == 0b001,
+            place,
+            zone,
+            part,
+            h,
+            info,
+            t,
+            units,
+            records,
+        ),
     }
 }

@@ -28,7 +28,7 @@ slice-aggregate-portion-step c = let q = rw (c .before .before .before .before .
 
 portion-step-requires : tie.Need-portion-step-requires
 unfolding accessLane
-portion-step-requires c κs = 
+portion-step-requires c κs =
     let a = c .before .before .before .before .before .before .before .before .before .before .before .before .args in
     let p = c .before .before .before .before .before .before .place .given .0 .0 in
     let q : p < length (a .zone .now) = rw (c .before .before .before .before .before .before .place .given .1) at (c .before .before .before .before .before .before .before .before .before .before .before .before .pre .0) in
@@ -47,7 +47,7 @@ same-length-3 c = search needs
 
 returns : tie.Need-returns
 unfolding accessLane
-returns c = 
+returns c =
     rw (c .before .before .before .before .before .before .before .before .before .before .before .before .before .place .given .1)
     (went-after _ _ (rw (c .before .before .before .before .before .before .before .before .before .before .before .before .before .place .given .1) at (c .before .before .before .before .before .before .before .before .before .before .before .before .before .before .before .before .before .before .before .pre .1 .room)) (only-counted refl refl refl (omega arith) refl (omega arith)) (c .before .before .before .before .before .before .portion-step .ensures))
 

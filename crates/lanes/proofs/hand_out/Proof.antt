@@ -43,7 +43,7 @@ same-length-2 : tie.Need-same-length-2
 same-length-2 c = search needs
 
 returns : tie.Need-returns
-returns c = 
+returns c =
     let a = c .before .before .before .before .before .before .before .before .before .before .before .before .before .before .before .before .before .before .args in
     let fit = two-fit (a .first .now) (a .second .now) (c .before .before .before .before .before .before .before .before .before .before .before .before .before .before .before .before .before .before .pre) in
     let n : length (a .first .now ++ a .second .now) ≡ length (a .first .now) + length (a .second .now) = length-append (a .first .now) (a .second .now) in

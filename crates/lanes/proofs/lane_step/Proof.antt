@@ -11,7 +11,7 @@ enum-told c = search needs
 
 packet-step-requires : tie.Need-packet-step-requires
 unfolding laneStep
-packet-step-requires c κs = 
+packet-step-requires c κs =
     (c .before .before .before .before .before .before .before .before .before .pre .inside, omega (arith, c .before .before .before .before .before .before .before .before .before .pre .zone, c .before .before .before .before .before .before .before .before .before .pre .part), rw (c .before .before .before .enum-told .given .1) at (lent-ready (c .before .before .before .before .before .before .before .before .before .args .rule) (c .before .before .before .before .before .before .before .before .before .pre)))
 
 enum-told-2 : tie.Need-enum-told-2

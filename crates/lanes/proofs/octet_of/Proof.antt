@@ -22,13 +22,13 @@ shared-slice-read-result-2 : tie.Need-shared-slice-read-result-2
 shared-slice-read-result-2 c = search needs
 
 returns-2 : tie.Need-returns-2
-returns-2 c = 
+returns-2 c =
     let a = c .before .before .before .args in
     let e : length (a .first .now) + (a .i - length (a .first .now)) ≡ a .i = omega arith in
     sym (getD-append-add (a .first .now) (a .second .now) (a .i - length (a .first .now)) 0) ∙ ap (λ (k : ℕ). getD (a .first .now ++ a .second .now) k 0) e
 
 returns-3 : tie.Need-returns-3
-returns-3 c = 
+returns-3 c =
     let a = c .before .before .args in
     let n = length-append (a .first .now) (a .second .now) in
     sym (List·getD-eq-default (a .first .now ++ a .second .now) 0 (omega arith))

@@ -19,7 +19,7 @@ slice-aggregate-lead-step c = let q = rw (c .before .before .before .place .give
 
 lead-step-requires : tie.Need-lead-step-requires
 unfolding packetLane
-lead-step-requires c κs = 
+lead-step-requires c κs =
     let a = c .before .before .before .before .before .before .before .before .before .before .before .args in
     let p = c .before .before .before .before .before .place .given .0 .0 in
     let q : p < length (a .zone .now) = rw (c .before .before .before .before .before .place .given .1) at (c .before .before .before .before .before .before .before .before .before .before .before .pre .0) in
@@ -28,7 +28,7 @@ lead-step-requires c κs =
 
 walk-step-requires : tie.Need-walk-step-requires
 unfolding packetLane
-walk-step-requires c κs = 
+walk-step-requires c κs =
     let q = rw (c .before .before .before .before .before .before .before .before .before .before .before .before .before .before .before .before .place .given .1) at (c .before .before .before .before .before .before .before .before .before .before .before .before .before .before .before .before .before .before .before .before .before .before .pre .0) in
     let r = rw (c .before .before .before .before .before .before .before .before .before .before .before .before .before .before .before .before .place .given .1) at (c .before .before .before .before .before .before .before .before .before .before .before .before .before .before .before .before .before .before .before .before .before .before .pre .2 .room) in
     (omega arith, search needs, room-second _ _ r (c .before .before .before .before .before .before .before .before .before .before .lead-step .ensures .handed))
@@ -44,7 +44,7 @@ same-length-3 c = search needs
 
 returns : tie.Need-returns
 unfolding packetLane
-returns c = 
+returns c =
     rw (c .before .before .before .before .before .before .before .before .before .before .before .before .before .before .before .before .before .before .before .before .before .before .before .place .given .1)
     (went-both _ _ (rw (c .before .before .before .before .before .before .before .before .before .before .before .before .before .before .before .before .before .before .before .before .before .before .before .place .given .1) at (c .before .before .before .before .before .before .before .before .before .before .before .before .before .before .before .before .before .before .before .before .before .before .before .before .before .before .before .before .before .pre .2)) (lead-none _ _ _) (c .before .before .before .before .before .before .before .before .before .before .before .before .before .before .before .before .before .lead-step .ensures) (c .before .before .before .before .before .before .walk-step .ensures))
 

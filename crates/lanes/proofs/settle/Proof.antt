@@ -2,7 +2,7 @@
 -- which stand at the front of the lane's part already.
 use mathlib.Core.Path.{refl, sym, _∙_}
 use mathlib.Core.List.{_++_}
-use Prim.Native.Nat.{_+_, _≤_}
+use Prim.Native.Nat.{_≤_}
 use native.Mathlib.Omega.{arith}
 use lib.ListN.{length, take}
 use lib.Seq.{length-take-le}
@@ -45,7 +45,7 @@ add-s : tie.Need-add-s
 add-s c = search needs
 
 returns-2 : tie.Need-returns-2
-returns-2 c = 
+returns-2 c =
     let n = follow-length (c .before .before .before .before .before .before .before .args .part .now) (c .before .before .before .before .before .before .before .args .h) (c .before .before .before .before .before .before .before .args .next .now) (c .before .before .before .before .before .before .before .pre .inside) in
     rw (c .before .enum-told2 .given .1) (part-stays refl (only-counted refl refl refl (omega arith) (omega arith) (omega arith)))
 
@@ -53,7 +53,7 @@ enum-told-3 : tie.Need-enum-told-3
 enum-told-3 c = search needs
 
 lay-requires : tie.Need-lay-requires
-lay-requires c κs = 
+lay-requires c κs =
     let a = c .before .before .before .before .before .before .before .args in
     let n = follow-length (a .part .now) (a .h) (a .next .now) (c .before .before .before .before .before .before .before .pre .inside) in
     let q : length (take (a .h) (a .part .now) ++ a .next .now) ≤ length (a .part .now) = rw (c .before .enum-told3 .given .1) at (c .before .before .before .before .before .before .before .pre .held) in
@@ -63,7 +63,7 @@ same-length-4 : tie.Need-same-length-4
 same-length-4 c = search needs
 
 returns-3 : tie.Need-returns-3
-returns-3 c = 
+returns-3 c =
     let a = c .before .before .before .before .before .before .before .before .before .before .args in
     rw (c .before .before .before .before .enum-told3 .given .1)
     (record {
@@ -79,7 +79,7 @@ add-s-2 : tie.Need-add-s-2
 add-s-2 c = search needs
 
 returns-4 : tie.Need-returns-4
-returns-4 c = 
+returns-4 c =
     let n = follow-length (c .before .before .before .before .before .before .before .args .part .now) (c .before .before .before .before .before .before .before .args .h) (c .before .before .before .before .before .before .before .args .next .now) (c .before .before .before .before .before .before .before .pre .inside) in
     rw (c .before .enum-told4 .given .1) (part-stays refl (only-counted refl refl refl (omega arith) (omega arith) (omega arith)))
 

@@ -1,6 +1,5 @@
 -- What the walk left is held or dropped as its end says, and the rest of what it makes was handed out.
 use mathlib.Core.Path.{refl, sym, ap, _∙_}
-use Prim.Native.Nat.{_-_}
 use native.Mathlib.Omega.{arith}
 use lib.ListN.{length-drop}
 use borrow.Author.Needs.{needs}
@@ -23,7 +22,7 @@ same-length-2 : tie.Need-same-length-2
 same-length-2 c = search needs
 
 returns : tie.Need-returns
-returns c = 
+returns c =
     begun-went (c .before .before .before .before .before .before .before .before .before .before .before .before .before .before .pre .2) (rw (c .enum-told .given .1) at (c .before .before .before .before .before .before .before .read-on .ensures .begun))
     (part-stays refl (only-counted refl refl refl (omega arith) (omega arith) (omega arith)))
 
@@ -55,7 +54,7 @@ same-length-5 : tie.Need-same-length-5
 same-length-5 c = search needs
 
 returns-2 : tie.Need-returns-2
-returns-2 c = 
+returns-2 c =
     let a = c .before .before .before .before .before .before .before .before .before .before .before .before .before .before .before .before .before .before .before .before .args in
     let from = c .before .before .before .before .before .before .end .given .0 .0 in
     begun-went (c .before .before .before .before .before .before .before .before .before .before .before .before .before .before .before .before .before .before .before .before .pre .2) (rw (c .before .before .before .before .before .before .end .given .1) at (c .before .before .before .before .before .before .before .before .before .before .before .before .before .read-on .ensures .begun))
@@ -72,7 +71,7 @@ sub-s : tie.Need-sub-s
 sub-s c = let q = rw (c .before .end2 .given .1) at (c .before .before .before .before .before .before .before .before .read-on .ensures .within) in search needs
 
 add-s : tie.Need-add-s
-add-s c = 
+add-s c =
     let n = length-drop (c .before .before .end2 .given .0 .0) (c .before .before .before .before .before .before .before .before .before .before .before .before .before .before .before .before .args .zone .now) in
     let q = begun-room (c .before .before .before .before .before .before .before .before .before .before .before .before .before .before .before .before .pre .2) (rw (c .before .before .end2 .given .1) at (c .before .before .before .before .before .before .before .before .before .read-on .ensures .begun)) in
     search needs
@@ -84,7 +83,7 @@ same-length-7 : tie.Need-same-length-7
 same-length-7 c = search needs
 
 returns-3 : tie.Need-returns-3
-returns-3 c = 
+returns-3 c =
     let n = length-drop (c .before .before .end2 .given .0 .0) (c .before .before .before .before .before .before .before .before .before .before .before .before .before .before .before .before .args .zone .now) in
     begun-went (c .before .before .before .before .before .before .before .before .before .before .before .before .before .before .before .before .pre .2) (rw (c .before .before .end2 .given .1) at (c .before .before .before .before .before .before .before .before .before .read-on .ensures .begun))
     (part-stays refl (only-counted refl refl refl (omega arith) (omega arith) (omega arith)))
