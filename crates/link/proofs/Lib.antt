@@ -1,0 +1,4 @@
+-- Demand 3, proved.
+pub mod Whole
+pub mod Spans
+pub mod PacketLane
