@@ -2,3 +2,5 @@
 pub mod Whole
 pub mod Spans
 pub mod PacketLane
+pub mod AccessLane
+pub mod Batches
