@@ -4,3 +4,5 @@ pub mod Spans
 pub mod PacketLane
 pub mod AccessLane
 pub mod Batches
+pub mod Records
+pub mod Invariant
