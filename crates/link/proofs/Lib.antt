@@ -6,3 +6,4 @@ pub mod AccessLane
 pub mod Batches
 pub mod Records
 pub mod Invariant
+pub mod Received
