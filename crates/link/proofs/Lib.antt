@@ -7,3 +7,4 @@ pub mod Batches
 pub mod Records
 pub mod Invariant
 pub mod Received
+pub mod Run

@@ -164,6 +164,24 @@ enough-areas h a e q =
     let c : 9600 ≤ length (a .records) = leb-true _ _ (Rattle.rules.proofs.Tests.and-right (12288 ≤? length (a .units)) _ q) in
     rw (eq-eqb (length h) 65536 e, le-ltb _ _ u, le-ltb _ _ c)
 
+-- What the lanes hold once the count v of a frame of lane i is taken.
+abbrev pub gapped : Setting → List Expect → List ℕ → ℕ → ℕ → List ℕ
+gapped s es hs i v = left s (channelAt s i) (missing ((channelOf s i) .octets) (getD es (channelAt s i) noExpect) v) hs
+
+-- What lane i makes of frame k of the batch b.
+unfoldable pub makes : Setting → List Expect → List ℕ → List ℕ → ℕ → ℕ → List ℕ → ℕ → Made
+makes s es hs h i v b k =
+    laneStep ((lane s i) .kind) ((lane s i) .longest) (ruleOf ((lane s i) .kind) k) (holds (gapped s es hs i v) h i)
+    (pointsTo (pointerOf ((lane s i) .kind) (zone s (channelOf s i)) b k)) (zoneOf ((lane s i) .kind) (zone s (channelOf s i)) b k)
+
+-- What a read of it gives.
+pub record Taken (s : Setting) (es : List Expect) (hs h : List ℕ) (i v : ℕ) (m : Made) (o : Got) : Type 0 where
+  pub state : o .taken .state
+      ≡ reader s (set es (channelAt s i) (expected ((channelOf s i) .octets) v)) (set (gapped s es hs i v) i (length (m .held)))
+  pub area : o .heldArea ≡ laid h (8192 * i) (m .held)
+  pub units : (l : ℕ) → handed l o ≡ cond (i =? l) (m .units) []
+  pub small : length (m .held) ≤ 8192
+
 module _ (s : Setting) (es : List Expect) (hs h : List ℕ) (a : Lent) (i v : ℕ) where
   abbrev c : ℕ
   c = channelAt s i
@@ -171,23 +189,13 @@ module _ (s : Setting) (es : List Expect) (hs h : List ℕ) (a : Lent) (i v : �
   abbrev n : ℕ
   n = (channelOf s i) .octets
 
-  -- What channel c's lanes hold once the frame's count is taken.
-  abbrev pub gapped : List ℕ
-  gapped = left s (channelAt s i) (missing ((channelOf s i) .octets) (getD es (channelAt s i) noExpect) v) hs
+  abbrev after : List ℕ
+  after = gapped s es hs i v
 
-  -- What lane i makes of frame k of the batch b.
-  unfoldable pub makes : List ℕ → ℕ → Made
-  makes b k =
-      laneStep ((lane s i) .kind) ((lane s i) .longest) (ruleOf ((lane s i) .kind) k) (holds gapped h i)
-      (pointsTo (pointerOf ((lane s i) .kind) (zone s (channelOf s i)) b k)) (zoneOf ((lane s i) .kind) (zone s (channelOf s i)) b k)
+  abbrev made : List ℕ → ℕ → Made
+  made b k = makes s es hs h i v b k
 
-  pub record Taken (m : Made) (o : Got) : Type 0 where
-    pub state : o .taken .state ≡ reader s (set es (channelAt s i) (expected ((channelOf s i) .octets) v)) (set gapped i (length (m .held)))
-    pub area : o .heldArea ≡ laid h (8192 * i) (m .held)
-    pub units : (l : ℕ) → handed l o ≡ cond (i =? l) (m .units) []
-    pub small : length (m .held) ≤ 8192
-
-  gap-state : (gap (reader s es hs) c v) .state ≡ reader s (set es c (expected n v)) gapped
+  gap-state : (gap (reader s es hs) c v) .state ≡ reader s (set es c (expected n v)) after
   unfolding gap left
   gap-state = go (missing n (getD es c noExpect) v)
     where
@@ -208,7 +216,7 @@ module _ (s : Setting) (es : List Expect) (hs h : List ℕ) (a : Lent) (i v : �
         rw (ok, enough-areas h a full lent, back .read)
         (ap (λ (x : ℕ). laidOut (gap (reader s es hs) c x) i x (madeBy (gap (reader s es hs) c x) i (channelOf s i) f h) h (a .units) (a .records)) (back .count))
 
-    made-is : madeBy g i (channelOf s i) f h ≡ makes b k
+    made-is : madeBy g i (channelOf s i) f h ≡ made b k
     unfolding madeBy makes
     made-is =
         ap (λ (r : Reader).
@@ -216,32 +224,32 @@ module _ (s : Setting) (es : List Expect) (hs h : List ℕ) (a : Lent) (i v : �
         (pointsTo (pointerIn (r .setting) (channelOf s i) f)) (zoneIn (r .setting) (channelOf s i) f)) gap-state
         ∙ rw (back .rule, back .pointer, back .octets)
 
-    pub read-takes : Taken (makes b k) (read (reader s es hs) f h (a .units) (a .records))
+    pub read-takes : Taken s es hs h i v (made b k) (read (reader s es hs) f h (a .units) (a .records))
     unfolding laidOut
     read-takes =
-        subst (Taken (makes b k)) (sym (read-is ∙ ap (λ (m : Made). laidOut g i v m h (a .units) (a .records)) made-is))
+        subst (Taken s es hs h i v (made b k)) (sym (read-is ∙ ap (λ (m : Made). laidOut g i v m h (a .units) (a .records)) made-is))
         (record {
-          state = ap (λ (r : Reader). reader (r .setting) (r .expects) (set (r .held) i (length ((makes b k) .held)))) gap-state;
+          state = ap (λ (r : Reader). reader (r .setting) (r .expects) (set (r .held) i (length ((made b k) .held)))) gap-state;
           area = refl;
-          units = λ l. handed-laid l g i v (makes b k) h (a .units) (a .records) fits;
+          units = λ l. handed-laid l g i v (made b k) h (a .units) (a .records) fits;
           small = below;
         })
       where
         gr : GoodReader (reader s es hs)
         gr = good-reader (reader s es hs) ok
 
-        fits : length (joined ((makes b k) .units)) ≤ 12288
+        fits : length (joined ((made b k) .units)) ≤ 12288
         fits =
             subst (λ (o : Got). o .taken .answer .octets ≤ 12288)
             (read-is ∙ ap (λ (m : Made). laidOut g i v m h (a .units) (a .records)) made-is)
             (read-fits (reader s es hs) f h (a .units) (a .records) .octets)
 
-        below : length ((makes b k) .held) ≤ 8192
+        below : length ((made b k) .held) ≤ 8192
         below =
             let q = gr .setting .lanes i ih .kind in
-            let p : length ((makes b k) .held) < (lane s i) .longest = unfold makes in lane-below ((lane s i) .kind) ((lane s i) .longest) (ruleOf ((lane s i) .kind) k) (holds gapped h i) (pointsTo (pointerOf ((lane s i) .kind) (zone s (channelOf s i)) b k)) (zoneOf ((lane s i) .kind) (zone s (channelOf s i)) b k) (q .enough) in
+            let p : length ((made b k) .held) < (lane s i) .longest = unfold makes in lane-below ((lane s i) .kind) ((lane s i) .longest) (ruleOf ((lane s i) .kind) k) (holds after h i) (pointsTo (pointerOf ((lane s i) .kind) (zone s (channelOf s i)) b k)) (zoneOf ((lane s i) .kind) (zone s (channelOf s i)) b k) (q .enough) in
             omega (arith, p, q .most)
 
-    pub read-ready : readerOk (reader s (set es c (expected n v)) (set gapped i (length ((makes b k) .held)))) ≡ true
+    pub read-ready : readerOk (reader s (set es c (expected n v)) (set after i (length ((made b k) .held)))) ≡ true
     read-ready =
         subst (λ (r : Reader). readerOk r ≡ true) (read-takes .state) (read-valid (reader s es hs) f h (a .units) (a .records) ok)
