@@ -191,7 +191,7 @@ module _ (kind : Kind) (longest z n : ℕ) (zp : 0 < z) (zl : z ≤ 4096) (enoug
       abbrev k : ℕ
       k = v .number
 
-      pub made : Made
+      unfoldable pub made : Made
       made = laneStep kind longest (ruleOf kind k) (heldAfter n (v .expect) (v .count) (v .hold)) (pointsTo (pointerOf kind z b k)) (zoneOf kind z b k)
 
       -- A batch that begins is held no more than the one before it.

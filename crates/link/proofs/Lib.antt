@@ -8,3 +8,4 @@ pub mod Records
 pub mod Invariant
 pub mod Received
 pub mod Run
+pub mod Theorem
