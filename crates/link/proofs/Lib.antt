@@ -9,3 +9,4 @@ pub mod Invariant
 pub mod Received
 pub mod Run
 pub mod Theorem
+pub mod Example

@@ -2,3 +2,4 @@
 pub mod Link
 pub mod Due
 pub mod Demand
+pub mod Examples
