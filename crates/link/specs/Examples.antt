@@ -4,7 +4,7 @@ use mathlib.Core.List.{List, [], _∷_, _++_}
 use lib.ListN.{drop, set, take, replicate}
 use Rattle.rules.specs.declared.Setting.{Setting}
 use Rattle.rules.specs.Errors.{paired, packetFrame}
-use Rattle.rules.specs.Calls.{setUpReader, setUpWriter}
+use Rattle.rules.specs.Calls.{setUpReader, setUpWriter, Got}
 use Rattle.link.specs.Link.{Lent, Arrival, Passage, Kept, Gone, Call, Frame, sent, arrivals, reads, handedOut}
 use Rattle.link.specs.Due.{due}
 
@@ -115,9 +115,15 @@ gapOf n = keep 0 a₀ ∷ lose 0 a₀ [] ∷ times n (lose 0 (packet 21 0x77) []
 unfoldable pub frames : List Call → List Frame
 frames xs = sent ((setUpWriter paired) .state) xs
 
--- On lane l, what the reads hand out, and what is due.
-unfoldable pub got : List Call → ℕ → List (List ℕ)
-got xs l = handedOut l (reads ((setUpReader paired) .state) (replicate 65536 0x66) (arrivals (frames xs)))
+-- What reads hand out on lanes 0 to 3, of which 3 is none, and what is due there.
+unfoldable pub onEach : List Got → List (List (List ℕ))
+onEach os = handedOut 0 os ∷ handedOut 1 os ∷ handedOut 2 os ∷ handedOut 3 os ∷ []
 
-unfoldable pub owed : List Call → ℕ → List (List ℕ)
-owed xs l = due paired l [] (frames xs)
+unfoldable pub got : List Call → List (List (List ℕ))
+got xs = onEach (reads ((setUpReader paired) .state) (replicate 65536 0x66) (arrivals (frames xs)))
+
+unfoldable pub dueOnEach : List Frame → List (List (List ℕ))
+dueOnEach fs = due paired 0 [] fs ∷ due paired 1 [] fs ∷ due paired 2 [] fs ∷ due paired 3 [] fs ∷ []
+
+unfoldable pub owed : List Call → List (List (List ℕ))
+owed xs = dueOnEach (frames xs)
