@@ -125,3 +125,28 @@ meets =
     near zero h = refl
     near (suc zero) h = refl
     near (suc (suc c)) h = absurd (omega arith)
+
+-- ---- the bound is sharp: with 256 frames gone at n = 1, all else as asked, a packet comes out that nobody sent
+
+abbrev mixture : List ℕ
+mixture = take 21 Examples.a₀ ++ drop 21 Examples.b₀
+
+pub record Sharp : Type 0 where
+  pub calls : Demand.InOrder ((Calls.setUpWriter Errors.paired) .state) (λ (l : ℕ). []) (Examples.gapOf 254)
+  pub link : Demand.allPass Errors.paired (Examples.frames (Examples.gapOf 254)) ≡ true
+  pub flags : Demand.keptOn Errors.paired 0 (Examples.frames (Examples.gapOf 254)) ≡ true ∷ (replicate 256 false ++ (true ∷ []))
+  pub got : Examples.got (Examples.gapOf 254) ≡ (mixture ∷ []) ∷ [] ∷ [] ∷ [] ∷ []
+  pub owed : Examples.owed (Examples.gapOf 254) ≡ [] ∷ [] ∷ [] ∷ [] ∷ []
+
+in-order-256 : Orderly (Examples.gapOf 254)
+unfolding all done alike inTurn ordered
+in-order-256 = refl
+
+pub sharp : Sharp
+unfolding all
+sharp = record { calls = ordered-is _ _ (Examples.gapOf 254) in-order-256; link = refl; flags = refl; got = refl; owed = refl }
+
+-- With one fewer gone nothing comes out.
+pub one-fewer : Examples.got (Examples.gapOf 253) ≡ [] ∷ [] ∷ [] ∷ [] ∷ []
+unfolding all
+one-fewer = refl
