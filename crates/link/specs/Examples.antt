@@ -68,7 +68,7 @@ calls =
     -- where a gap is overlooked they make a packet. In the places of the two frames gone, octets that have their counts.
     keep 0 a₀
     ∷ lose 0 a₀ (damaged 1 (drop 21 a₀) ∷ [])
-    ∷ lose 0 b₀ (damaged 2 (take 21 b₀) ∷ (0xC0 ∷ 0x02 ∷ []) ∷ [])
+    ∷ lose 0 b₀ (damaged 2 (take 21 b₀) ∷ [])
     ∷ keep 1 c₁
     ∷ keep 0 b₀
     -- A packet and a unit with the other lanes' frames between theirs.
@@ -86,7 +86,7 @@ calls =
     ∷ keep 2 w₂
     -- A frame of lane 1 is gone: two of its packets, and one that lane 0 has begun. The last batch is unfinished.
     ∷ keep 0 a₀
-    ∷ lose 1 e₁ []
+    ∷ lose 1 e₁ ((0xC0 ∷ 0x02 ∷ []) ∷ replicate 32 0x00 ∷ [])
     ∷ keep 1 e₁
     ∷ keep 0 a₀
     ∷ keep 0 d₀
