@@ -92,8 +92,7 @@ unfolding ordered
 ordered-is w last [] e = tt
 ordered-is w last (x ∷ xs) e =
     let a = (and-eq-true-iff (done ((Link.called w x) .sender .outcome)) _) .0 e in
-    let b = (and-eq-true-iff (inTurn w last x) _) .0 (a .1) in
-    (
+    let b = (and-eq-true-iff (inTurn w last x) _) .0 (a .1) in (
       done-is ((Link.called w x) .sender .outcome) (a .0),
       turn-is w last x (b .0),
       ordered-is ((Link.called w x) .sender .state) (Demand.lending (x .lane) (x .batch) last) xs (b .1),

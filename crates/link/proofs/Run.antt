@@ -184,44 +184,44 @@ module _ (s : Setting) where
       → (dueIn s l (frame st x) (st .past) ≡ []) × Knows (afterGone st x) rest)
       (if-kept : (st : State) (x : Call) (rest : List Frame) → Ready st → Goes st x → length ((madeOf st x) .held) ≤ 8192 → kept (x .passage) ≡ true
       → Knows st (frame st x ∷ rest) → (cond (x .lane =? l) ((madeOf st x) .units) [] ≡ dueIn s l (frame st x) (st .past)) × Knows (afterKept st x) rest)
-      where
-    abbrev Says : State → List Frame → Type 0
-    Says st fs = handedOut l (reads (hearer st) (st .area) (arrivals fs)) ≡ due s l (st .past) fs
+    where
+      abbrev Says : State → List Frame → Type 0
+      Says st fs = handedOut l (reads (hearer st) (st .area) (arrivals fs)) ≡ due s l (st .past) fs
 
-    step : (st : State) (x : Call) (rest : List Frame) → Ready st → Goes st x → passes s (x .passage) ≡ true → Knows st (frame st x ∷ rest)
-        → (Ready (afterGone st x) → Knows (afterGone st x) rest → Says (afterGone st x) rest)
-        → (Ready (afterKept st x) → Knows (afterKept st x) rest → Says (afterKept st x) rest) → Says st (frame st x ∷ rest)
-    unfolding arrivals due frameBy passes afterGone afterKept reads handedOut
-    step st x rest r c p k on-gone on-kept = by (x .passage) refl p
-      where
-        by : (q : Passage) → x .passage ≡ q → passes s q ≡ true
-            → handedOut l (reads (hearer st) (st .area) (arriving (x .passage) ((frame st x) .octets) ++ arrivals rest))
-            ≡ dueIn s l (frame st x) (st .past) ++ due s l (frame st x ∷ st .past) rest
-        by (Gone instead) e h =
-            let d = if-gone st x rest r c (ap kept e) k in
-            ap (λ (q : Passage). handedOut l (reads (hearer st) (st .area) (arriving q ((frame st x) .octets) ++ arrivals rest))) e
-            ∙ strays-read l (hearer st) (st .area) instead (arrivals rest) refl h
-            ∙ on-gone (ready-gone st x r) (d .1)
-            ∙ ap (λ (us : List (List ℕ)). us ++ due s l (frame st x ∷ st .past) rest) (sym (d .0))
-        by (Kept a) e h =
-            let t = took good st x r c a h in
-            let d = if-kept st x rest r c (t .small) (ap kept e) k in
-            ap (λ (q : Passage). handedOut l (reads (hearer st) (st .area) (arriving q ((frame st x) .octets) ++ arrivals rest))) e
-            ∙ ap₂ _++_ (t .units l ∙ d .0)
-            (ap₂ (λ (y : Reader) (i : List ℕ). handedOut l (reads y i (arrivals rest))) (t .state) (t .area) ∙ on-kept (ready-kept good st x r c a h) (d .1))
+      step : (st : State) (x : Call) (rest : List Frame) → Ready st → Goes st x → passes s (x .passage) ≡ true → Knows st (frame st x ∷ rest)
+          → (Ready (afterGone st x) → Knows (afterGone st x) rest → Says (afterGone st x) rest)
+          → (Ready (afterKept st x) → Knows (afterKept st x) rest → Says (afterKept st x) rest) → Says st (frame st x ∷ rest)
+      unfolding arrivals due frameBy passes afterGone afterKept reads handedOut
+      step st x rest r c p k on-gone on-kept = by (x .passage) refl p
+        where
+          by : (q : Passage) → x .passage ≡ q → passes s q ≡ true
+              → handedOut l (reads (hearer st) (st .area) (arriving (x .passage) ((frame st x) .octets) ++ arrivals rest))
+              ≡ dueIn s l (frame st x) (st .past) ++ due s l (frame st x ∷ st .past) rest
+          by (Gone instead) e h =
+              let d = if-gone st x rest r c (ap kept e) k in
+              ap (λ (q : Passage). handedOut l (reads (hearer st) (st .area) (arriving q ((frame st x) .octets) ++ arrivals rest))) e
+              ∙ strays-read l (hearer st) (st .area) instead (arrivals rest) refl h
+              ∙ on-gone (ready-gone st x r) (d .1)
+              ∙ ap (λ (us : List (List ℕ)). us ++ due s l (frame st x ∷ st .past) rest) (sym (d .0))
+          by (Kept a) e h =
+              let t = took good st x r c a h in
+              let d = if-kept st x rest r c (t .small) (ap kept e) k in
+              ap (λ (q : Passage). handedOut l (reads (hearer st) (st .area) (arriving q ((frame st x) .octets) ++ arrivals rest))) e
+              ∙ ap₂ _++_ (t .units l ∙ d .0)
+              (ap₂ (λ (y : Reader) (i : List ℕ). handedOut l (reads y i (arrivals rest))) (t .state) (t .area) ∙ on-kept (ready-kept good st x r c a h) (d .1))
 
-    pub run : (xs : List Call) (st : State) → Ready st → InOrder (sender st) (st .last) xs → allPass s (sent (sender st) xs) ≡ true
-        → Knows st (sent (sender st) xs) → Says st (sent (sender st) xs)
-    unfolding sent arrivals reads handedOut due allPass frameBy afterGone afterKept
-    run [] st r o p k = refl
-    run (x ∷ xs) st r o p k =
-        let c : Goes st x = goes st x (o .0) (o .1) in
-        let w : Writer = sender (afterGone st x) in
-        let rest : List Frame = sent w xs in
-        let e : sent (sender st) (x ∷ xs) ≡ frame st x ∷ rest = ap (λ (y : Writer). frame st x ∷ sent y xs) (c .leaves) in
-        let o′ : InOrder w (lending (x .lane) (x .batch) (st .last)) xs = subst (λ (y : Writer). InOrder y (lending (x .lane) (x .batch) (st .last)) xs) (c .leaves) (o .2) in
-        let p′ : (passes s (x .passage) && allPass s rest) ≡ true = subst (λ (fs : List Frame). allPass s fs ≡ true) e p in
-        subst (Says st) (sym e)
-        (step st x rest r c (and-left _ _ p′) (subst (Knows st) e k)
-        (λ r′ k′. run xs (afterGone st x) r′ o′ (and-right (passes s (x .passage)) _ p′) k′)
-        (λ r′ k′. run xs (afterKept st x) r′ o′ (and-right (passes s (x .passage)) _ p′) k′))
+      pub run : (xs : List Call) (st : State) → Ready st → InOrder (sender st) (st .last) xs → allPass s (sent (sender st) xs) ≡ true
+          → Knows st (sent (sender st) xs) → Says st (sent (sender st) xs)
+      unfolding sent arrivals reads handedOut due allPass frameBy afterGone afterKept
+      run [] st r o p k = refl
+      run (x ∷ xs) st r o p k =
+          let c : Goes st x = goes st x (o .0) (o .1) in
+          let w : Writer = sender (afterGone st x) in
+          let rest : List Frame = sent w xs in
+          let e : sent (sender st) (x ∷ xs) ≡ frame st x ∷ rest = ap (λ (y : Writer). frame st x ∷ sent y xs) (c .leaves) in
+          let o′ : InOrder w (lending (x .lane) (x .batch) (st .last)) xs = subst (λ (y : Writer). InOrder y (lending (x .lane) (x .batch) (st .last)) xs) (c .leaves) (o .2) in
+          let p′ : (passes s (x .passage) && allPass s rest) ≡ true = subst (λ (fs : List Frame). allPass s fs ≡ true) e p in
+          subst (Says st) (sym e)
+          (step st x rest r c (and-left _ _ p′) (subst (Knows st) e k)
+          (λ r′ k′. run xs (afterGone st x) r′ o′ (and-right (passes s (x .passage)) _ p′) k′)
+          (λ r′ k′. run xs (afterKept st x) r′ o′ (and-right (passes s (x .passage)) _ p′) k′))

@@ -150,20 +150,19 @@ module _ (s : Setting) (g : Good s) (l : ℕ) (lh : l < s .numbered) where
       (λ e. (
         due-gone s l (frame s st x) (st .past) e q,
         subst (λ (v : View). Known v (clean s l (frame s st x ∷ st .past)) (keptOn s (channelAt s l) rest))
-        (parts _ _ _ _ _ _ _ _ _ _ refl (sym (count-on s l st x e (omega (arith, r .counts-8, channel-8)))) refl refl refl)
-        (inv-gone _ _ _ _ _ _ _ (view s l st) (clean s l (st .past)) (clean s l (frame s st x ∷ st .past)) (keptOn s (channelAt s l) rest) _ _
-        (clean-gone s l (frame s st x) (st .past) e q)
-        (subst (Known (view s l st) (clean s l (st .past))) (flags-on s l (frame s st x) rest false e q) k)),
+            (parts _ _ _ _ _ _ _ _ _ _ refl (sym (count-on s l st x e (omega (arith, r .counts-8, channel-8)))) refl refl refl)
+            (inv-gone _ _ _ _ _ _ _ (view s l st) (clean s l (st .past)) (clean s l (frame s st x ∷ st .past)) (keptOn s (channelAt s l) rest) _ _
+            (clean-gone s l (frame s st x) (st .past) e q)
+            (subst (Known (view s l st) (clean s l (st .past))) (flags-on s l (frame s st x) rest false e q) k)),
       ))
       (λ n.
-      let m : x .lane ≡ l → ⊥ = λ e. n (ap (channelAt s) e) in
-      (
+      let m : x .lane ≡ l → ⊥ = λ e. n (ap (channelAt s) e) in (
         due-not s l (frame s st x) (st .past) m,
         subst (λ (v : View). Known v (clean s l (frame s st x ∷ st .past)) (keptOn s (channelAt s l) rest))
-        (parts _ _ _ _ _ _ _ _ _ _ (sym (number-other s l st x m)) (sym (count-other s l st x n)) refl refl (sym (batch-other s l st x m)))
-        (inv-other _ _ _ _ _ _ _ (view s l st) (clean s l (st .past)) (clean s l (frame s st x ∷ st .past)) (keptOn s (channelAt s l) rest)
-        (clean-apart s l (frame s st x) (st .past) n)
-        (subst (Known (view s l st) (clean s l (st .past))) (flags-off s l (frame s st x) rest n) k)),
+            (parts _ _ _ _ _ _ _ _ _ _ (sym (number-other s l st x m)) (sym (count-other s l st x n)) refl refl (sym (batch-other s l st x m)))
+            (inv-other _ _ _ _ _ _ _ (view s l st) (clean s l (st .past)) (clean s l (frame s st x ∷ st .past)) (keptOn s (channelAt s l) rest)
+            (clean-apart s l (frame s st x) (st .past) n)
+            (subst (Known (view s l st) (clean s l (st .past))) (flags-off s l (frame s st x) rest n) k)),
       ))
 
   -- ---- the frame is kept, and is another lane's
