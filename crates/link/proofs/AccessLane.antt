@@ -18,7 +18,7 @@ use Rattle.rules.specs.Writing.{zoneOf, ruleOf, inside}
 use Rattle.rules.specs.Reading.{Made, drops, fills, both, become, unitFate, followFate, portion, accessLane}
 use Rattle.rules.proofs.Tests.{split}
 use Rattle.link.specs.Due.{spans, ending}
-use Rattle.link.proofs.Spans.{frame-of, frame-after, Yield, yields, yield, heldFrom, held-past, held-here, ends-not, ends-here}
+use Rattle.link.proofs.Spans.{Yield, yields, yield, heldFrom, either-none, held-past, held-here, first-within, first-after}
 
 module _ (longest z : ℕ) (zp : 0 < z) (j k : ℕ) (jk : j ≤ k) (b : List ℕ) (bl : length b ≤ longest) (kb : k * z < length b) where
   abbrev o : ℕ
@@ -108,15 +108,14 @@ module _ (longest z : ℕ) (zp : 0 < z) (j k : ℕ) (jk : j ≤ k) (b : List ℕ
   unfolding accessLane both begun inside spans ending
   ends h =
       let p : length b - 1 - o < z = omega arith in
-      let e : (0 + length b - 1) / z ≡ k = frame-of z zp (0 + length b - 1) k (omega arith) (omega arith) in
       ap (λ (t : Bool). yield (accessLane longest begins before (cond t (At (length b - 1 - o)) Nowhere) (zoneOf Access z b k))) (lt-ltb _ _ p)
       ∙ ap (λ (xs : List ℕ). yield (begun true live xs)) (zone-ends h)
       ∙ so-far true (drop o b) b (take-append-drop o b)
       ∙ ap (λ (f : Fate). cond live (yield (become f b)) (yields [] [])) fate-ends
       ∙ one-of live (b ∷ []) []
       ∙ sym
-      (ap₂ yields (ends-here k (λ (i : ℕ). j ≤? i) z 0 b [] e ∙ append-nil (cond live (b ∷ []) []))
-      (held-past z j 0 (o + z) b [] h ∙ nil ∙ sym (Rattle.link.proofs.Spans.either-none live)))
+      (ap₂ yields (first-within z zp k (λ (i : ℕ). j ≤? i) b [] 0 (omega arith) (omega arith) ∙ append-nil (cond live (b ∷ []) []))
+      (held-past z j 0 (o + z) b [] h ∙ nil ∙ sym (either-none live)))
     where
       nil : heldFrom z j (0 + length b) (o + z - length b) [] ≡ []
       nil = unfold heldFrom in refl
@@ -125,14 +124,13 @@ module _ (longest z : ℕ) (zp : 0 < z) (j k : ℕ) (jk : j ≤ k) (b : List ℕ
   unfolding accessLane begun inside spans ending
   goes h =
       let p : z ≤ length b - 1 - o = omega arith in
-      let later : k < (0 + length b - 1) / z = frame-after z zp (0 + length b - 1) k (omega arith) in
       ap (λ (t : Bool). yield (accessLane longest begins before (cond t (At (length b - 1 - o)) Nowhere) (zoneOf Access z b k))) (le-ltb _ _ p)
       ∙ ap (λ (xs : List ℕ). yield (begun false live xs)) (zone-goes h)
       ∙ so-far false (take z (drop o b)) (take (o + z) b) (sym (take-add o z b))
       ∙ ap (λ (f : Fate). cond live (yield (become f (take (o + z) b))) (yields [] [])) (fate-goes h)
       ∙ one-of live [] (take (o + z) b)
       ∙ ap (λ (us : List (List ℕ)). yields us (cond live (take (o + z) b) [])) (nothing-of live)
-      ∙ sym (ap₂ yields (ends-not k (λ (i : ℕ). j ≤? i) z 0 b [] (λ e. omega arith)) (held-here z j 0 (o + z) b [] h))
+      ∙ sym (ap₂ yields (first-after z zp k (λ (i : ℕ). j ≤? i) b [] 0 tt (omega arith)) (held-here z j 0 (o + z) b [] h))
     where
       nothing-of : (t : Bool) → _≡_ {A = List (List ℕ)} (cond t [] []) []
       nothing-of true = refl

@@ -127,25 +127,31 @@ meets =
 
 -- ---- the bound is sharp: with 256 frames gone at n = 1, all else as asked, a packet comes out that nobody sent
 
+abbrev far : List Link.Call
+far = Examples.gapOf 254
+
+-- The first half of one packet, and the second half of another.
 abbrev mixture : List ℕ
 mixture = take 21 Examples.a₀ ++ drop 21 Examples.b₀
 
 pub record Sharp : Type 0 where
-  pub calls : Demand.InOrder ((Calls.setUpWriter Errors.paired) .state) (λ (l : ℕ). []) (Examples.gapOf 254)
-  pub link : Demand.allPass Errors.paired (Examples.frames (Examples.gapOf 254)) ≡ true
-  pub flags : Demand.keptOn Errors.paired 0 (Examples.frames (Examples.gapOf 254)) ≡ true ∷ (replicate 256 false ++ (true ∷ []))
-  pub got : Examples.got (Examples.gapOf 254) ≡ (mixture ∷ []) ∷ [] ∷ [] ∷ [] ∷ []
-  pub owed : Examples.owed (Examples.gapOf 254) ≡ [] ∷ [] ∷ [] ∷ [] ∷ []
+  pub calls : Demand.InOrder ((Calls.setUpWriter Errors.paired) .state) (λ (l : ℕ). []) far
+  pub link : Demand.allPass Errors.paired (Examples.frames far) ≡ true
+  pub flags : Demand.keptOn Errors.paired 0 (Examples.frames far) ≡ true ∷ (replicate 256 false ++ (true ∷ []))
+  pub near : Demand.fewGone 256 false 0 (true ∷ (replicate 256 false ++ (true ∷ []))) ≡ false
+  pub got : Examples.got far ≡ (mixture ∷ []) ∷ [] ∷ [] ∷ [] ∷ []
+  pub owed : Examples.owed far ≡ [] ∷ [] ∷ [] ∷ [] ∷ []
 
-in-order-256 : Orderly (Examples.gapOf 254)
+in-order-far : Orderly far
 unfolding all done alike inTurn ordered
-in-order-256 = refl
+in-order-far = refl
 
 pub sharp : Sharp
 unfolding all
-sharp = record { calls = ordered-is _ _ (Examples.gapOf 254) in-order-256; link = refl; flags = refl; got = refl; owed = refl }
+sharp = record { calls = ordered-is _ _ far in-order-far; link = refl; flags = refl; near = refl; got = refl; owed = refl }
 
--- With one fewer gone nothing comes out.
-pub one-fewer : Examples.got (Examples.gapOf 253) ≡ [] ∷ [] ∷ [] ∷ [] ∷ []
+-- With one fewer gone the premise holds, and nothing comes out.
+pub one-fewer : (Demand.fewGone 256 false 0 (Demand.keptOn Errors.paired 0 (Examples.frames (Examples.gapOf 253))) ≡ true)
+    × (Examples.got (Examples.gapOf 253) ≡ [] ∷ [] ∷ [] ∷ [] ∷ [])
 unfolding all
-one-fewer = refl
+one-fewer = (refl, refl)

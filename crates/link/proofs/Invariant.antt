@@ -5,7 +5,7 @@
 use mathlib.Core.Path.{_≡_, refl, sym, ap, ap₂, _∙_, subst}
 use mathlib.Core.Logic.{_⊎_, inl, inr}
 use Prim.Native.Nat.{ℕ, zero, suc, _+_, _-_, _*_, _/_, _%_, _^_, _≤_, _<_}
-use native.Mathlib.Nat.{le-refl, le-trans, not-suc-le-zero, suc-ne-zero, zero-add, add-zero, zero-mul, mod-lt, mod-mod, mod-add-mod}
+use native.Mathlib.Nat.{le-refl, le-trans, not-suc-le-zero, suc-ne-zero, zero-add, add-zero, mod-mod, mod-add-mod}
 use native.Mathlib.Omega.{arith}
 use mathlib.Core.Bool.{Bool, true, false, cond, not, _&&_, _||_, true≢false, false≢true}
 use mathlib.Core.List.{List, [], _∷_, _++_}
@@ -18,13 +18,26 @@ use Rattle.rules.specs.Frames.{pointsTo}
 use Rattle.rules.specs.Writing.{batchOk, unitsOf, frames, zoneOf, ruleOf, pointerOf, numberAfter, countAfter}
 use Rattle.rules.specs.Reading.{missing, expected, Made, laneStep}
 use Rattle.rules.proofs.Tests.{same, and-left, and-right}
-use Rattle.rules.proofs.Octets.{pow256-pos}
 use Rattle.rules.proofs.Counts.{expects, missing-unknown, missing-gone, expected-below}
 use Rattle.rules.proofs.Valid.{least}
 use Rattle.link.specs.Due.{spans, ending}
 use Rattle.link.specs.Demand.{fewGone}
 use Rattle.link.proofs.Spans.{Yield, yields, yield, heldFrom, held-none, ends-same}
 use Rattle.link.proofs.Batches.{Units, units, lane-reads, lane-over}
+
+-- ---- counts, over n: a count so many past another
+
+one-further : (n v g : ℕ) → countAfter n ((v + g) % 256 ^ n) ≡ (v + suc g) % 256 ^ n
+unfolding countAfter
+one-further n v g =
+    let q : v + g + 1 ≡ v + suc g = omega arith in
+    mod-add-mod (v + g) (256 ^ n) 1 ∙ ap (λ (x : ℕ). x % 256 ^ n) q
+
+none-further : (n v : ℕ) → (countAfter n v + 0) % 256 ^ n ≡ countAfter n v
+unfolding countAfter
+none-further n v = ap (λ (x : ℕ). x % 256 ^ n) (add-zero ((v + 1) % 256 ^ n)) ∙ mod-mod (v + 1) (256 ^ n)
+
+-- ---- a lane's view
 
 -- What is known of a lane: its next frame number and its channel's count, at the writer; the count that the reader expects, and the
 -- octets that the reader holds; the batch last lent.
@@ -91,7 +104,7 @@ module _ (kind : Kind) (longest z n : ℕ) (zp : 0 < z) (zl : z ≤ 4096) (enoug
   pub inv-gone : (v : View) (whole whole′ : ℕ → Bool) (flags : List Bool) (number : ℕ) (batch : List ℕ) → ((i : ℕ) → whole′ i ≡ false)
       → Inv v whole (false ∷ flags)
       → Inv (record { number = number; count = countAfter n (v .count); expect = v .expect; hold = v .hold; batch = batch }) whole′ flags
-  unfolding fewGone countAfter
+  unfolding fewGone
   inv-gone v whole whole′ flags number batch h r =
       record {
         j = number;
@@ -101,9 +114,7 @@ module _ (kind : Kind) (longest z n : ℕ) (zp : 0 < z) (zl : z ≤ 4096) (enoug
         wholly = λ i l. h i ∙ sym (lt-leb number i l);
         known = r .known;
         below = r .below;
-        count = λ a.
-            let q : v .expect .count + r .gone + 1 ≡ v .expect .count + suc (r .gone) = omega arith in
-            ap (λ (x : ℕ). (x + 1) % m) (r .count a) ∙ mod-add-mod (v .expect .count + r .gone) m 1 ∙ ap (λ (x : ℕ). x % m) q;
+        count = λ a. ap (countAfter n) (r .count a) ∙ one-further n (v .expect .count) (r .gone);
         held = λ e. absurd (suc-ne-zero (r .gone) e);
         fresh = r .fresh;
         lost = λ e. refl;
@@ -166,8 +177,8 @@ module _ (kind : Kind) (longest z n : ℕ) (zp : 0 < z) (zl : z ≤ 4096) (enoug
           since = h;
           wholly = w;
           known = refl;
-          below = mod-lt (v .count + 1) (pow256-pos n);
-          count = λ a. sym (ap (λ (x : ℕ). x % m) (add-zero ((v .count + 1) % m)) ∙ mod-mod (v .count + 1) m);
+          below = expected-below n (v .count);
+          count = λ a. sym (none-further n (v .count));
           held = λ e. q;
           fresh = λ a. absurd (true≢false a);
           lost = λ e. absurd (e refl);

@@ -3,7 +3,7 @@
 use mathlib.Core.Path.{_≡_, refl, sym, ap, ap₂, _∙_, subst}
 use mathlib.Core.Logic.{_⊎_, inl, inr}
 use Prim.Native.Nat.{ℕ, zero, suc, _+_, _-_, _*_, _/_, _≤_, _<_}
-use native.Mathlib.Nat.{le-refl, le-trans, not-suc-le-zero, zero-add, add-zero, add-sub-of-le, sub-self}
+use native.Mathlib.Nat.{le-refl, le-trans, not-suc-le-zero, zero-add, add-zero, add-sub-of-le, sub-self, sub-eq-zero-of-le, le-antisymm}
 use native.Mathlib.Omega.{arith}
 use mathlib.Core.Bool.{Bool, true, false, cond, _&&_}
 use mathlib.Core.List.{List, [], _∷_, _++_, append-nil, append-assoc}
@@ -27,7 +27,7 @@ use Rattle.rules.proofs.Tests.{split}
 use Rattle.rules.proofs.Lanes.{walk-front}
 use Rattle.link.specs.Due.{spans, ending}
 use Rattle.link.proofs.Whole.{Whole, Wholes}
-use Rattle.link.proofs.Spans.{frame-of, frame-before, frame-from, frame-after, Filled, Yield, yields, yield, heldFrom, held-past, held-here, ends-not, ends-here, ends-later}
+use Rattle.link.proofs.Spans.{frame-from, Filled, Yield, yields, yield, heldFrom, either-none, held-past, held-here, first-before, first-within, first-after}
 
 pub wholes-filled : (longest : ℕ) (us : List (List ℕ)) → Wholes longest us → Filled us
 wholes-filled longest [] w = tt
@@ -145,27 +145,25 @@ module _ (longest z : ℕ) (zp : 0 < z) (j k : ℕ) (jk : j ≤ k) where
       whole g ih =
           let s = w .0 .some in
           let y : List ℕ = take (m - length u) (joined us) ++ filler n in
-          let here : (a + length u - 1) / z ≡ k = frame-of z zp (a + length u - 1) k (omega (arith, s)) (omega (arith, s)) in
           ap (λ (xs : List ℕ). yield (walk longest (xs ++ filler n))) (take-over m u (joined us) g)
           ∙ ap (λ (xs : List ℕ). yield (walk longest xs)) (append-assoc u (take (m - length u) (joined us)) (filler n))
           ∙ walk-whole longest u (w .0) y
           ∙ ap (λ (r : Yield). yields (u ∷ r .units) (r .held)) ih
           ∙ sym
           (ap₂ yields
-          (ends-here k (λ (i : ℕ). j ≤? i) z a u us here ∙ ap (λ (t : Bool). cond t (u ∷ []) [] ++ ends (a + length u) us) (not-lost a h))
+          (first-within z zp k (λ (i : ℕ). j ≤? i) u us a (omega (arith, s)) (omega arith) ∙ ap (λ (t : Bool). cond t (u ∷ []) [] ++ ends (a + length u) us) (not-lost a h))
           (held-past z j a m u us g))
 
       part : m < length u → (n ≡ 0) ⊎ (length (u ++ joined us) ≤ m)
           → yield (walk longest (take m (u ++ joined us) ++ filler n)) ≡ yields (ends a (u ∷ us)) (held a m (u ∷ us))
       part g (inr q) = absurd (omega (arith, length-append u (joined us)))
       part g (inl q) =
-          let later : k < (a + length u - 1) / z = frame-after z zp (a + length u - 1) k (omega arith) in
           ap₂ (λ (xs : List ℕ) (i : ℕ). yield (walk longest (xs ++ filler i))) (take-append-le m u (joined us) (omega arith)) q
           ∙ ap (λ (xs : List ℕ). yield (walk longest xs)) (append-nil (take m u))
           ∙ walk-part longest u (w .0) m g
           ∙ sym
           (ap₂ yields
-          (ends-not k (λ (i : ℕ). j ≤? i) z a u us (λ i. omega arith) ∙ ends-later z zp k (λ (i : ℕ). j ≤? i) us (a + length u) (wholes-filled longest us (w .1)) (omega arith))
+          (first-after z zp k (λ (i : ℕ). j ≤? i) u us a (wholes-filled longest us (w .1)) (omega arith))
           (held-here z j a m u us g ∙ ap (λ (t : Bool). cond t (take m u) []) (not-lost a h)))
 
   -- ---- the frame's zone, from octet o of the units on
@@ -244,12 +242,11 @@ module _ (longest z : ℕ) (zp : 0 < z) (j k : ℕ) (jk : j ≤ k) where
           let x : take z (drop o (joined (u ∷ us))) ≡ take z (drop o u) = ap (take z) octets-from ∙ take-append-le z (drop o u) (joined us) (rw left-length (omega arith)) in
           let l : length (take z (drop o u)) ≡ z = length-take-le z (drop o u) (rw left-length (omega arith)) in
           let f : take z (drop o (joined (u ∷ us))) ++ filler behind ≡ take z (drop o u) = ap (λ (ys : List ℕ). ys ++ filler (z - length ys)) x ∙ ap (λ (n : ℕ). take z (drop o u) ++ filler (z - n)) l ∙ ap (λ (n : ℕ). take z (drop o u) ++ filler n) (sub-self z) ∙ append-nil (take z (drop o u)) in
-          let later : k < (a + length u - 1) / z = frame-after z zp (a + length u - 1) k (omega arith) in
           ap₂ (λ (p : Place) (zs : List ℕ). yield (packetLane longest (cond live (take o u) []) p zs)) (inside-not left (omega arith)) f
           ∙ lead-goes h live
           ∙ sym
           (ap₂ yields
-          (ends-not k (λ (i : ℕ). j ≤? i) z a u us (λ i. omega arith) ∙ ends-later z zp k (λ (i : ℕ). j ≤? i) us (a + length u) (wholes-filled longest us (w .1)) (omega arith))
+          (first-after z zp k (λ (i : ℕ). j ≤? i) u us a (wholes-filled longest us (w .1)) (omega arith))
           (held-here z j a (o + z) u us (omega arith)))
 
       -- It ends in this frame.
@@ -277,8 +274,7 @@ module _ (longest z : ℕ) (zp : 0 < z) (j k : ℕ) (jk : j ≤ k) where
           → yields (cond live (u ∷ []) [] ++ ends (a + length u) us) (held (a + length u) (o + z - length u) us)
           ≡ yields (ends a (u ∷ us)) (held a (o + z) (u ∷ us))
       all-due h =
-          let here : (a + length u - 1) / z ≡ k = frame-of z zp (a + length u - 1) k (omega arith) (omega arith) in
-          sym (ap₂ yields (ends-here k (λ (i : ℕ). j ≤? i) z a u us here) (held-past z j a (o + z) u us (omega arith)))
+          sym (ap₂ yields (first-within z zp k (λ (i : ℕ). j ≤? i) u us a (omega arith) (omega arith)) (held-past z j a (o + z) u us (omega arith)))
 
       both-yield : (x y : Made) → yield (both x y) ≡ yields (x .units ++ y .units) (y .held)
       unfolding both
@@ -315,7 +311,7 @@ module _ (longest z : ℕ) (zp : 0 < z) (j k : ℕ) (jk : j ≤ k) where
           ∙ all-due g
 
       began : Says (cond live (take o u) []) (inside z left) (zoneFrom o (u ∷ us))
-      began = split left z (λ h. split z left (λ g. at-end (native.Mathlib.Nat.le-antisymm h g)) before-end) goes
+      began = split left z (λ h. split z left (λ g. at-end (le-antisymm h g)) before-end) goes
 
   -- ---- any octet of the units
 
@@ -345,21 +341,20 @@ module _ (longest z : ℕ) (zp : 0 < z) (j k : ℕ) (jk : j ≤ k) where
           let s = w .0 .some in
           let p : startFrom (u ∷ us) o - o ≡ startFrom us (o - length u) - (o - length u) = omega (arith, start-on u us o (omega arith)) in
           let d : drop o (u ++ joined us) ≡ drop (o - length u) (joined us) = ap (λ (i : ℕ). drop i (u ++ joined us)) (sym (add-sub-of-le h)) ∙ drop-append-add u (joined us) (o - length u) in
-          let before : (a + length u - 1) / z < k = frame-before z zp (a + length u - 1) k (omega arith) in
           let n : o - length u + z ≡ o + z - length u = omega arith in
           ap₂ (λ (x : List ℕ) (q : Place). yield (packetLane longest x q (zoneFrom o (u ∷ us)))) (held-past z j a o u us h) (ap (inside z) p)
           ∙ ap (λ (xs : List ℕ). yield (packetLane longest (held (a + length u) (o - length u) us) (inside z (startFrom us (o - length u) - (o - length u))) (take z xs ++ filler (z - length (take z xs))))) d
           ∙ ih
           ∙ ap (λ (i : ℕ). yields (ends (a + length u) us) (held (a + length u) i us)) n
-          ∙ sym (ap₂ yields (ends-not k (λ (i : ℕ). j ≤? i) z a u us (λ i. omega arith)) (held-past z j a (o + z) u us (omega arith)))
+          ∙ sym (ap₂ yields (first-before z zp k (λ (i : ℕ). j ≤? i) u us a s (omega arith)) (held-past z j a (o + z) u us (omega arith)))
 
       here : (o : ℕ) → a + o ≡ k * z → o < length u
           → yield (packetLane longest (held a o (u ∷ us)) (inside z (startFrom (u ∷ us) o - o)) (zoneFrom o (u ∷ us))) ≡ yields (ends a (u ∷ us)) (held a (o + z) (u ∷ us))
       here zero e h =
           ap₂ (λ (x : List ℕ) (n : ℕ). yield (packetLane longest x (inside z n) (zoneFrom 0 (u ∷ us))))
-          (held-here z j a 0 u us h ∙ Rattle.link.proofs.Spans.either-none (j ≤? (a / z))) (ap (λ (n : ℕ). n - 0) (start-zero (u ∷ us)))
+          (held-here z j a 0 u us h ∙ either-none (j ≤? (a / z))) (ap (λ (n : ℕ). n - 0) (start-zero (u ∷ us)))
           ∙ starts one u us a 0 w e refl
       here (suc o) e h =
-          let p : startFrom (u ∷ us) (suc o) - suc o ≡ length u - suc o = ap (λ (n : ℕ). n - suc o) (start-on u us (suc o) (omega arith) ∙ ap (λ (n : ℕ). length u + startFrom us n) (native.Mathlib.Nat.sub-eq-zero-of-le (omega arith)) ∙ ap (λ (n : ℕ). length u + n) (start-zero us) ∙ add-zero (length u)) in
+          let p : startFrom (u ∷ us) (suc o) - suc o ≡ length u - suc o = ap (λ (n : ℕ). n - suc o) (start-on u us (suc o) (omega arith) ∙ ap (λ (n : ℕ). length u + startFrom us n) (sub-eq-zero-of-le (omega arith)) ∙ ap (λ (n : ℕ). length u + n) (start-zero us) ∙ add-zero (length u)) in
           ap₂ (λ (x : List ℕ) (n : ℕ). yield (packetLane longest x (inside z n) (zoneFrom (suc o) (u ∷ us)))) (held-here z j a (suc o) u us h) p
           ∙ began one u us a (suc o) w e (omega arith) h

@@ -7,7 +7,7 @@ use native.Mathlib.Nat.{le-refl, le-trans, not-suc-le-zero, le-of-suc-le-suc, su
 use native.Mathlib.Omega.{arith}
 use mathlib.Core.Bool.{Bool, true, false, cond, not, _||_, _&&_, true≢false, false≢true}
 use mathlib.Core.List.{List, [], _∷_, _++_}
-use lib.ListN.{length, getD, take, drop, set, length-set, List·getD-eq-default}
+use lib.ListN.{length, getD, take, drop, set, length-set, length-take, List·getD-eq-default}
 use lib.Seq.{take-take, getD-take, getD-set-same, getD-set-other}
 use borrow.Author.Tests.{leb-true, le-ltb, eq-eqb, ne-eqb, eqb-true, eqb-false}
 use Rattle.rules.specs.declared.Kind.{Kind}
@@ -25,6 +25,7 @@ use Rattle.rules.specs.Writing.{zoneOf, ruleOf, pointerOf}
 use Rattle.rules.specs.Reading.{missing, expected, emptied, lanesOf, gapBy, gap, Made, laneStep}
 use Rattle.rules.specs.Refusals.{refusals, judged, judge}
 use Rattle.rules.specs.Calls.{Got, areasShort, laidOut, madeBy, readOn, onVerdict, verdict, read}
+use Rattle.rules.proofs.Tests.{split, and-left, and-right}
 use Rattle.rules.proofs.Areas.{length-laid, laid-at, laid-before, laid-after}
 use Rattle.rules.proofs.Valid.{Good, good, GoodLane, GoodReader, good-reader, least}
 use Rattle.rules.proofs.Lanes.{lane-below}
@@ -101,7 +102,7 @@ emptied-at p (x ∷ ls) (y ∷ hs) (suc l) h = emptied-at p ls hs l (le-of-suc-l
 module _ (s : Setting) (g : Good s) (l : ℕ) (lh : l < s .numbered) where
   -- A numbered lane has a slot: one of zeros would have no longest unit.
   slot : l < length (s .lanes)
-  slot = Rattle.rules.proofs.Tests.split (length (s .lanes)) l (λ h. absurd (bad (List·getD-eq-default (s .lanes) noLane h) (g .lanes l lh .kind .enough))) (λ h. h)
+  slot = split (length (s .lanes)) l (λ h. absurd (bad (List·getD-eq-default (s .lanes) noLane h) (g .lanes l lh .kind .enough))) (λ h. h)
     where
       bad : lane s l ≡ noLane → least ((lane s l) .kind) ≤ (lane s l) .longest → ⊥
       bad e h = omega (arith, subst (λ (x : Lane). least (x .kind) ≤ x .longest) e h)
@@ -112,7 +113,7 @@ module _ (s : Setting) (g : Good s) (l : ℕ) (lh : l < s .numbered) where
   left-at c m hs = go (m =? 0)
     where
       n : l < length (lanesOf s)
-      n = omega (arith, lib.ListN.length-take (s .numbered) (s .lanes), slot)
+      n = omega (arith, length-take (s .numbered) (s .lanes), slot)
 
       go : (t : Bool) → getD (cond t hs (emptied (λ (x : Lane). x .channel =? c) (lanesOf s) hs)) l 0 ≡ cond t (getD hs l 0) (cond (channelAt s l =? c) 0 (getD hs l 0))
       go true = refl
@@ -151,7 +152,7 @@ module _ (hs h xs : List ℕ) (i : ℕ) (ih : i < 8) (slots : length hs ≡ 8) (
   pub stored-other : (l : ℕ) → (l ≡ i → ⊥) → holds (set hs i (length xs)) (laid h (8192 * i) xs) l ≡ holds hs h l
   stored-other l e =
       ap₂ (λ (n : ℕ) (y : List ℕ). take n y) (getD-set-other hs i l (length xs) 0 e)
-      (Rattle.rules.proofs.Tests.split i l
+      (split i l
       (λ q. ap (take 8192) (laid-after h (8192 * i) xs room (8192 * l) (omega arith)))
       (λ q. laid-before h (8192 * i) xs room (8192 * l) 8192 (omega arith)))
 
@@ -160,8 +161,8 @@ module _ (hs h xs : List ℕ) (i : ℕ) (ih : i < 8) (slots : length hs ≡ 8) (
 enough-areas : (h : List ℕ) (a : Lent) → length h ≡ 65536 → enough a ≡ true → areasShort h (a .units) (a .records) ≡ false
 unfolding areasShort enough
 enough-areas h a e q =
-    let u : 12288 ≤ length (a .units) = leb-true _ _ (Rattle.rules.proofs.Tests.and-left _ _ q) in
-    let c : 9600 ≤ length (a .records) = leb-true _ _ (Rattle.rules.proofs.Tests.and-right (12288 ≤? length (a .units)) _ q) in
+    let u : 12288 ≤ length (a .units) = leb-true _ _ (and-left _ _ q) in
+    let c : 9600 ≤ length (a .records) = leb-true _ _ (and-right (12288 ≤? length (a .units)) _ q) in
     rw (eq-eqb (length h) 65536 e, le-ltb _ _ u, le-ltb _ _ c)
 
 -- What the lanes hold once the count v of a frame of lane i is taken.

@@ -148,8 +148,8 @@ module _ (s : Setting) where
     unfolding afterGone afterKept
     ready-kept =
         record {
-          counts-8 = rw length-set (r .counts-8);
-          next-8 = rw length-set (r .next-8);
+          counts-8 = (ready-gone st x r) .counts-8;
+          next-8 = (ready-gone st x r) .next-8;
           expects-8 = rw length-set (r .expects-8);
           held-8 = rw length-set (length-left s _ _ (st .held) ∙ r .held-8);
           full = stored-length (st .held) (st .area) ((madeOf st x) .held) (x .lane) lane-8 (r .held-8) (r .full) (took .small);

@@ -17,16 +17,16 @@ use Rattle.link.specs.Due.{Span, spans, ending}
 -- ---- frames of z octets
 
 module _ (z : ℕ) (zp : 0 < z) where
-  pub frame-of : (x k : ℕ) → k * z ≤ x → x < k * z + z → x / z ≡ k
+  frame-of : (x k : ℕ) → k * z ≤ x → x < k * z + z → x / z ≡ k
   frame-of x k h l = div-eq-of-lt-le z h (rw (add-mul, one-mul) l)
 
-  pub frame-before : (x k : ℕ) → x < k * z → x / z < k
+  frame-before : (x k : ℕ) → x < k * z → x / z < k
   frame-before x k h = div-lt-iff-lt-mul zp .1 h
 
   pub frame-from : (x k : ℕ) → k * z ≤ x → k ≤ x / z
   frame-from x k h = le-div-iff-mul-le zp .1 h
 
-  pub frame-after : (x k : ℕ) → k * z + z ≤ x → k < x / z
+  frame-after : (x k : ℕ) → k * z + z ≤ x → k < x / z
   frame-after x k h = le-div-iff-mul-le zp .1 (omega arith)
 
 -- ---- units with octets
@@ -91,22 +91,39 @@ held-over z j a o (u ∷ us) h =
 
 module _ (k : ℕ) (p : ℕ → Bool) (z a : ℕ) (u : List ℕ) (us : List (List ℕ)) where
   -- This one ends in another.
-  pub ends-not : ((a + length u - 1) / z ≡ k → ⊥) → ending k p (spans z a (u ∷ us)) ≡ ending k p (spans z (a + length u) us)
+  ends-not : ((a + length u - 1) / z ≡ k → ⊥) → ending k p (spans z a (u ∷ us)) ≡ ending k p (spans z (a + length u) us)
   unfolding spans ending
   ends-not n = rw (ne-eqb ((a + length u - 1) / z) k n)
 
-  pub ends-here : (a + length u - 1) / z ≡ k
+  ends-here : (a + length u - 1) / z ≡ k
       → ending k p (spans z a (u ∷ us)) ≡ cond (p (a / z)) (u ∷ []) [] ++ ending k p (spans z (a + length u) us)
   unfolding spans ending
   ends-here e = rw (eq-eqb ((a + length u - 1) / z) k e)
 
--- None ends in frame k that begins after it.
-pub ends-later : (z : ℕ) → 0 < z → (k : ℕ) (p : ℕ → Bool) (us : List (List ℕ)) (a : ℕ) → Filled us → k * z + z ≤ a → ending k p (spans z a us) ≡ []
-unfolding spans ending
-ends-later z zp k p [] a f h = refl
-ends-later z zp k p (u ∷ us) a f h =
-    let q : k < (a + length u - 1) / z = frame-after z zp (a + length u - 1) k (omega (arith, f .0)) in
-    ends-not k p z a u us (λ e. omega arith) ∙ ends-later z zp k p us (a + length u) (f .1) (omega arith)
+module _ (z : ℕ) (zp : 0 < z) (k : ℕ) (p : ℕ → Bool) where
+  -- None ends in frame k that begins after it.
+  ends-later : (us : List (List ℕ)) (a : ℕ) → Filled us → k * z + z ≤ a → ending k p (spans z a us) ≡ []
+  unfolding spans ending
+  ends-later [] a f h = refl
+  ends-later (u ∷ us) a f h =
+      let q : k < (a + length u - 1) / z = frame-after z zp (a + length u - 1) k (omega (arith, f .0)) in
+      ends-not k p z a u us (λ e. omega arith) ∙ ends-later us (a + length u) (f .1) (omega arith)
+
+  -- The first of some ends before frame k, in it, or after it.
+  pub first-before : (u : List ℕ) (us : List (List ℕ)) (a : ℕ) → 0 < length u → a + length u ≤ k * z
+      → ending k p (spans z a (u ∷ us)) ≡ ending k p (spans z (a + length u) us)
+  first-before u us a s h =
+      let q : (a + length u - 1) / z < k = frame-before z zp (a + length u - 1) k (omega arith) in
+      ends-not k p z a u us (λ e. omega arith)
+
+  pub first-within : (u : List ℕ) (us : List (List ℕ)) (a : ℕ) → k * z < a + length u → a + length u ≤ k * z + z
+      → ending k p (spans z a (u ∷ us)) ≡ cond (p (a / z)) (u ∷ []) [] ++ ending k p (spans z (a + length u) us)
+  first-within u us a h l = ends-here k p z a u us (frame-of z zp (a + length u - 1) k (omega arith) (omega arith))
+
+  pub first-after : (u : List ℕ) (us : List (List ℕ)) (a : ℕ) → Filled us → k * z + z < a + length u → ending k p (spans z a (u ∷ us)) ≡ []
+  first-after u us a f h =
+      let q : k < (a + length u - 1) / z = frame-after z zp (a + length u - 1) k (omega arith) in
+      ends-not k p z a u us (λ e. omega arith) ∙ ends-later us (a + length u) f (omega arith)
 
 -- Where none passes, none is left.
 pub ends-none : (k : ℕ) (p : ℕ → Bool) (xs : List Span) → ((i : ℕ) → p i ≡ false) → ending k p xs ≡ []

@@ -2,7 +2,7 @@
 use mathlib.Core.Path.{_≡_, refl, sym, ap, ap₂, _∙_, subst}
 use mathlib.Core.Logic.{_⊎_, inl, inr, _≢_}
 use Prim.Native.Nat.{ℕ, zero, suc, _+_, _*_, _^_, _≤_, _<_}
-use native.Mathlib.Nat.{le-refl, not-suc-le-zero}
+use native.Mathlib.Nat.{not-suc-le-zero, zero-add}
 use native.Mathlib.Omega.{arith}
 use mathlib.Core.Bool.{Bool, true, false, cond, not, _&&_, true≢false, false≢true}
 use mathlib.Core.List.{List, [], _∷_, _++_}
@@ -340,7 +340,7 @@ module _ (s : Setting) (ok : settingOk s ≡ true) (h : List ℕ) (full : length
         count = λ a. absurd (false≢true a);
         held = λ a. ap (λ (i : ℕ). take i (part l h)) n
             ∙ sym (ap (λ (i : ℕ). heldFrom (zone s (channelOf s l)) 0 0 (i * zone s (channelOf s l)) (unitsOf ((lane s l) .kind) [])) n
-            ∙ held-none (zone s (channelOf s l)) z 0 0 _ (unitsOf ((lane s l) .kind) []) (native.Mathlib.Nat.zero-add _));
+            ∙ held-none (zone s (channelOf s l)) z 0 0 _ (unitsOf ((lane s l) .kind) []) (zero-add _));
         fresh = λ a. ap (λ (i : ℕ). take i (part l h)) n;
         lost = λ b. absurd (b refl);
         few = few;
