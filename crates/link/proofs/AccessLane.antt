@@ -1,24 +1,23 @@
 -- An access lane that reads frame k of a batch: as a lane of one unit, which is lost where it began before frame j.
-use mathlib.Core.Path.{_≡_, refl, sym, ap, ap₂, _∙_, subst}
-use Prim.Native.Nat.{ℕ, zero, suc, _+_, _-_, _*_, _/_, _≤_, _<_}
-use native.Mathlib.Nat.{le-refl, le-trans, not-suc-le-zero, zero-add, add-zero, zero-mul, zero-div, sub-self, mul-pos}
+use mathlib.Core.Path.{_≡_, refl, sym, ap, ap₂, _∙_}
+use Prim.Native.Nat.{ℕ, _+_, _-_, _*_, _/_, _≤_, _<_}
+use native.Mathlib.Nat.{zero-mul, sub-self, mul-pos}
 use native.Mathlib.Omega.{arith}
-use mathlib.Core.Bool.{Bool, true, false, cond, _&&_}
+use mathlib.Core.Bool.{Bool, true, false, cond}
 use mathlib.Core.List.{List, [], _∷_, _++_, append-nil}
-use lib.ListN.{length, take, drop, replicate, length-append, length-take, length-drop, take-append-drop}
+use lib.ListN.{length, take, drop, replicate, length-append, length-drop, take-append-drop}
 use lib.Seq.{length-take-le, take-all, take-at, take-add}
-use borrow.Author.Tests.{le-leb, lt-leb, lt-ltb, le-ltb, eq-eqb, ne-eqb}
+use borrow.Author.Tests.{le-leb, lt-ltb, le-ltb, eq-eqb, ne-eqb}
 use Rattle.rules.specs.declared.Kind.the-variants.{Access}
-use Rattle.rules.specs.declared.Place.{Place}
 use Rattle.rules.specs.declared.Place.the-variants.{At, Nowhere}
 use Rattle.rules.specs.declared.Fate.{Fate}
-use Rattle.rules.specs.declared.Fate.the-variants.{Hand, Hold, Drop}
-use Rattle.rules.specs.Tests.{_≤?_, _<?_, _=?_}
+use Rattle.rules.specs.declared.Fate.the-variants.{Hand, Hold}
+use Rattle.rules.specs.Tests.{_≤?_, _=?_}
 use Rattle.rules.specs.Writing.{zoneOf, ruleOf, inside}
-use Rattle.rules.specs.Reading.{Made, drops, fills, both, become, unitFate, followFate, portion, accessLane}
+use Rattle.rules.specs.Reading.{Made, both, become, unitFate, followFate, portion, accessLane}
 use Rattle.rules.proofs.Tests.{split}
 use Rattle.link.specs.Due.{spans, ending}
-use Rattle.link.proofs.Spans.{Yield, yields, yield, heldFrom, either-none, held-past, held-here, first-within, first-after}
+use Rattle.link.proofs.Spans.{yields, yield, heldFrom, either-none, held-past, held-here, first-within, first-after}
 
 module _ (longest z : ℕ) (zp : 0 < z) (j k : ℕ) (jk : j ≤ k) (b : List ℕ) (bl : length b ≤ longest) (kb : k * z < length b) where
   abbrev o : ℕ

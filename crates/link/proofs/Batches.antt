@@ -1,11 +1,11 @@
 -- A lane of either kind that reads a frame of its batch. From here on packets and access units are alike: units back to back.
-use mathlib.Core.Path.{_≡_, refl, sym, ap, ap₂, _∙_, subst}
-use Prim.Native.Nat.{ℕ, zero, suc, _+_, _-_, _*_, _/_, _≤_, _<_}
-use native.Mathlib.Nat.{le-refl, le-trans, not-suc-le-zero, zero-add, add-zero, le-div-iff-mul-le, div-lt-iff-lt-mul}
+use mathlib.Core.Path.{_≡_, refl, ap, _∙_, subst}
+use Prim.Native.Nat.{ℕ, _+_, _-_, _*_, _/_, _≤_, _<_}
+use native.Mathlib.Nat.{zero-add, le-div-iff-mul-le, div-lt-iff-lt-mul}
 use native.Mathlib.Omega.{arith}
 use mathlib.Core.Bool.{Bool, true, false, cond}
-use mathlib.Core.List.{List, [], _∷_, _++_, append-nil}
-use lib.ListN.{length, take, drop}
+use mathlib.Core.List.{List, [], _∷_, append-nil}
+use lib.ListN.{length}
 use borrow.Author.Tests.{leb-true, ltb-true, ne-eqb}
 use Rattle.rules.specs.declared.Kind.{Kind}
 use Rattle.rules.specs.declared.Kind.the-variants.{Packets, Access}
@@ -20,8 +20,8 @@ use Rattle.rules.specs.Reading.{laneStep, packetLane, accessLane}
 use Rattle.rules.proofs.Tests.{all-at}
 use Rattle.rules.proofs.Valid.{least}
 use Rattle.link.specs.Due.{spans, ending}
-use Rattle.link.proofs.Whole.{Whole, Wholes, Batch, packet-batch}
-use Rattle.link.proofs.Spans.{Filled, Yield, yields, yield, heldFrom, held-over}
+use Rattle.link.proofs.Whole.{Batch, packet-batch}
+use Rattle.link.proofs.Spans.{Filled, yields, yield, heldFrom, held-over}
 use Rattle.link.proofs.PacketLane.{wholes-filled, packet-lane}
 use Rattle.link.proofs.AccessLane.{access-lane}
 

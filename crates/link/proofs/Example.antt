@@ -1,11 +1,11 @@
 -- The demand on runs that compute. This file stands on the definitions alone.
 use mathlib.Core.Path.{_≡_, refl, sym, ap, ap₂, _∙_}
 use mathlib.Core.Logic.{_⊎_, inl, inr}
-use Prim.Native.Nat.{ℕ, zero, suc, _^_, _<_}
+use Prim.Native.Nat.{ℕ, zero, suc}
 use native.Mathlib.Omega.{arith}
-use mathlib.Core.Bool.{Bool, true, false, cond, _&&_, _||_, and-eq-true-iff, false≢true}
+use mathlib.Core.Bool.{Bool, true, false, _&&_, _||_, and-eq-true-iff, false≢true}
 use mathlib.Core.List.{List, [], _∷_, _++_}
-use lib.ListN.{length, take, drop, replicate}
+use lib.ListN.{length, getD, take, drop, replicate}
 use lib.Dec.{eqb}
 use borrow.Author.Tests.{eqb-true}
 use Rattle.rules.specs.declared.Writer.{Writer}
@@ -110,20 +110,13 @@ in-order = refl
 
 pub meets : Demand.Run Errors.paired held Examples.calls
 unfolding all
-meets =
-    record {
-      writer = refl;
-      reader = refl;
-      calls = ordered-is _ _ Examples.calls in-order;
-      area = refl;
-      link = refl;
-      near = near;
-    }
-  where
-    near : (c : ℕ) → c < 2 → Demand.fewGone (256 ^ (Settings.channel Errors.paired c) .octets) false 0 (Demand.keptOn Errors.paired c (Examples.frames Examples.calls)) ≡ true
-    near zero h = refl
-    near (suc zero) h = refl
-    near (suc (suc c)) h = absurd (omega arith)
+meets = record { writer = refl; reader = refl; calls = ordered-is _ _ Examples.calls in-order; area = refl; link = refl }
+
+pub near : Demand.Near Errors.paired Examples.calls
+unfolding all
+near zero h = refl
+near (suc zero) h = refl
+near (suc (suc c)) h = absurd (omega arith)
 
 -- ---- the bound is sharp: with 256 frames gone at n = 1, all else as asked, a packet comes out that nobody sent
 
@@ -134,23 +127,40 @@ far = Examples.gapOf 254
 abbrev mixture : List ℕ
 mixture = take 21 Examples.a₀ ++ drop 21 Examples.b₀
 
-pub record Sharp : Type 0 where
-  pub calls : Demand.InOrder ((Calls.setUpWriter Errors.paired) .state) (λ (l : ℕ). []) far
-  pub link : Demand.allPass Errors.paired (Examples.frames far) ≡ true
-  pub flags : Demand.keptOn Errors.paired 0 (Examples.frames far) ≡ true ∷ (replicate 256 false ++ (true ∷ []))
-  pub near : Demand.fewGone 256 false 0 (true ∷ (replicate 256 false ++ (true ∷ []))) ≡ false
-  pub got : Examples.got far ≡ (mixture ∷ []) ∷ [] ∷ [] ∷ [] ∷ []
-  pub owed : Examples.owed far ≡ [] ∷ [] ∷ [] ∷ [] ∷ []
+pub gone-256 : Demand.keptOn Errors.paired 0 (Examples.frames far) ≡ true ∷ (replicate 256 false ++ (true ∷ []))
+unfolding all
+gone-256 = refl
+
+pub not-near : Demand.fewGone 256 false 0 (Demand.keptOn Errors.paired 0 (Examples.frames far)) ≡ false
+unfolding all
+not-near = refl
 
 in-order-far : Orderly far
 unfolding all done alike inTurn ordered
 in-order-far = refl
 
-pub sharp : Sharp
+pub meets-far : Demand.Run Errors.paired held far
 unfolding all
-sharp = record { calls = ordered-is _ _ far in-order-far; link = refl; flags = refl; near = refl; got = refl; owed = refl }
+meets-far = record { writer = refl; reader = refl; calls = ordered-is _ _ far in-order-far; area = refl; link = refl }
 
--- With one fewer gone the premise holds, and nothing comes out.
+pub mixture-out : Examples.got far ≡ (mixture ∷ []) ∷ [] ∷ [] ∷ [] ∷ []
+unfolding all
+mixture-out = refl
+
+pub nothing-due : Examples.owed far ≡ [] ∷ [] ∷ [] ∷ [] ∷ []
+unfolding all
+nothing-due = refl
+
+-- So the demand without the bound does not hold.
+pub bound-needed : ((h : List ℕ) (xs : List Link.Call) → Demand.Run Errors.paired h xs → Demand.Exact Errors.paired h xs 0) → ⊥
+unfolding Examples.frames Examples.onEach Examples.got Examples.dueOnEach Examples.owed
+bound-needed d =
+    let first : List (List (List ℕ)) → List (List ℕ) = λ (xs : List (List (List ℕ))). getD xs 0 [] in
+    let e : mixture ∷ [] ≡ [] = sym (ap first mixture-out) ∙ d held far meets-far ∙ ap first nothing-due in
+    let n : _≡_ {A = ℕ} 1 0 = ap length e in
+    absurd (omega arith)
+
+-- With one fewer gone the bound holds, and nothing comes out.
 pub one-fewer : (Demand.fewGone 256 false 0 (Demand.keptOn Errors.paired 0 (Examples.frames (Examples.gapOf 253))) ≡ true)
     × (Examples.got (Examples.gapOf 253) ≡ [] ∷ [] ∷ [] ∷ [] ∷ [])
 unfolding all

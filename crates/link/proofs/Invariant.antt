@@ -2,28 +2,27 @@
 --
 -- So many frames are gone since the last kept one, and units that begin in a frame of the batch before frame j are lost. The reader drops
 -- what it holds only at the next kept frame, so nothing is said of held octets while frames are gone.
-use mathlib.Core.Path.{_≡_, refl, sym, ap, ap₂, _∙_, subst}
+use mathlib.Core.Path.{_≡_, refl, sym, ap, ap₂, _∙_}
 use mathlib.Core.Logic.{_⊎_, inl, inr}
-use Prim.Native.Nat.{ℕ, zero, suc, _+_, _-_, _*_, _/_, _%_, _^_, _≤_, _<_}
-use native.Mathlib.Nat.{le-refl, le-trans, not-suc-le-zero, suc-ne-zero, zero-add, add-zero, mod-mod, mod-add-mod}
+use Prim.Native.Nat.{ℕ, suc, _+_, _-_, _*_, _%_, _^_, _≤_, _<_}
+use native.Mathlib.Nat.{le-refl, not-suc-le-zero, suc-ne-zero, zero-add, add-zero, mod-mod, mod-add-mod}
 use native.Mathlib.Omega.{arith}
-use mathlib.Core.Bool.{Bool, true, false, cond, not, _&&_, _||_, true≢false, false≢true}
-use mathlib.Core.List.{List, [], _∷_, _++_}
+use mathlib.Core.Bool.{Bool, true, false, cond, not, _||_, true≢false, false≢true}
+use mathlib.Core.List.{List, [], _∷_}
 use borrow.Author.Tests.{ltb-true, le-leb, lt-leb, eq-eqb, ne-eqb}
 use Rattle.rules.specs.declared.Kind.{Kind}
 use Rattle.rules.specs.declared.Expect.{Expect}
 use Rattle.rules.specs.Tests.{_≤?_, _<?_, _=?_}
-use Rattle.rules.specs.Settings.{noExpect}
 use Rattle.rules.specs.Frames.{pointsTo}
 use Rattle.rules.specs.Writing.{batchOk, unitsOf, frames, zoneOf, ruleOf, pointerOf, numberAfter, countAfter}
 use Rattle.rules.specs.Reading.{missing, expected, Made, laneStep}
 use Rattle.rules.proofs.Tests.{same, and-left, and-right}
-use Rattle.rules.proofs.Counts.{expects, missing-unknown, missing-gone, expected-below}
+use Rattle.rules.proofs.Counts.{missing-unknown, missing-gone, expected-below}
 use Rattle.rules.proofs.Valid.{least}
 use Rattle.link.specs.Due.{spans, ending}
 use Rattle.link.specs.Demand.{fewGone}
 use Rattle.link.proofs.Spans.{Yield, yields, yield, heldFrom, held-none, ends-same}
-use Rattle.link.proofs.Batches.{Units, units, lane-reads, lane-over}
+use Rattle.link.proofs.Batches.{units, lane-reads, lane-over}
 
 -- ---- counts, over n: a count so many past another
 

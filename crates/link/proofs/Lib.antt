@@ -10,3 +10,4 @@ pub mod Received
 pub mod Run
 pub mod Theorem
 pub mod Example
+pub mod Shown

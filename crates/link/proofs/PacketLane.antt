@@ -1,28 +1,27 @@
 -- A packet lane that reads frame k of a batch of whole packets: it hands out those that end there, but for those that began before
 -- frame j, and holds what there is of the one that goes on.
-use mathlib.Core.Path.{_≡_, refl, sym, ap, ap₂, _∙_, subst}
+use mathlib.Core.Path.{_≡_, refl, sym, ap, ap₂, _∙_}
 use mathlib.Core.Logic.{_⊎_, inl, inr}
 use Prim.Native.Nat.{ℕ, zero, suc, _+_, _-_, _*_, _/_, _≤_, _<_}
-use native.Mathlib.Nat.{le-refl, le-trans, not-suc-le-zero, zero-add, add-zero, add-sub-of-le, sub-self, sub-eq-zero-of-le, le-antisymm}
+use native.Mathlib.Nat.{le-trans, not-suc-le-zero, zero-add, add-zero, add-sub-of-le, sub-self, sub-eq-zero-of-le, le-antisymm}
 use native.Mathlib.Omega.{arith}
-use mathlib.Core.Bool.{Bool, true, false, cond, _&&_}
+use mathlib.Core.Bool.{Bool, true, false, cond}
 use mathlib.Core.List.{List, [], _∷_, _++_, append-nil, append-assoc}
-use lib.ListN.{length, take, drop, replicate, length-append, length-take, length-drop, length-replicate, take-append-drop}
-use lib.Seq.{length-take-le, take-all, take-nil, take-at, drop-at, take-add, take-append-le, take-append-add, drop-append-le, drop-append-add, take-append-seam, drop-append-seam}
-use borrow.Author.Tests.{leb-true, leb-false, le-leb, lt-leb, lt-ltb, le-ltb, eqb-true, eqb-false, eq-eqb, ne-eqb}
+use lib.ListN.{length, take, drop, replicate, length-append, length-take, length-drop, take-append-drop}
+use lib.Seq.{length-take-le, take-nil, take-at, drop-at, take-add, take-append-le, take-append-add, drop-append-le, drop-append-add, take-append-seam, drop-append-seam}
+use borrow.Author.Tests.{le-leb, lt-leb, lt-ltb, le-ltb, eq-eqb, ne-eqb}
 use Rattle.rules.specs.declared.Place.{Place}
 use Rattle.rules.specs.declared.Place.the-variants.{At, Nowhere}
-use Rattle.rules.specs.declared.Measure.{Measure}
-use Rattle.rules.specs.declared.Measure.the-variants.{Lacks, Packet, Idle, Unreadable}
+use Rattle.rules.specs.declared.Measure.the-variants.{Lacks, Packet}
 use Rattle.rules.specs.declared.Next.{Next}
-use Rattle.rules.specs.declared.Next.the-variants.{Give, Skip, Keep, Lose}
+use Rattle.rules.specs.declared.Next.the-variants.{Give, Skip, Keep}
 use Rattle.rules.specs.declared.Fate.{Fate}
-use Rattle.rules.specs.declared.Fate.the-variants.{Hand, Blank, Hold, Drop}
-use Rattle.rules.specs.Tests.{_≤?_, _<?_, _=?_}
+use Rattle.rules.specs.declared.Fate.the-variants.{Hand, Hold}
+use Rattle.rules.specs.Tests.{_≤?_}
 use Rattle.rules.specs.Areas.{joined}
 use Rattle.rules.specs.Packets.{measured, measure}
 use Rattle.rules.specs.Writing.{startFrom, inside}
-use Rattle.rules.specs.Reading.{Made, nothing, holds, drops, hands, idles, both, become, endFate, joinedFate, leadFate, lead, sizedNext, nextOf, front, walk, packetLane}
+use Rattle.rules.specs.Reading.{Made, hands, both, become, endFate, joinedFate, leadFate, lead, sizedNext, nextOf, front, walk, packetLane}
 use Rattle.rules.proofs.Tests.{split}
 use Rattle.rules.proofs.Lanes.{walk-front}
 use Rattle.link.specs.Due.{spans, ending}

@@ -2,40 +2,38 @@
 -- lanes' octets where they are.
 use mathlib.Core.Path.{_≡_, refl, sym, ap, ap₂, _∙_, subst}
 use mathlib.Core.Logic.{_≢_}
-use Prim.Native.Nat.{ℕ, zero, suc, _+_, _-_, _*_, _^_, _≤_, _<_}
-use native.Mathlib.Nat.{le-refl, le-trans, not-suc-le-zero, le-of-suc-le-suc, suc-ne-zero, zero-add, add-zero}
+use Prim.Native.Nat.{ℕ, zero, suc, _+_, _-_, _*_, _≤_, _<_}
+use native.Mathlib.Nat.{not-suc-le-zero, le-of-suc-le-suc, suc-ne-zero}
 use native.Mathlib.Omega.{arith}
-use mathlib.Core.Bool.{Bool, true, false, cond, not, _||_, _&&_, true≢false, false≢true}
-use mathlib.Core.List.{List, [], _∷_, _++_}
-use lib.ListN.{length, getD, take, drop, set, length-set, length-take, List·getD-eq-default}
+use mathlib.Core.Bool.{Bool, true, false, cond, not}
+use mathlib.Core.List.{List, [], _∷_}
+use lib.ListN.{length, getD, take, drop, set, length-take, List·getD-eq-default}
 use lib.Seq.{take-take, getD-take, getD-set-same, getD-set-other}
-use borrow.Author.Tests.{leb-true, le-ltb, eq-eqb, ne-eqb, eqb-true, eqb-false}
-use Rattle.rules.specs.declared.Kind.{Kind}
+use borrow.Author.Tests.{leb-true, le-ltb, eq-eqb, ne-eqb}
 use Rattle.rules.specs.declared.Lane.{Lane}
 use Rattle.rules.specs.declared.Setting.{Setting}
 use Rattle.rules.specs.declared.Expect.{Expect}
 use Rattle.rules.specs.declared.Reader.{Reader}
 use Rattle.rules.specs.declared.Gap.{Gap}
 use Rattle.rules.specs.declared.Verdict.{Verdict}
-use Rattle.rules.specs.Tests.{_≤?_, _<?_, _=?_, _≠?_, given}
+use Rattle.rules.specs.Tests.{_≤?_, _=?_, given}
 use Rattle.rules.specs.Areas.{laid, joined, part}
-use Rattle.rules.specs.Settings.{noLane, noExpect, channel, lane, channelOf, zone, settingOk, readerOk}
-use Rattle.rules.specs.Frames.{countIn, ruleIn, pointerIn, zoneIn, pointsTo}
+use Rattle.rules.specs.Settings.{noLane, noExpect, channel, lane, channelOf, zone, readerOk}
+use Rattle.rules.specs.Frames.{ruleIn, pointerIn, zoneIn, pointsTo}
 use Rattle.rules.specs.Writing.{zoneOf, ruleOf, pointerOf}
 use Rattle.rules.specs.Reading.{missing, expected, emptied, lanesOf, gapBy, gap, Made, laneStep}
 use Rattle.rules.specs.Refusals.{refusals, judged, judge}
 use Rattle.rules.specs.Calls.{Got, areasShort, laidOut, madeBy, readOn, onVerdict, verdict, read}
 use Rattle.rules.proofs.Tests.{split, and-left, and-right}
 use Rattle.rules.proofs.Areas.{length-laid, laid-at, laid-before, laid-after}
-use Rattle.rules.proofs.Valid.{Good, good, GoodLane, GoodReader, good-reader, least}
+use Rattle.rules.proofs.Valid.{Good, GoodReader, good-reader, least}
 use Rattle.rules.proofs.Lanes.{lane-below}
-use Rattle.rules.proofs.Calls.{read-valid, read-fits, made-below}
-use Rattle.rules.proofs.Written.{FrameBack, ReadBack}
+use Rattle.rules.proofs.Calls.{read-valid, read-fits}
+use Rattle.rules.proofs.Written.{FrameBack}
 use Rattle.link.specs.Link.{Lent, unitsBy, handed}
 use Rattle.link.specs.Due.{channelAt}
 use Rattle.link.specs.Demand.{enough}
 use Rattle.link.proofs.Records.{handed-laid}
-use Rattle.link.proofs.Invariant.{heldAfter}
 
 -- ---- octets that are refused
 

@@ -1,16 +1,15 @@
 -- What a lane's units and records, laid into areas, read back by the records: the lane's units, and for another lane none.
 use mathlib.Core.Path.{_≡_, refl, sym, ap, ap₂, _∙_}
-use Prim.Native.Nat.{ℕ, zero, suc, _+_, _-_, _*_, _^_, _≤_, _<_}
-use native.Mathlib.Nat.{add-assoc}
+use Prim.Native.Nat.{ℕ, _+_, _-_, _^_, _≤_, _<_}
 use native.Mathlib.Omega.{arith}
 use mathlib.Core.Bool.{Bool, true, false, cond}
-use mathlib.Core.List.{List, [], _∷_, _++_, append-nil, append-assoc}
-use lib.ListN.{length, getD, take, drop, length-append}
+use mathlib.Core.List.{List, [], _∷_, _++_, append-assoc}
+use lib.ListN.{length, take, drop, length-append}
 use lib.Seq.{take-at, drop-at}
 use Rattle.rules.specs.declared.Info.{Info}
 use Rattle.rules.specs.declared.Gap.{Gap}
 use Rattle.rules.specs.Tests.{_=?_}
-use Rattle.rules.specs.Octets.{be, num}
+use Rattle.rules.specs.Octets.{be}
 use Rattle.rules.specs.Areas.{laid, joined}
 use Rattle.rules.specs.Reading.{Made, recordOf, recordsFrom, infoOf}
 use Rattle.rules.specs.Calls.{laidOut}

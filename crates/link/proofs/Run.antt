@@ -1,12 +1,12 @@
 -- A run, call by call: what an accepted call leaves, what each frame's passage leaves at the reader, and the induction over the calls.
 use mathlib.Core.Path.{_≡_, refl, sym, ap, ap₂, _∙_, subst}
-use mathlib.Core.Logic.{_⊎_, inl, inr, _≢_}
-use Prim.Native.Nat.{ℕ, zero, suc, _+_, _*_, _^_, _≤_, _<_}
+use mathlib.Core.Logic.{_⊎_, _≢_}
+use Prim.Native.Nat.{ℕ, _+_, _*_, _≤_, _<_}
 use native.Mathlib.Omega.{arith}
-use mathlib.Core.Bool.{Bool, true, false, cond, not, _&&_, true≢false, false≢true}
+use mathlib.Core.Bool.{true, false, cond, not, _&&_, false≢true}
 use mathlib.Core.List.{List, [], _∷_, _++_}
-use lib.ListN.{length, getD, take, set, length-set}
-use borrow.Author.Tests.{ne-eqb, eq-eqb}
+use lib.ListN.{length, getD, set, length-set}
+use borrow.Author.Tests.{eq-eqb}
 use Rattle.rules.specs.declared.Setting.{Setting}
 use Rattle.rules.specs.declared.Expect.{Expect}
 use Rattle.rules.specs.declared.Reader.{Reader}
@@ -14,19 +14,19 @@ use Rattle.rules.specs.declared.Writer.{Writer}
 use Rattle.rules.specs.declared.Outcome.the-variants.{Done}
 use Rattle.rules.specs.Tests.{_=?_, _≠?_, given}
 use Rattle.rules.specs.Areas.{laid}
-use Rattle.rules.specs.Settings.{noExpect, lane, channelOf, zone, readerOk}
+use Rattle.rules.specs.Settings.{lane, channelOf, zone, readerOk}
 use Rattle.rules.specs.Writing.{frames, numberAfter, countAfter, writerAfter}
-use Rattle.rules.specs.Reading.{missing, expected, Made}
+use Rattle.rules.specs.Reading.{expected, Made}
 use Rattle.rules.specs.Refusals.{refusals}
 use Rattle.rules.specs.Calls.{writeRefusals, written, write, Got, read}
 use Rattle.rules.proofs.Tests.{and-left, and-right}
 use Rattle.rules.proofs.Valid.{Good}
 use Rattle.rules.proofs.Calls.{Accepted, none-refused, accepted}
 use Rattle.rules.proofs.Written.{FrameBack, write-back}
-use Rattle.link.specs.Link.{Lent, Arrival, Passage, Kept, Gone, Call, called, Frame, frameBy, sent, arriving, arrivals, reads, handed, handedOut}
+use Rattle.link.specs.Link.{Lent, Arrival, Passage, Kept, Gone, Call, called, Frame, frameBy, sent, arriving, arrivals, reads, handedOut}
 use Rattle.link.specs.Due.{kept, channelAt, dueIn, due}
 use Rattle.link.specs.Demand.{lending, InOrder, enough, allRefused, passes, allPass}
-use Rattle.link.proofs.Received.{Untouched, stray, reader, gapped, length-left, stored-length, makes, Taken, read-takes, read-ready}
+use Rattle.link.proofs.Received.{stray, reader, gapped, length-left, stored-length, makes, Taken, read-takes, read-ready}
 
 -- ---- both ends between two calls
 

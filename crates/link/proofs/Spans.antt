@@ -1,13 +1,13 @@
 -- Units back to back that are cut every z octets: those that end in frame k, and what is held of the one that goes on, where units
 -- that begin in a frame before frame j are lost.
-use mathlib.Core.Path.{_≡_, refl, sym, ap, ap₂, _∙_}
+use mathlib.Core.Path.{_≡_, refl, ap, ap₂, _∙_}
 use Prim.Native.Nat.{ℕ, zero, suc, _+_, _-_, _*_, _/_, _≤_, _<_}
-use native.Mathlib.Nat.{le-refl, le-trans, le-of-suc-le-suc, not-suc-le-zero, zero-add, add-zero, div-lt-iff-lt-mul, le-div-iff-mul-le, div-eq-of-lt-le, div-mul-le-self, add-mul, one-mul}
+use native.Mathlib.Nat.{le-trans, div-lt-iff-lt-mul, le-div-iff-mul-le, div-eq-of-lt-le, div-mul-le-self, add-mul, one-mul}
 use native.Mathlib.Omega.{arith}
 use mathlib.Core.Bool.{Bool, true, false, cond, _&&_}
 use mathlib.Core.List.{List, [], _∷_, _++_}
-use lib.ListN.{length, take, drop, length-append}
-use borrow.Author.Tests.{leb-true, leb-false, le-leb, lt-leb, eqb-true, eqb-false, eq-eqb, ne-eqb}
+use lib.ListN.{length, take, length-append}
+use borrow.Author.Tests.{le-leb, lt-leb, eqb-true, eq-eqb, ne-eqb}
 use Rattle.rules.specs.Tests.{_≤?_, _=?_}
 use Rattle.rules.specs.Areas.{joined}
 use Rattle.rules.specs.Reading.{Made}

@@ -1,12 +1,12 @@
 -- Demand 3. For a lane, what both ends know of it is its invariant; for a number that is no lane there is nothing to know.
-use mathlib.Core.Path.{_≡_, refl, sym, ap, ap₂, _∙_, subst}
-use mathlib.Core.Logic.{_⊎_, inl, inr, _≢_}
-use Prim.Native.Nat.{ℕ, zero, suc, _+_, _*_, _^_, _≤_, _<_}
+use mathlib.Core.Path.{_≡_, refl, sym, ap, _∙_, subst}
+use mathlib.Core.Logic.{_⊎_, _≢_}
+use Prim.Native.Nat.{ℕ, _*_, _^_, _≤_, _<_}
 use native.Mathlib.Nat.{not-suc-le-zero, zero-add}
 use native.Mathlib.Omega.{arith}
-use mathlib.Core.Bool.{Bool, true, false, cond, not, _&&_, true≢false, false≢true}
-use mathlib.Core.List.{List, [], _∷_, _++_}
-use lib.ListN.{length, getD, take, set, replicate, length-set, getD-replicate}
+use mathlib.Core.Bool.{Bool, true, false, cond, false≢true}
+use mathlib.Core.List.{List, [], _∷_}
+use lib.ListN.{length, getD, take, set, replicate, getD-replicate}
 use lib.Seq.{getD-set-same, getD-set-other}
 use borrow.Author.Tests.{ne-eqb, eq-eqb}
 use Rattle.rules.specs.declared.Setting.{Setting}
@@ -17,10 +17,10 @@ use Rattle.rules.specs.declared.Listener.{Listener}
 use Rattle.rules.specs.declared.Sender.{Sender}
 use Rattle.rules.specs.declared.Outcome.the-variants.{Done, Refused}
 use Rattle.rules.specs.Tests.{_=?_}
-use Rattle.rules.specs.Areas.{laid, part}
+use Rattle.rules.specs.Areas.{part}
 use Rattle.rules.specs.Settings.{noExpect, channel, lane, channelOf, zone, settingOk, freshReader, freshWriter, noWriter}
 use Rattle.rules.specs.Frames.{pointsTo}
-use Rattle.rules.specs.Writing.{unitsOf, frames, zoneOf, ruleOf, pointerOf, numberAfter, countAfter}
+use Rattle.rules.specs.Writing.{unitsOf, frames, zoneOf, ruleOf, pointerOf, countAfter}
 use Rattle.rules.specs.Reading.{missing, expected, Made, laneStep}
 use Rattle.rules.specs.Calls.{setUpReader, setUpWriter}
 use Rattle.rules.proofs.Tests.{split, same}
@@ -28,13 +28,13 @@ use Rattle.rules.proofs.Octets.{pow256-pos}
 use Rattle.rules.proofs.Valid.{Good, good, good-channelOf, least}
 use Rattle.rules.proofs.States.{fresh-reader}
 use Rattle.rules.proofs.Calls.{setup-accepted}
-use Rattle.link.specs.Link.{Passage, Call, Frame, frameBy, sent, arrivals, reads, handedOut}
-use Rattle.link.specs.Due.{kept, channelAt, backTo, noneGone, clean, spans, ending, dueIn, due}
-use Rattle.link.specs.Demand.{lending, InOrder, allPass, keptOn, fewGone, Demand, Run}
+use Rattle.link.specs.Link.{Call, Frame, frameBy, sent, arrivals, reads, handedOut}
+use Rattle.link.specs.Due.{kept, channelAt, backTo, noneGone, clean, dueIn, due}
+use Rattle.link.specs.Demand.{lending, InOrder, allPass, keptOn, fewGone, Demand}
 use Rattle.link.proofs.Spans.{heldFrom, held-none, ends-none}
 use Rattle.link.proofs.Invariant.{View, heldAfter, Inv, inv-other, inv-gone, inv-beside, made, units-due, inv-next}
 use Rattle.link.proofs.Received.{holds, gapped, left, length-left, holds-other, holds-gap, stored-here, stored-other, makes}
-use Rattle.link.proofs.Run.{State, sender, hearer, frame, countOf, numberOf, afterGone, afterKept, madeOf, Ready, Goes, run}
+use Rattle.link.proofs.Run.{State, frame, countOf, numberOf, afterGone, afterKept, madeOf, Ready, Goes, run}
 
 module _ (s : Setting) (l : ℕ) where
   -- ---- which frames are kept, seen from lane l
@@ -373,7 +373,7 @@ from-fresh s h xs ok full order pass near l =
     (fresh-knows s ok h full l b (sent (freshWriter s) xs) (near (channelAt s l) (g .lanes l b .channel))))
 
 pub demand : Demand
-demand s h xs d l =
+demand s h xs d near l =
     let ok : settingOk s ≡ true = writer-accepted s (d .writer) in
     let r : (setUpReader s) .state ≡ freshReader s = ap (λ (o : Listener). o .state) (setup-accepted s ok .0) in
     let w : (setUpWriter s) .state ≡ freshWriter s = ap (λ (o : Sender). o .state) (setup-accepted s ok .1) in
@@ -381,4 +381,4 @@ demand s h xs d l =
     (subst (λ (y : Reader). handedOut l (reads y h (arrivals (sent (freshWriter s) xs))) ≡ due s l [] (sent (freshWriter s) xs)) (sym r)
     (from-fresh s h xs ok (d .area) (subst (λ (y : Writer). InOrder y (λ (l : ℕ). []) xs) w (d .calls))
     (subst (λ (y : Writer). allPass s (sent y xs) ≡ true) w (d .link))
-    (λ c b. subst (λ (y : Writer). fewGone (256 ^ (channel s c) .octets) false 0 (keptOn s c (sent y xs)) ≡ true) w (d .near c b)) l))
+    (λ c b. subst (λ (y : Writer). fewGone (256 ^ (channel s c) .octets) false 0 (keptOn s c (sent y xs)) ≡ true) w (near c b)) l))

@@ -2,7 +2,7 @@
 -- reads hand out is, in sending order and octet for octet, the list of exactly those units that lost no frame.
 use mathlib.Core.Path.{_≡_}
 use mathlib.Core.Logic.{_⊎_}
-use Prim.Native.Nat.{ℕ, zero, suc, _^_, _<_}
+use Prim.Native.Nat.{ℕ, suc, _^_, _<_}
 use mathlib.Core.Bool.{Bool, true, false, cond, not, _&&_, _||_}
 use mathlib.Core.List.{List, [], _∷_, _++_}
 use lib.ListN.{length}
@@ -64,21 +64,27 @@ fewGone m any g (false ∷ ks) = fewGone m any (suc g) ks
 
 -- ---- the demand
 
--- What a run of calls and a held area meet.
+-- "Two fresh ends of one accepted setting; a list of calls of the writer; each frame kept, or gone": what is asked of all but the
+-- number of frames gone. The held area is of the size asked for, with anything in it: no lane holds octets yet.
 pub record Run (s : Setting) (held : List ℕ) (xs : List Call) : Type 0 where
   pub writer : (setUpWriter s) .outcome ≡ Done
   pub reader : (setUpReader s) .outcome ≡ Done
   pub calls : InOrder ((setUpWriter s) .state) (λ (l : ℕ). []) xs
   pub area : length held ≡ 65536
   pub link : allPass s (sent ((setUpWriter s) .state) xs) ≡ true
-  -- "Between two kept frames of one channel and service fewer gone than 256^n."
-  pub near : (c : ℕ) → c < s .listed → fewGone (256 ^ (channel s c) .octets) false 0 (keptOn s c (sent ((setUpWriter s) .state) xs)) ≡ true
 
--- "Then, lane by lane, what the reads hand out, taken from the unit area by the records, is in sending order and octet for octet the
--- list of exactly those units for which no frame of that channel and service is gone from the frame where the unit begins to the frame
--- where it ends; and nothing else." For a number l that is no lane both are empty.
-abbrev pub Demand : Type 0
-Demand =
-    (s : Setting) (held : List ℕ) (xs : List Call) → Run s held xs → (l : ℕ)
-    → handedOut l (reads ((setUpReader s) .state) held (arrivals (sent ((setUpWriter s) .state) xs)))
+-- "Between two kept frames of one channel and service fewer gone than 256^n."
+abbrev pub Near : Setting → List Call → Type 0
+Near s xs = (c : ℕ) → c < s .listed → fewGone (256 ^ (channel s c) .octets) false 0 (keptOn s c (sent ((setUpWriter s) .state) xs)) ≡ true
+
+-- "What the reads hand out, taken from the unit area by the records, is in sending order and octet for octet the list of exactly those
+-- units for which no frame of that channel and service is gone from the frame where the unit begins to the frame where it ends; and
+-- nothing else." For a number l that is no lane both are empty.
+abbrev pub Exact : Setting → List ℕ → List Call → ℕ → Type 0
+Exact s held xs l =
+    handedOut l (reads ((setUpReader s) .state) held (arrivals (sent ((setUpWriter s) .state) xs)))
     ≡ due s l [] (sent ((setUpWriter s) .state) xs)
+
+-- "Then, lane by lane".
+abbrev pub Demand : Type 0
+Demand = (s : Setting) (held : List ℕ) (xs : List Call) → Run s held xs → Near s xs → (l : ℕ) → Exact s held xs l

@@ -2,7 +2,6 @@
 use Prim.Native.Nat.{ℕ, zero, suc, _-_}
 use mathlib.Core.List.{List, [], _∷_, _++_}
 use lib.ListN.{drop, set, take, replicate}
-use Rattle.rules.specs.declared.Setting.{Setting}
 use Rattle.rules.specs.Errors.{paired, packetFrame}
 use Rattle.rules.specs.Calls.{setUpReader, setUpWriter, Got}
 use Rattle.link.specs.Link.{Lent, Arrival, Passage, Kept, Gone, Call, Frame, sent, arrivals, reads, handedOut}
