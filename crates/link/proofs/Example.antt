@@ -29,7 +29,7 @@ use Rattle.link.specs.Examples
 
 -- To unfold this is to unfold every definition.
 unfoldable all : ℕ
-unfolding Tests.all Tests.every Tests.first Tests.given Octets.be Octets.num Octets.widths Octets.packed Octets.bits Octets.checkBit Octets.checkBits Octets.checkFrom Octets.checkOf Areas.laid Areas.joined Settings.zone Settings.rangesOk Settings.channelOk Settings.channelsAgree Settings.channelsOk Settings.kindOk Settings.laneOk Settings.lanesDiffer Settings.lanesOk Settings.settingOk Settings.freshReader Settings.freshWriter Settings.readerOk Settings.writerOk Frames.header Frames.primary Frames.dataHeader Frames.body Frames.checked Frames.countIn Frames.ruleIn Frames.upidIn Frames.pointerIn Frames.zoneIn Frames.checkHolds Frames.pointsTo Packets.sized Packets.measured Packets.measure Packets.packetsUpTo Packets.packets Writing.noneAbove Writing.batchOk Writing.frames Writing.zoneOf Writing.ruleOf Writing.startFrom Writing.offsetOf Writing.inside Writing.pointerOf Writing.frameOf Writing.numberAfter Writing.countAfter Writing.writerAfter Reading.missing Reading.expected Reading.emptied Reading.lost Reading.gapBy Reading.gap Reading.both Reading.endFate Reading.joinedFate Reading.leadFate Reading.lead Reading.sizedNext Reading.nextOf Reading.walkUpTo Reading.walk Reading.packetLane Reading.unitFate Reading.followFate Reading.portion Reading.accessLane Reading.laneStep Reading.recordOf Reading.recordsFrom Reading.infoOf Refusals.channelAt Refusals.laneAt Refusals.ruleFits Refusals.dataWrong Refusals.refusalsAt Refusals.refusals Refusals.onChannel Refusals.passed Refusals.judged Refusals.judge Calls.setUpReader Calls.setUpWriter Calls.writeRefusals Calls.written Calls.write Calls.areasShort Calls.laidOut Calls.madeBy Calls.readOn Calls.onVerdict Calls.verdict Calls.read Errors.paired Errors.packetFrame Link.called Link.frameBy Link.sent Link.arrivals Link.reads Link.unitBy Link.unitsBy Link.handed Link.handedOut Due.spans Due.ending Due.backTo Due.noneGone Due.clean Due.dueIn Due.due Demand.lending Demand.enough Demand.allRefused Demand.passes Demand.allPass Demand.keptOn Demand.fewGone Examples.packet Examples.full Examples.call Examples.instead Examples.calls Examples.wanted Examples.times Examples.gapOf Examples.frames Examples.onEach Examples.got Examples.dueOnEach Examples.owed
+unfolding Tests.all Tests.every Tests.first Tests.given Octets.be Octets.num Octets.widths Octets.packed Octets.bits Octets.checkBit Octets.checkBits Octets.checkFrom Octets.checkOf Areas.laid Areas.joined Settings.zone Settings.rangesOk Settings.channelOk Settings.channelsAgree Settings.channelsOk Settings.kindOk Settings.laneOk Settings.lanesDiffer Settings.lanesOk Settings.settingOk Settings.freshReader Settings.freshWriter Settings.readerOk Settings.writerOk Frames.header Frames.primary Frames.dataHeader Frames.body Frames.checked Frames.countIn Frames.ruleIn Frames.upidIn Frames.pointerIn Frames.zoneIn Frames.checkHolds Frames.pointsTo Packets.sized Packets.measured Packets.measure Packets.packetsUpTo Packets.packets Writing.noneAbove Writing.batchOk Writing.frames Writing.zoneOf Writing.ruleOf Writing.startFrom Writing.offsetOf Writing.inside Writing.pointerOf Writing.frameOf Writing.numberAfter Writing.countAfter Writing.writerAfter Reading.missing Reading.expected Reading.emptied Reading.lost Reading.gapBy Reading.gap Reading.both Reading.endFate Reading.joinedFate Reading.leadFate Reading.lead Reading.sizedNext Reading.nextOf Reading.walkUpTo Reading.walk Reading.packetLane Reading.unitFate Reading.followFate Reading.portion Reading.accessLane Reading.laneStep Reading.recordOf Reading.recordsFrom Reading.infoOf Refusals.channelAt Refusals.laneAt Refusals.ruleFits Refusals.dataWrong Refusals.refusalsAt Refusals.refusals Refusals.onChannel Refusals.passed Refusals.judged Refusals.judge Calls.setUpReader Calls.setUpWriter Calls.writeRefusals Calls.written Calls.write Calls.areasShort Calls.laidOut Calls.madeBy Calls.readOn Calls.onVerdict Calls.verdict Calls.read Errors.paired Errors.packetFrame Link.called Link.frameBy Link.sent Link.arrivals Link.reads Link.unitBy Link.unitsBy Link.handed Link.handedOut Due.spans Due.ending Due.backTo Due.noneGone Due.clean Due.dueIn Due.due Demand.lending Demand.enough Demand.allRefused Demand.passes Demand.allPass Demand.keptOn Demand.fewGone Examples.packet Examples.full Examples.call Examples.instead Examples.calls Examples.wanted Examples.times Examples.gapOf Examples.framesOf Examples.onEach Examples.got Examples.dueOnEach Examples.owed
 all = zero
 
 -- What the reads hand out.
@@ -98,7 +98,7 @@ ordered-is w last (x ∷ xs) e =
       ordered-is ((Link.called w x) .sender .state) (Demand.lending (x .lane) (x .batch) last) xs (b .1),
     )
 
-abbrev held : List ℕ
+abbrev pub held : List ℕ
 held = replicate 65536 0x66
 
 abbrev Orderly : List Link.Call → Type 0
@@ -127,11 +127,11 @@ far = Examples.gapOf 254
 abbrev mixture : List ℕ
 mixture = take 21 Examples.a₀ ++ drop 21 Examples.b₀
 
-pub gone-256 : Demand.keptOn Errors.paired 0 (Examples.frames far) ≡ true ∷ (replicate 256 false ++ (true ∷ []))
+pub gone-256 : Demand.keptOn Errors.paired 0 (Examples.framesOf far) ≡ true ∷ (replicate 256 false ++ (true ∷ []))
 unfolding all
 gone-256 = refl
 
-pub not-near : Demand.fewGone 256 false 0 (Demand.keptOn Errors.paired 0 (Examples.frames far)) ≡ false
+pub not-near : Demand.fewGone 256 false 0 (Demand.keptOn Errors.paired 0 (Examples.framesOf far)) ≡ false
 unfolding all
 not-near = refl
 
@@ -153,7 +153,7 @@ nothing-due = refl
 
 -- So the demand without the bound does not hold.
 pub bound-needed : ((h : List ℕ) (xs : List Link.Call) → Demand.Run Errors.paired h xs → Demand.Exact Errors.paired h xs 0) → ⊥
-unfolding Examples.frames Examples.onEach Examples.got Examples.dueOnEach Examples.owed
+unfolding Examples.framesOf Examples.onEach Examples.got Examples.dueOnEach Examples.owed
 bound-needed d =
     let first : List (List (List ℕ)) → List (List ℕ) = λ (xs : List (List (List ℕ))). getD xs 0 [] in
     let e : mixture ∷ [] ≡ [] = sym (ap first mixture-out) ∙ d held far meets-far ∙ ap first nothing-due in
@@ -161,7 +161,7 @@ bound-needed d =
     absurd (omega arith)
 
 -- With one fewer gone the bound holds, and nothing comes out.
-pub one-fewer : (Demand.fewGone 256 false 0 (Demand.keptOn Errors.paired 0 (Examples.frames (Examples.gapOf 253))) ≡ true)
+pub one-fewer : (Demand.fewGone 256 false 0 (Demand.keptOn Errors.paired 0 (Examples.framesOf (Examples.gapOf 253))) ≡ true)
     × (Examples.got (Examples.gapOf 253) ≡ [] ∷ [] ∷ [] ∷ [] ∷ [])
 unfolding all
 one-fewer = (refl, refl)

@@ -8,6 +8,7 @@ pub mod Records
 pub mod Invariant
 pub mod Received
 pub mod Run
+pub mod Views
 pub mod Theorem
 pub mod Example
 pub mod Shown

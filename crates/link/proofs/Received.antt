@@ -31,7 +31,7 @@ use Rattle.rules.proofs.Lanes.{lane-below}
 use Rattle.rules.proofs.Calls.{read-valid, read-fits}
 use Rattle.rules.proofs.Written.{FrameBack}
 use Rattle.link.specs.Link.{Lent, unitsBy, handed}
-use Rattle.link.specs.Due.{channelAt}
+use Rattle.link.specs.Due.{placeOf}
 use Rattle.link.specs.Demand.{enough}
 use Rattle.link.proofs.Records.{handed-laid}
 
@@ -106,32 +106,32 @@ module _ (s : Setting) (g : Good s) (l : ℕ) (lh : l < s .numbered) where
       bad e h = omega (arith, subst (λ (x : Lane). least (x .kind) ≤ x .longest) e h)
 
   -- Of another channel, a gap drops nothing; of this one, all.
-  pub left-at : (c m : ℕ) (hs : List ℕ) → getD (left s c m hs) l 0 ≡ cond (m =? 0) (getD hs l 0) (cond (channelAt s l =? c) 0 (getD hs l 0))
+  pub left-at : (c m : ℕ) (hs : List ℕ) → getD (left s c m hs) l 0 ≡ cond (m =? 0) (getD hs l 0) (cond (placeOf s l =? c) 0 (getD hs l 0))
   unfolding left
   left-at c m hs = go (m =? 0)
     where
       n : l < length (lanesOf s)
       n = omega (arith, length-take (s .numbered) (s .lanes), slot)
 
-      go : (t : Bool) → getD (cond t hs (emptied (λ (x : Lane). x .channel =? c) (lanesOf s) hs)) l 0 ≡ cond t (getD hs l 0) (cond (channelAt s l =? c) 0 (getD hs l 0))
+      go : (t : Bool) → getD (cond t hs (emptied (λ (x : Lane). x .channel =? c) (lanesOf s) hs)) l 0 ≡ cond t (getD hs l 0) (cond (placeOf s l =? c) 0 (getD hs l 0))
       go true = refl
       go false =
           emptied-at (λ (x : Lane). x .channel =? c) (lanesOf s) hs l n
           ∙ ap (λ (x : Lane). cond (x .channel =? c) 0 (getD hs l 0)) (getD-take (s .numbered) (s .lanes) l noLane lh)
 
-  pub holds-other : (c m : ℕ) (hs h : List ℕ) → (channelAt s l ≡ c → ⊥) → holds (left s c m hs) h l ≡ holds hs h l
+  pub holds-other : (c m : ℕ) (hs h : List ℕ) → (placeOf s l ≡ c → ⊥) → holds (left s c m hs) h l ≡ holds hs h l
   holds-other c m hs h e = ap (λ (n : ℕ). take n (part l h)) (left-at c m hs ∙ go (m =? 0))
     where
-      go : (t : Bool) → cond t (getD hs l 0) (cond (channelAt s l =? c) 0 (getD hs l 0)) ≡ getD hs l 0
+      go : (t : Bool) → cond t (getD hs l 0) (cond (placeOf s l =? c) 0 (getD hs l 0)) ≡ getD hs l 0
       go true = refl
-      go false = rw (ne-eqb (channelAt s l) c e)
+      go false = rw (ne-eqb (placeOf s l) c e)
 
-  pub holds-gap : (m : ℕ) (hs h : List ℕ) → holds (left s (channelAt s l) m hs) h l ≡ cond (m =? 0) (holds hs h l) []
-  holds-gap m hs h = ap (λ (n : ℕ). take n (part l h)) (left-at (channelAt s l) m hs) ∙ go (m =? 0)
+  pub holds-gap : (m : ℕ) (hs h : List ℕ) → holds (left s (placeOf s l) m hs) h l ≡ cond (m =? 0) (holds hs h l) []
+  holds-gap m hs h = ap (λ (n : ℕ). take n (part l h)) (left-at (placeOf s l) m hs) ∙ go (m =? 0)
     where
-      go : (t : Bool) → take (cond t (getD hs l 0) (cond (channelAt s l =? channelAt s l) 0 (getD hs l 0))) (part l h) ≡ cond t (holds hs h l) []
+      go : (t : Bool) → take (cond t (getD hs l 0) (cond (placeOf s l =? placeOf s l) 0 (getD hs l 0))) (part l h) ≡ cond t (holds hs h l) []
       go true = refl
-      go false = rw (eq-eqb (channelAt s l) (channelAt s l) refl)
+      go false = rw (eq-eqb (placeOf s l) (placeOf s l) refl)
 
 -- ---- octets laid into a lane's part of the held area
 
@@ -165,7 +165,7 @@ enough-areas h a e q =
 
 -- What the lanes hold once the count v of a frame of lane i is taken.
 abbrev pub gapped : Setting → List Expect → List ℕ → ℕ → ℕ → List ℕ
-gapped s es hs i v = left s (channelAt s i) (missing ((channelOf s i) .octets) (getD es (channelAt s i) noExpect) v) hs
+gapped s es hs i v = left s (placeOf s i) (missing ((channelOf s i) .octets) (getD es (placeOf s i) noExpect) v) hs
 
 -- What lane i makes of frame k of the batch b.
 unfoldable pub makes : Setting → List Expect → List ℕ → List ℕ → ℕ → ℕ → List ℕ → ℕ → Made
@@ -176,14 +176,14 @@ makes s es hs h i v b k =
 -- What a read of it gives.
 pub record Taken (s : Setting) (es : List Expect) (hs h : List ℕ) (i v : ℕ) (m : Made) (o : Got) : Type 0 where
   pub state : o .taken .state
-      ≡ reader s (set es (channelAt s i) (expected ((channelOf s i) .octets) v)) (set (gapped s es hs i v) i (length (m .held)))
+      ≡ reader s (set es (placeOf s i) (expected ((channelOf s i) .octets) v)) (set (gapped s es hs i v) i (length (m .held)))
   pub area : o .heldArea ≡ laid h (8192 * i) (m .held)
   pub units : (l : ℕ) → handed l o ≡ cond (i =? l) (m .units) []
   pub small : length (m .held) ≤ 8192
 
 module _ (s : Setting) (es : List Expect) (hs h : List ℕ) (a : Lent) (i v : ℕ) where
   abbrev c : ℕ
-  c = channelAt s i
+  c = placeOf s i
 
   abbrev n : ℕ
   n = (channelOf s i) .octets

@@ -24,7 +24,7 @@ use Rattle.rules.proofs.Valid.{Good}
 use Rattle.rules.proofs.Calls.{Accepted, none-refused, accepted}
 use Rattle.rules.proofs.Written.{FrameBack, write-back}
 use Rattle.link.specs.Link.{Lent, Arrival, Passage, Kept, Gone, Call, called, Frame, frameBy, sent, arriving, arrivals, reads, handedOut}
-use Rattle.link.specs.Due.{kept, channelAt, dueIn, due}
+use Rattle.link.specs.Due.{kept, placeOf, dueIn, due}
 use Rattle.link.specs.Demand.{lending, InOrder, enough, allRefused, passes, allPass}
 use Rattle.link.proofs.Received.{stray, reader, gapped, length-left, stored-length, makes, Taken, read-takes, read-ready}
 
@@ -51,7 +51,7 @@ module _ (s : Setting) where
 
   -- The count and the number of the frame that a call writes.
   abbrev pub countOf : State → Call → ℕ
-  countOf st x = getD (st .counts) (channelAt s (x .lane)) 0
+  countOf st x = getD (st .counts) (placeOf s (x .lane)) 0
 
   abbrev pub numberOf : State → Call → ℕ
   numberOf st x = getD (st .next) (x .lane) 0
@@ -60,7 +60,7 @@ module _ (s : Setting) where
   unfoldable pub afterGone : State → Call → State
   afterGone st x =
       record {
-        counts = set (st .counts) (channelAt s (x .lane)) (countAfter ((channelOf s (x .lane)) .octets) (countOf st x));
+        counts = set (st .counts) (placeOf s (x .lane)) (countAfter ((channelOf s (x .lane)) .octets) (countOf st x));
         next = set (st .next) (x .lane) (numberAfter (numberOf st x) (frames (zone s (channelOf s (x .lane))) (x .batch)));
         expects = st .expects;
         held = st .held;
@@ -78,7 +78,7 @@ module _ (s : Setting) where
       record {
         counts = (afterGone st x) .counts;
         next = (afterGone st x) .next;
-        expects = set (st .expects) (channelAt s (x .lane)) (expected ((channelOf s (x .lane)) .octets) (countOf st x));
+        expects = set (st .expects) (placeOf s (x .lane)) (expected ((channelOf s (x .lane)) .octets) (countOf st x));
         held = set (gapped s (st .expects) (st .held) (x .lane) (countOf st x)) (x .lane) (length ((madeOf st x) .held));
         area = laid (st .area) (8192 * x .lane) ((madeOf st x) .held);
         last = (afterGone st x) .last;
@@ -156,7 +156,7 @@ module _ (s : Setting) where
           valid = valid;
         }
       where
-        valid : readerOk (reader s (set (st .expects) (channelAt s (x .lane)) (expected ((channelOf s (x .lane)) .octets) (countOf st x)))
+        valid : readerOk (reader s (set (st .expects) (placeOf s (x .lane)) (expected ((channelOf s (x .lane)) .octets) (countOf st x)))
             (set (gapped s (st .expects) (st .held) (x .lane) (countOf st x)) (x .lane) (length ((madeOf st x) .held)))) ≡ true
         valid =
             unfold madeOf in

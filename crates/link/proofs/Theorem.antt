@@ -20,7 +20,7 @@ use Rattle.rules.specs.Tests.{_=?_}
 use Rattle.rules.specs.Areas.{part}
 use Rattle.rules.specs.Settings.{noExpect, channel, lane, channelOf, zone, settingOk, freshReader, freshWriter, noWriter}
 use Rattle.rules.specs.Frames.{pointsTo}
-use Rattle.rules.specs.Writing.{unitsOf, frames, zoneOf, ruleOf, pointerOf, countAfter}
+use Rattle.rules.specs.Writing.{unitsOf, frames, zoneOf, ruleOf, pointerOf}
 use Rattle.rules.specs.Reading.{missing, expected, Made, laneStep}
 use Rattle.rules.specs.Calls.{setUpReader, setUpWriter}
 use Rattle.rules.proofs.Tests.{split, same}
@@ -29,89 +29,13 @@ use Rattle.rules.proofs.Valid.{Good, good, good-channelOf, least}
 use Rattle.rules.proofs.States.{fresh-reader}
 use Rattle.rules.proofs.Calls.{setup-accepted}
 use Rattle.link.specs.Link.{Call, Frame, frameBy, sent, arrivals, reads, handedOut}
-use Rattle.link.specs.Due.{kept, channelAt, backTo, noneGone, clean, dueIn, due}
+use Rattle.link.specs.Due.{kept, placeOf, clean, dueIn, due}
 use Rattle.link.specs.Demand.{lending, InOrder, allPass, keptOn, fewGone, Demand}
-use Rattle.link.proofs.Spans.{heldFrom, held-none, ends-none}
+use Rattle.link.proofs.Spans.{heldFrom, held-none}
 use Rattle.link.proofs.Invariant.{View, heldAfter, Inv, inv-other, inv-gone, inv-beside, made, units-due, inv-next}
 use Rattle.link.proofs.Received.{holds, gapped, left, length-left, holds-other, holds-gap, stored-here, stored-other, makes}
+use Rattle.link.proofs.Views.{clean-gone, clean-apart, clean-beside, clean-now, clean-before, due-not, due-gone, flags-on, flags-off, view, number-other, batch-other, count-other, count-on}
 use Rattle.link.proofs.Run.{State, frame, countOf, numberOf, afterGone, afterKept, madeOf, Ready, Goes, run}
-
-module _ (s : Setting) (l : ℕ) where
-  -- ---- which frames are kept, seen from lane l
-
-  module _ (f : Frame) (past : List Frame) where
-    clean-gone : channelAt s (f .lane) ≡ channelAt s l → kept (f .passage) ≡ false → (k : ℕ) → clean s l (f ∷ past) k ≡ false
-    unfolding clean backTo noneGone
-    clean-gone p q k = rw (eq-eqb (channelAt s (f .lane)) (channelAt s l) p, q)
-
-    clean-apart : (channelAt s (f .lane) ≡ channelAt s l → ⊥) → (k : ℕ) → clean s l (f ∷ past) k ≡ clean s l past k
-    unfolding clean backTo noneGone
-    clean-apart n k = rw (ne-eqb (channelAt s (f .lane)) (channelAt s l) n, ne-eqb (f .lane) l (λ e. n (ap (channelAt s) e)))
-
-    clean-beside : channelAt s (f .lane) ≡ channelAt s l → kept (f .passage) ≡ true → (f .lane ≡ l → ⊥) → (k : ℕ) → clean s l (f ∷ past) k ≡ clean s l past k
-    unfolding clean backTo noneGone
-    clean-beside p q n k = rw (eq-eqb (channelAt s (f .lane)) (channelAt s l) p, q, ne-eqb (f .lane) l n)
-
-    clean-now : f .lane ≡ l → kept (f .passage) ≡ true → (k : ℕ) → f .number ≡ k → clean s l (f ∷ past) k ≡ true
-    unfolding clean backTo noneGone
-    clean-now p q k e = rw (eq-eqb (channelAt s (f .lane)) (channelAt s l) (ap (channelAt s) p), q, eq-eqb (f .lane) l p, eq-eqb (f .number) k e)
-
-    clean-before : f .lane ≡ l → kept (f .passage) ≡ true → (k : ℕ) → (f .number ≡ k → ⊥) → clean s l (f ∷ past) k ≡ clean s l past k
-    unfolding clean backTo noneGone
-    clean-before p q k e = rw (eq-eqb (channelAt s (f .lane)) (channelAt s l) (ap (channelAt s) p), q, eq-eqb (f .lane) l p, ne-eqb (f .number) k e)
-
-    -- Nothing is due on lane l in another lane's frame.
-    due-not : (f .lane ≡ l → ⊥) → dueIn s l f past ≡ []
-    unfolding dueIn
-    due-not n = rw (ne-eqb (f .lane) l n)
-
-    due-gone : channelAt s (f .lane) ≡ channelAt s l → kept (f .passage) ≡ false → dueIn s l f past ≡ []
-    unfolding dueIn
-    due-gone p q = same (f .lane) l (λ e. rw (eq-eqb (f .lane) l e) (ends-none _ _ _ (clean-gone p q))) due-not
-
-  flags-on : (f : Frame) (fs : List Frame) (t : Bool) → channelAt s (f .lane) ≡ channelAt s l → kept (f .passage) ≡ t
-      → keptOn s (channelAt s l) (f ∷ fs) ≡ t ∷ keptOn s (channelAt s l) fs
-  unfolding keptOn
-  flags-on f fs t p q = rw (eq-eqb (channelAt s (f .lane)) (channelAt s l) p, q)
-
-  flags-off : (f : Frame) (fs : List Frame) → (channelAt s (f .lane) ≡ channelAt s l → ⊥) → keptOn s (channelAt s l) (f ∷ fs) ≡ keptOn s (channelAt s l) fs
-  unfolding keptOn
-  flags-off f fs n = rw (ne-eqb (channelAt s (f .lane)) (channelAt s l) n)
-
-  -- ---- lane l's view of a state
-
-  unfoldable view : State → View
-  view st =
-      record {
-        number = getD (st .next) l 0;
-        count = getD (st .counts) (channelAt s l) 0;
-        expect = getD (st .expects) (channelAt s l) noExpect;
-        hold = holds (st .held) (st .area) l;
-        batch = st .last l;
-      }
-
-  module _ (st : State) (x : Call) where
-    abbrev i : ℕ
-    i = x .lane
-
-    number-other : (i ≡ l → ⊥) → getD ((afterGone s st x) .next) l 0 ≡ getD (st .next) l 0
-    unfolding afterGone
-    number-other n = getD-set-other (st .next) i l _ 0 (λ e. n (sym e))
-
-    batch-other : (i ≡ l → ⊥) → (afterGone s st x) .last l ≡ st .last l
-    unfolding afterGone lending
-    batch-other n = rw (ne-eqb l i (λ e. n (sym e)))
-
-    count-other : (channelAt s i ≡ channelAt s l → ⊥) → getD ((afterGone s st x) .counts) (channelAt s l) 0 ≡ getD (st .counts) (channelAt s l) 0
-    unfolding afterGone
-    count-other n = getD-set-other (st .counts) (channelAt s i) (channelAt s l) _ 0 (λ e. n (sym e))
-
-    count-on : channelAt s i ≡ channelAt s l → channelAt s l < length (st .counts)
-        → getD ((afterGone s st x) .counts) (channelAt s l) 0 ≡ countAfter ((channelOf s l) .octets) (getD (st .counts) (channelAt s l) 0)
-    unfolding afterGone
-    count-on e h =
-        ap (λ (c : ℕ). getD (set (st .counts) c (countAfter ((channel s c) .octets) (getD (st .counts) c 0))) (channelAt s l) 0) e
-        ∙ getD-set-same (st .counts) (channelAt s l) _ 0 h
 
 -- ---- what is known of a lane
 
@@ -130,9 +54,9 @@ module _ (s : Setting) (g : Good s) (l : ℕ) (lh : l < s .numbered) where
   Known v whole flags = Inv ((lane s l) .kind) ((lane s l) .longest) (zone s (channelOf s l)) ((channelOf s l) .octets) zone-some zone-few long v whole flags
 
   Knows : State → List Frame → Type 0
-  Knows st rest = Known (view s l st) (clean s l (st .past)) (keptOn s (channelAt s l) rest)
+  Knows st rest = Known (view s l st) (clean s l (st .past)) (keptOn s (placeOf s l) rest)
 
-  channel-8 : channelAt s l < 8
+  channel-8 : placeOf s l < 8
   channel-8 = omega (arith, g .lanes l lh .channel, g .listed)
 
   -- A view by its parts.
@@ -146,21 +70,21 @@ module _ (s : Setting) (g : Good s) (l : ℕ) (lh : l < s .numbered) where
       → (dueIn s l (frame s st x) (st .past) ≡ []) × Knows (afterGone s st x) rest
   unfolding Knows frameBy view afterGone
   if-gone st x rest r c q k =
-      same (channelAt s (x .lane)) (channelAt s l)
+      same (placeOf s (x .lane)) (placeOf s l)
       (λ e. (
         due-gone s l (frame s st x) (st .past) e q,
-        subst (λ (v : View). Known v (clean s l (frame s st x ∷ st .past)) (keptOn s (channelAt s l) rest))
+        subst (λ (v : View). Known v (clean s l (frame s st x ∷ st .past)) (keptOn s (placeOf s l) rest))
             (parts _ _ _ _ _ _ _ _ _ _ refl (sym (count-on s l st x e (omega (arith, r .counts-8, channel-8)))) refl refl refl)
-            (inv-gone _ _ _ _ _ _ _ (view s l st) (clean s l (st .past)) (clean s l (frame s st x ∷ st .past)) (keptOn s (channelAt s l) rest) _ _
+            (inv-gone _ _ _ _ _ _ _ (view s l st) (clean s l (st .past)) (clean s l (frame s st x ∷ st .past)) (keptOn s (placeOf s l) rest) _ _
             (clean-gone s l (frame s st x) (st .past) e q)
             (subst (Known (view s l st) (clean s l (st .past))) (flags-on s l (frame s st x) rest false e q) k)),
       ))
       (λ n.
-      let m : x .lane ≡ l → ⊥ = λ e. n (ap (channelAt s) e) in (
+      let m : x .lane ≡ l → ⊥ = λ e. n (ap (placeOf s) e) in (
         due-not s l (frame s st x) (st .past) m,
-        subst (λ (v : View). Known v (clean s l (frame s st x ∷ st .past)) (keptOn s (channelAt s l) rest))
+        subst (λ (v : View). Known v (clean s l (frame s st x ∷ st .past)) (keptOn s (placeOf s l) rest))
             (parts _ _ _ _ _ _ _ _ _ _ (sym (number-other s l st x m)) (sym (count-other s l st x n)) refl refl (sym (batch-other s l st x m)))
-            (inv-other _ _ _ _ _ _ _ (view s l st) (clean s l (st .past)) (clean s l (frame s st x ∷ st .past)) (keptOn s (channelAt s l) rest)
+            (inv-other _ _ _ _ _ _ _ (view s l st) (clean s l (st .past)) (clean s l (frame s st x ∷ st .past)) (keptOn s (placeOf s l) rest)
             (clean-apart s l (frame s st x) (st .past) n)
             (subst (Known (view s l st) (clean s l (st .past))) (flags-off s l (frame s st x) rest n) k)),
       ))
@@ -182,37 +106,37 @@ module _ (s : Setting) (g : Good s) (l : ℕ) (lh : l < s .numbered) where
     unfolding afterKept
     hold-other n = stored-other gap (st .area) ((madeOf s st x) .held) i′ lane-8 (length-left s _ _ (st .held) ∙ r .held-8) (r .full) small l (λ e. n (sym e))
 
-    gap-on : channelAt s i′ ≡ channelAt s l
+    gap-on : placeOf s i′ ≡ placeOf s l
         → holds gap (st .area) l ≡ heldAfter ((channelOf s l) .octets) ((view s l st) .expect) ((view s l st) .count) ((view s l st) .hold)
     unfolding view heldAfter
     gap-on e =
         ap (λ (d : ℕ). holds (left s d (missing ((channel s d) .octets) (getD (st .expects) d noExpect) (getD (st .counts) d 0)) (st .held)) (st .area) l) e
         ∙ holds-gap s g l lh _ (st .held) (st .area)
 
-    expect-on : channelAt s i′ ≡ channelAt s l
-        → getD ((afterKept s st x) .expects) (channelAt s l) noExpect ≡ expected ((channelOf s l) .octets) ((view s l st) .count)
+    expect-on : placeOf s i′ ≡ placeOf s l
+        → getD ((afterKept s st x) .expects) (placeOf s l) noExpect ≡ expected ((channelOf s l) .octets) ((view s l st) .count)
     unfolding view afterKept
     expect-on e =
-        ap (λ (d : ℕ). getD (set (st .expects) d (expected ((channel s d) .octets) (getD (st .counts) d 0))) (channelAt s l) noExpect) e
-        ∙ getD-set-same (st .expects) (channelAt s l) _ noExpect (omega (arith, r .expects-8, channel-8))
+        ap (λ (d : ℕ). getD (set (st .expects) d (expected ((channel s d) .octets) (getD (st .counts) d 0))) (placeOf s l) noExpect) e
+        ∙ getD-set-same (st .expects) (placeOf s l) _ noExpect (omega (arith, r .expects-8, channel-8))
 
     if-other : (rest : List Frame) → kept (x .passage) ≡ true → (i′ ≡ l → ⊥) → Knows st (frame s st x ∷ rest) → Knows (afterKept s st x) rest
     unfolding Knows frameBy view afterKept afterGone
     if-other rest q n k =
-        same (channelAt s i′) (channelAt s l)
+        same (placeOf s i′) (placeOf s l)
         (λ e.
-        subst (λ (v : View). Known v (clean s l (frame s st x ∷ st .past)) (keptOn s (channelAt s l) rest))
+        subst (λ (v : View). Known v (clean s l (frame s st x ∷ st .past)) (keptOn s (placeOf s l) rest))
         (parts _ _ _ _ _ _ _ _ _ _ (sym (number-other s l st x n)) (sym (count-on s l st x e (omega (arith, r .counts-8, channel-8)))) (sym (expect-on e))
         (sym (hold-other n ∙ gap-on e)) (sym (batch-other s l st x n)))
-        (inv-beside _ _ _ _ _ _ _ (view s l st) (clean s l (st .past)) (keptOn s (channelAt s l) rest)
+        (inv-beside _ _ _ _ _ _ _ (view s l st) (clean s l (st .past)) (keptOn s (placeOf s l) rest)
         (subst (Known (view s l st) (clean s l (st .past))) (flags-on s l (frame s st x) rest true e q) k) (clean s l (frame s st x ∷ st .past))
         (clean-beside s l (frame s st x) (st .past) e q n)))
         (λ e.
-        subst (λ (v : View). Known v (clean s l (frame s st x ∷ st .past)) (keptOn s (channelAt s l) rest))
+        subst (λ (v : View). Known v (clean s l (frame s st x ∷ st .past)) (keptOn s (placeOf s l) rest))
         (parts _ _ _ _ _ _ _ _ _ _ (sym (number-other s l st x n)) (sym (count-other s l st x e))
-        (sym (getD-set-other (st .expects) (channelAt s i′) (channelAt s l) _ noExpect (λ p. e (sym p))))
-        (sym (hold-other n ∙ holds-other s g l lh (channelAt s i′) _ (st .held) (st .area) (λ p. e (sym p)))) (sym (batch-other s l st x n)))
-        (inv-other _ _ _ _ _ _ _ (view s l st) (clean s l (st .past)) (clean s l (frame s st x ∷ st .past)) (keptOn s (channelAt s l) rest)
+        (sym (getD-set-other (st .expects) (placeOf s i′) (placeOf s l) _ noExpect (λ p. e (sym p))))
+        (sym (hold-other n ∙ holds-other s g l lh (placeOf s i′) _ (st .held) (st .area) (λ p. e (sym p)))) (sym (batch-other s l st x n)))
+        (inv-other _ _ _ _ _ _ _ (view s l st) (clean s l (st .past)) (clean s l (frame s st x ∷ st .past)) (keptOn s (placeOf s l) rest)
         (clean-apart s l (frame s st x) (st .past) e)
         (subst (Known (view s l st) (clean s l (st .past))) (flags-off s l (frame s st x) rest e) k)))
 
@@ -224,7 +148,7 @@ module _ (s : Setting) (g : Good s) (st : State) (x : Call) (r : Ready s st) (c 
   own = x .lane
 
   abbrev flags : List Bool
-  flags = keptOn s (channelAt s own) rest
+  flags = keptOn s (placeOf s own) rest
 
   abbrev whole : ℕ → Bool
   whole = clean s own (frame s st x ∷ st .past)
@@ -323,11 +247,11 @@ module _ (s : Setting) (ok : settingOk s ≡ true) (h : List ℕ) (full : length
       record { counts-8 = refl; next-8 = refl; expects-8 = refl; held-8 = refl; full = full; valid = fresh-reader s ok }
 
   fresh-knows : (l : ℕ) (lh : l < s .numbered) (fs : List Frame)
-      → fewGone (256 ^ (channelOf s l) .octets) false 0 (keptOn s (channelAt s l) fs) ≡ true → Knows s (good s ok) l lh (fresh h) fs
+      → fewGone (256 ^ (channelOf s l) .octets) false 0 (keptOn s (placeOf s l) fs) ≡ true → Knows s (good s ok) l lh (fresh h) fs
   unfolding Knows fresh view
   fresh-knows l lh fs few =
       let n : _≡_ {A = ℕ} (getD (replicate 8 0) l 0) 0 = getD-replicate {A = ℕ} 8 l 0 0 (omega (arith, good s ok .numbered)) in
-      let e : getD (replicate 8 noExpect) (channelAt s l) noExpect ≡ noExpect = getD-replicate 8 (channelAt s l) noExpect noExpect (channel-8 s (good s ok) l lh) in
+      let e : getD (replicate 8 noExpect) (placeOf s l) noExpect ≡ noExpect = getD-replicate 8 (placeOf s l) noExpect noExpect (channel-8 s (good s ok) l lh) in
       let z : 0 < zone s (channelOf s l) = zone-some s (good s ok) l lh in
       record {
         j = 0;
@@ -370,7 +294,7 @@ from-fresh s h xs ok full order pass near l =
     (λ st x rest r c small q k. (none-other s g l st x (n st x c), tt)) xs (fresh h) (fresh-ready s ok h full) order pass tt)
     (λ b.
     run s g l (Knows s g l b) (if-gone s g l b) (if-kept s g l b) xs (fresh h) (fresh-ready s ok h full) order pass
-    (fresh-knows s ok h full l b (sent (freshWriter s) xs) (near (channelAt s l) (g .lanes l b .channel))))
+    (fresh-knows s ok h full l b (sent (freshWriter s) xs) (near (placeOf s l) (g .lanes l b .channel))))
 
 pub demand : Demand
 demand s h xs d near l =

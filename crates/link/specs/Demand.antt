@@ -14,7 +14,7 @@ use Rattle.rules.specs.Settings.{channel, number}
 use Rattle.rules.specs.Refusals.{refusals}
 use Rattle.rules.specs.Calls.{setUpReader, setUpWriter}
 use Rattle.link.specs.Link.{Lent, Arrival, Passage, Kept, Gone, Call, called, Frame, sent, arrivals, reads, handedOut}
-use Rattle.link.specs.Due.{kept, channelAt, due}
+use Rattle.link.specs.Due.{kept, placeOf, due}
 
 -- ---- the writer's calls
 
@@ -54,7 +54,7 @@ allPass s (f ∷ fs) = passes s (f .passage) && allPass s fs
 -- Of the frames of channel c, whether each is kept.
 unfoldable pub keptOn : Setting → ℕ → List Frame → List Bool
 keptOn s c [] = []
-keptOn s c (f ∷ fs) = cond (channelAt s (f .lane) =? c) (kept (f .passage) ∷ []) [] ++ keptOn s c fs
+keptOn s c (f ∷ fs) = cond (placeOf s (f .lane) =? c) (kept (f .passage) ∷ []) [] ++ keptOn s c fs
 
 -- "Between two kept frames fewer gone than" m. So far g are gone since the last kept one, if `any` was kept.
 unfoldable pub fewGone : ℕ → Bool → ℕ → List Bool → Bool

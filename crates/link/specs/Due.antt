@@ -31,11 +31,12 @@ abbrev pub kept : Passage → Bool
 kept (Kept lent) = true
 kept (Gone instead) = false
 
--- "Channel and service": lanes of one channel share both.
-abbrev pub channelAt : Setting → ℕ → ℕ
-channelAt s l = (lane s l) .channel
+-- The place of lane l's channel in the list: two lanes share "channel and service" where it is the same.
+abbrev pub placeOf : Setting → ℕ → ℕ
+placeOf s l = (lane s l) .channel
 
--- Of the frames sent so far, the last one first, those back to frame k of lane l's batch.
+-- Of the frames sent so far, the last one first: back to frame k of the batch that lane l is at, the last frame of lane l with that
+-- number.
 unfoldable pub backTo : ℕ → ℕ → List Frame → List Frame
 backTo l k [] = []
 backTo l k (f ∷ fs) = f ∷ cond (f .lane =? l && f .number =? k) [] (backTo l k fs)
@@ -43,11 +44,11 @@ backTo l k (f ∷ fs) = f ∷ cond (f .lane =? l && f .number =? k) [] (backTo l
 -- "No frame of that channel and service is gone."
 unfoldable pub noneGone : Setting → ℕ → List Frame → Bool
 noneGone s c [] = true
-noneGone s c (f ∷ fs) = cond (channelAt s (f .lane) =? c) (kept (f .passage)) true && noneGone s c fs
+noneGone s c (f ∷ fs) = cond (placeOf s (f .lane) =? c) (kept (f .passage)) true && noneGone s c fs
 
--- None is gone from frame k of lane l's batch to the last frame sent.
+-- None is gone from frame k of that batch to the last frame sent, both included.
 unfoldable pub clean : Setting → ℕ → List Frame → ℕ → Bool
-clean s l past k = noneGone s (channelAt s l) (backTo l k past)
+clean s l past k = noneGone s (placeOf s l) (backTo l k past)
 
 -- The units of lane l that end in the last frame sent.
 unfoldable pub dueIn : Setting → ℕ → Frame → List Frame → List (List ℕ)

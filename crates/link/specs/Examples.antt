@@ -111,18 +111,18 @@ gapOf n = keep 0 a₀ ∷ lose 0 a₀ [] ∷ times n (lose 0 (packet 21 0x77) []
 
 -- ---- what a run of them gives
 
-unfoldable pub frames : List Call → List Frame
-frames xs = sent ((setUpWriter paired) .state) xs
+unfoldable pub framesOf : List Call → List Frame
+framesOf xs = sent ((setUpWriter paired) .state) xs
 
 -- What reads hand out on lanes 0 to 3, of which 3 is none, and what is due there.
 unfoldable pub onEach : List Got → List (List (List ℕ))
 onEach os = handedOut 0 os ∷ handedOut 1 os ∷ handedOut 2 os ∷ handedOut 3 os ∷ []
 
 unfoldable pub got : List Call → List (List (List ℕ))
-got xs = onEach (reads ((setUpReader paired) .state) (replicate 65536 0x66) (arrivals (frames xs)))
+got xs = onEach (reads ((setUpReader paired) .state) (replicate 65536 0x66) (arrivals (framesOf xs)))
 
 unfoldable pub dueOnEach : List Frame → List (List (List ℕ))
 dueOnEach fs = due paired 0 [] fs ∷ due paired 1 [] fs ∷ due paired 2 [] fs ∷ due paired 3 [] fs ∷ []
 
 unfoldable pub owed : List Call → List (List (List ℕ))
-owed xs = dueOnEach (frames xs)
+owed xs = dueOnEach (framesOf xs)
