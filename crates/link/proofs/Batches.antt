@@ -1,7 +1,7 @@
 -- A lane of either kind that reads a frame of its batch. From here on packets and access units are alike: units back to back.
 use mathlib.Core.Path.{_≡_, refl, ap, _∙_, subst}
 use Prim.Native.Nat.{ℕ, _+_, _-_, _*_, _/_, _≤_, _<_}
-use native.Mathlib.Nat.{zero-add, le-div-iff-mul-le, div-lt-iff-lt-mul}
+use native.Mathlib.Nat.{zero-add, le-div-iff-mul-le, div-lt-iff-lt-mul, lt-div-mul-add}
 use native.Mathlib.Omega.{arith}
 use mathlib.Core.Bool.{Bool, true, false, cond}
 use mathlib.Core.List.{List, [], _∷_, append-nil}
@@ -53,6 +53,13 @@ module _ (z : ℕ) (zp : 0 < z) (b : List ℕ) (k : ℕ) where
       let q : (length b + (z - 1)) / z < k + 2 = omega (arith, h) in
       let r = div-lt-iff-lt-mul zp .0 q in
       omega (arith, r)
+
+-- The frames hold the whole batch.
+pub frame-all : (z : ℕ) → 0 < z → (b : List ℕ) → length b ≤ frames z b * z
+unfolding frames
+frame-all z zp b =
+    let q = lt-div-mul-add {a = length b + (z - 1)} zp in
+    omega (arith, q)
 
 -- ---- a pointer is read as it was written
 

@@ -4,6 +4,7 @@ pub mod Spans
 pub mod PacketLane
 pub mod AccessLane
 pub mod Batches
+pub mod Once
 pub mod Records
 pub mod Invariant
 pub mod Received

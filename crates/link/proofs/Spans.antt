@@ -20,11 +20,14 @@ module _ (z : ℕ) (zp : 0 < z) where
   frame-of : (x k : ℕ) → k * z ≤ x → x < k * z + z → x / z ≡ k
   frame-of x k h l = div-eq-of-lt-le z h (rw (add-mul, one-mul) l)
 
-  frame-before : (x k : ℕ) → x < k * z → x / z < k
+  pub frame-before : (x k : ℕ) → x < k * z → x / z < k
   frame-before x k h = div-lt-iff-lt-mul zp .1 h
 
   pub frame-from : (x k : ℕ) → k * z ≤ x → k ≤ x / z
   frame-from x k h = le-div-iff-mul-le zp .1 h
+
+  pub frame-order : (x y : ℕ) → x ≤ y → x / z ≤ y / z
+  frame-order x y h = le-div-iff-mul-le zp .1 (le-trans (div-mul-le-self x z) h)
 
   frame-after : (x k : ℕ) → k * z + z ≤ x → k < x / z
   frame-after x k h = le-div-iff-mul-le zp .1 (omega arith)
@@ -145,6 +148,6 @@ ends-same z zp k p q h (u ∷ us) a f = ap₂ _++_ (by ((a + length u - 1) / z =
     by : (t : Bool) → (a + length u - 1) / z =? k ≡ t → cond (t && p (a / z)) (u ∷ []) [] ≡ cond (t && q (a / z)) (u ∷ []) []
     by true e =
         let g : (a + length u - 1) / z ≡ k = eqb-true _ _ e in
-        let i : a / z ≤ (a + length u - 1) / z = le-div-iff-mul-le zp .1 (le-trans (div-mul-le-self a z) (omega (arith, f .0))) in
+        let i : a / z ≤ (a + length u - 1) / z = frame-order z zp a (a + length u - 1) (omega (arith, f .0)) in
         ap (λ (t : Bool). cond t (u ∷ []) []) (h (a / z) (omega arith))
     by false e = refl
