@@ -10,6 +10,7 @@ pub mod Invariant
 pub mod Received
 pub mod Run
 pub mod Views
+pub mod Steps
 pub mod Theorem
 pub mod Example
 pub mod Shown
