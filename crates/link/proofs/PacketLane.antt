@@ -1,0 +1,359 @@
+-- A packet lane that reads frame k of a batch of whole packets: it hands out those that end there, but for those that began before
+-- frame j, and holds what there is of the one that goes on.
+use mathlib.Core.Path.{_≡_, refl, sym, ap, ap₂, _∙_}
+use mathlib.Core.Logic.{_⊎_, inl, inr}
+use Prim.Native.Nat.{ℕ, zero, suc, _+_, _-_, _*_, _/_, _≤_, _<_}
+use native.Mathlib.Nat.{le-trans, not-suc-le-zero, zero-add, add-zero, add-sub-of-le, sub-self, sub-eq-zero-of-le, le-antisymm}
+use native.Mathlib.Omega.{arith}
+use mathlib.Core.Bool.{Bool, true, false, cond}
+use mathlib.Core.List.{List, [], _∷_, _++_, append-nil, append-assoc}
+use lib.ListN.{length, take, drop, replicate, length-append, length-take, length-drop, take-append-drop}
+use lib.Seq.{length-take-le, take-nil, take-at, drop-at, take-add, take-append-le, take-append-add, drop-append-le, drop-append-add, take-append-seam, drop-append-seam}
+use borrow.Author.Tests.{le-leb, lt-leb, lt-ltb, le-ltb, eq-eqb, ne-eqb}
+use Rattle.rules.specs.declared.Place.{Place}
+use Rattle.rules.specs.declared.Place.the-variants.{At, Nowhere}
+use Rattle.rules.specs.declared.Measure.the-variants.{Lacks, Packet}
+use Rattle.rules.specs.declared.Next.{Next}
+use Rattle.rules.specs.declared.Next.the-variants.{Give, Skip, Keep}
+use Rattle.rules.specs.declared.Fate.{Fate}
+use Rattle.rules.specs.declared.Fate.the-variants.{Hand, Hold}
+use Rattle.rules.specs.Tests.{_≤?_}
+use Rattle.rules.specs.Areas.{joined}
+use Rattle.rules.specs.Packets.{measured, measure}
+use Rattle.rules.specs.Writing.{startFrom, inside}
+use Rattle.rules.specs.Reading.{Made, hands, both, become, endFate, joinedFate, leadFate, lead, sizedNext, nextOf, front, walk, packetLane}
+use Rattle.rules.proofs.Tests.{split}
+use Rattle.rules.proofs.Lanes.{walk-front}
+use Rattle.link.specs.Due.{spans, ending}
+use Rattle.link.proofs.Whole.{Whole, Wholes}
+use Rattle.link.proofs.Spans.{frame-from, Filled, Yield, yields, yield, heldFrom, either-none, held-past, held-here, first-before, first-within, first-after}
+
+pub wholes-filled : (longest : ℕ) (us : List (List ℕ)) → Wholes longest us → Filled us
+wholes-filled longest [] w = tt
+wholes-filled longest (u ∷ us) w = (w .0 .some, wholes-filled longest us (w .1))
+
+take-over : (m : ℕ) (xs ys : List ℕ) → length xs ≤ m → take m (xs ++ ys) ≡ xs ++ take (m - length xs) ys
+take-over m xs ys h = ap (λ (k : ℕ). take k (xs ++ ys)) (sym (add-sub-of-le h)) ∙ take-append-add xs ys (m - length xs)
+
+abbrev filler : ℕ → List ℕ
+filler n = replicate n 0xE0
+
+-- ---- one packet
+
+module _ (longest : ℕ) (u : List ℕ) (w : Whole longest u) where
+  next-whole : (ys : List ℕ) → nextOf longest (measure (u ++ ys)) (length (u ++ ys)) ≡ Give (length u)
+  unfolding nextOf sizedNext
+  next-whole ys =
+      let h : length u ≤ length (u ++ ys) = omega (arith, length-append u ys) in
+      rw (w .self ys, le-leb _ _ (w .fits), le-leb _ _ h)
+
+  -- A packet at the front is given, and the walk goes on after it.
+  walk-whole : (ys : List ℕ) → yield (walk longest (u ++ ys)) ≡ yields (u ∷ (walk longest ys) .units) ((walk longest ys) .held)
+  walk-whole ys =
+      ap yield (walk-front longest (u ++ ys) ∙ ap (λ (n : Next). front n (u ++ ys) (walk longest)) (next-whole ys))
+      ∙ ap₂ (λ (p q : List ℕ). yield (hands p (walk longest q))) (take-append-seam u ys) (drop-append-seam u ys)
+
+  next-part : (m : ℕ) → m < length u → nextOf longest (measure (take m u)) (length (take m u)) ≡ Keep
+  unfolding nextOf sizedNext
+  next-part m h =
+      let l : length (take m u) < length u = omega (arith, length-take m u) in
+      by (w .part m h) l
+    where
+      by : (measure (take m u) ≡ Lacks) ⊎ (measure (take m u) ≡ Packet (length u)) → length (take m u) < length u
+          → nextOf longest (measure (take m u)) (length (take m u)) ≡ Keep
+      by (inl e) l = rw e
+      by (inr e) l = rw (e, le-leb _ _ (w .fits), lt-leb _ _ l)
+
+  -- One that is cut is held.
+  walk-part : (m : ℕ) → m < length u → yield (walk longest (take m u)) ≡ yields [] (take m u)
+  walk-part m h = ap yield (walk-front longest (take m u) ∙ ap (λ (n : Next). front n (take m u) (walk longest)) (next-part m h))
+
+  fate-ends : (on : Bool) → joinedFate longest on (measure u) (length u) ≡ Hand
+  unfolding joinedFate endFate
+  fate-ends on =
+      let e : measure u ≡ Packet (length u) = ap measure (sym (append-nil u)) ∙ w .self [] in
+      rw (e, le-leb _ _ (w .fits), eq-eqb (length u) (length u) refl)
+
+  fate-goes : (m : ℕ) → m < length u → joinedFate longest true (measure (take m u)) m ≡ Hold
+  unfolding joinedFate endFate
+  fate-goes m h = by (w .part m h)
+    where
+      by : (measure (take m u) ≡ Lacks) ⊎ (measure (take m u) ≡ Packet (length u)) → joinedFate longest true (measure (take m u)) m ≡ Hold
+      by (inl e) = rw e
+      by (inr e) = rw (e, le-leb _ _ (w .fits), ne-eqb (length u) m (λ q. omega arith), lt-ltb _ _ h)
+
+-- ---- held octets and lead
+
+module _ (longest : ℕ) (on : Bool) where
+  -- "With nothing held, the lead is dropped."
+  lead-none : (xs : List ℕ) → yield (lead longest on [] xs) ≡ yields [] []
+  unfolding lead leadFate
+  lead-none xs = refl
+
+  -- "Otherwise the lead follows the held octets."
+  lead-joined : (held xs ys : List ℕ) → 0 < length held → 0 < length xs → held ++ xs ≡ ys
+      → lead longest on held xs ≡ become (joinedFate longest on (measure ys) (length ys)) ys
+  unfolding lead leadFate
+  lead-joined held xs ys h k e =
+      let n : length held + length xs ≡ length ys = sym (length-append held xs) ∙ ap length e in
+      rw (ne-eqb (length held) 0 (λ q. omega arith), ne-eqb (length xs) 0 (λ q. omega arith), e, n)
+
+-- ---- the octets from the pointer on
+
+module _ (longest z : ℕ) (zp : 0 < z) (j k : ℕ) (jk : j ≤ k) where
+  abbrev ends : ℕ → List (List ℕ) → List (List ℕ)
+  ends a us = ending k (λ (i : ℕ). j ≤? i) (spans z a us)
+
+  abbrev held : ℕ → ℕ → List (List ℕ) → List ℕ
+  held a o us = heldFrom z j a o us
+
+  -- A unit that begins in this frame is not lost.
+  not-lost : (a : ℕ) → k * z ≤ a → j ≤? (a / z) ≡ true
+  not-lost a h = le-leb _ _ (le-trans jk (frame-from z zp a k h))
+
+  fill-next : (n : ℕ) → 1 ≤ longest → nextOf longest (measure (filler (suc n))) (length (filler (suc n))) ≡ Skip 1
+  unfolding nextOf sizedNext measure measured
+  fill-next n h =
+      let l : 1 ≤ length (filler (suc n)) = omega arith in
+      rw (ne-eqb (suc (length (filler n))) 0 (λ q. omega arith), le-leb _ _ h, le-leb _ _ l)
+
+  -- "The rest of the last zone is E0 octets": each is an idle packet.
+  walk-fill : (n : ℕ) → 1 ≤ longest → yield (walk longest (filler n)) ≡ yields [] []
+  walk-fill zero h = ap yield (walk-front longest []) ∙ unfold nextOf measure measured in refl
+  walk-fill (suc n) h =
+      ap yield (walk-front longest (filler (suc n)) ∙ ap (λ (s : Next). front s (filler (suc n)) (walk longest)) (fill-next n h))
+      ∙ walk-fill n h
+
+  -- Units that begin in this frame, with m octets of them in it, and fill where they end in it.
+  walk-due : (us : List (List ℕ)) (a m n : ℕ) → 1 ≤ longest → Wholes longest us → k * z ≤ a → a + m ≡ k * z + z → (n ≡ 0) ⊎ (length (joined us) ≤ m)
+      → yield (walk longest (take m (joined us) ++ filler n)) ≡ yields (ends a us) (held a m us)
+  unfolding joined spans ending heldFrom
+  walk-due [] a m n one w h e f = ap (λ (xs : List ℕ). yield (walk longest (xs ++ filler n))) (take-nil m) ∙ walk-fill n one
+  walk-due (u ∷ us) a m n one w h e f =
+      split (length u) m
+      (λ g. whole g (walk-due us (a + length u) (m - length u) n one (w .1) (omega arith) (omega arith) (fits f)))
+      (λ g. part g f)
+    where
+      fits : (n ≡ 0) ⊎ (length (u ++ joined us) ≤ m) → (n ≡ 0) ⊎ (length (joined us) ≤ m - length u)
+      fits (inl q) = inl q
+      fits (inr q) = inr (omega (arith, length-append u (joined us)))
+
+      whole : length u ≤ m
+          → yield (walk longest (take (m - length u) (joined us) ++ filler n)) ≡ yields (ends (a + length u) us) (held (a + length u) (m - length u) us)
+          → yield (walk longest (take m (u ++ joined us) ++ filler n)) ≡ yields (ends a (u ∷ us)) (held a m (u ∷ us))
+      whole g ih =
+          let s = w .0 .some in
+          let y : List ℕ = take (m - length u) (joined us) ++ filler n in
+          ap (λ (xs : List ℕ). yield (walk longest (xs ++ filler n))) (take-over m u (joined us) g)
+          ∙ ap (λ (xs : List ℕ). yield (walk longest xs)) (append-assoc u (take (m - length u) (joined us)) (filler n))
+          ∙ walk-whole longest u (w .0) y
+          ∙ ap (λ (r : Yield). yields (u ∷ r .units) (r .held)) ih
+          ∙ sym
+          (ap₂ yields
+          (first-within z zp k (λ (i : ℕ). j ≤? i) u us a (omega (arith, s)) (omega arith) ∙ ap (λ (t : Bool). cond t (u ∷ []) [] ++ ends (a + length u) us) (not-lost a h))
+          (held-past z j a m u us g))
+
+      part : m < length u → (n ≡ 0) ⊎ (length (u ++ joined us) ≤ m)
+          → yield (walk longest (take m (u ++ joined us) ++ filler n)) ≡ yields (ends a (u ∷ us)) (held a m (u ∷ us))
+      part g (inr q) = absurd (omega (arith, length-append u (joined us)))
+      part g (inl q) =
+          ap₂ (λ (xs : List ℕ) (i : ℕ). yield (walk longest (xs ++ filler i))) (take-append-le m u (joined us) (omega arith)) q
+          ∙ ap (λ (xs : List ℕ). yield (walk longest xs)) (append-nil (take m u))
+          ∙ walk-part longest u (w .0) m g
+          ∙ sym
+          (ap₂ yields
+          (first-after z zp k (λ (i : ℕ). j ≤? i) u us a (wholes-filled longest us (w .1)) (omega arith))
+          (held-here z j a m u us g ∙ ap (λ (t : Bool). cond t (take m u) []) (not-lost a h)))
+
+  -- ---- the frame's zone, from octet o of the units on
+
+  abbrev zoneFrom : ℕ → List (List ℕ) → List ℕ
+  zoneFrom o us = take z (drop o (joined us)) ++ filler (z - length (take z (drop o (joined us))))
+
+  -- Fill stands only behind the last unit.
+  fill-last : (xs : List ℕ) → (z - length (take z xs) ≡ 0) ⊎ (length xs ≤ z)
+  fill-last xs = split z (length xs) (λ h. inl (let e = length-take-le z xs h in omega (arith, e))) (λ h. inr (omega arith))
+
+  inside-at : (n : ℕ) → n < z → inside z n ≡ At n
+  unfolding inside
+  inside-at n h = rw (lt-ltb _ _ h)
+
+  inside-not : (n : ℕ) → z ≤ n → inside z n ≡ Nowhere
+  unfolding inside
+  inside-not n h = rw (le-ltb _ _ h)
+
+  -- The packet that stands at octet o is u, which begins at octet a of the batch.
+  module _ (one : 1 ≤ longest) (u : List ℕ) (us : List (List ℕ)) (a o : ℕ) (w : Wholes longest (u ∷ us)) (e : a + o ≡ k * z) where
+    abbrev Says : List ℕ → Place → List ℕ → Type 0
+    Says h p zs = yield (packetLane longest h p zs) ≡ yields (ends a (u ∷ us)) (held a (o + z) (u ∷ us))
+
+    -- It begins with the frame.
+    starts : o ≡ 0 → Says [] (inside z 0) (zoneFrom 0 (u ∷ us))
+    unfolding packetLane lead leadFate both joined
+    starts q =
+        ap (λ (p : Place). yield (packetLane longest [] p (zoneFrom 0 (u ∷ us)))) (inside-at 0 zp)
+        ∙ walk-due (u ∷ us) a z (z - length (take z (u ++ joined us))) one w (omega arith) (omega arith) (fill-last (u ++ joined us))
+        ∙ ap (λ (i : ℕ). yields (ends a (u ∷ us)) (held a i (u ∷ us))) (sym (ap (λ (i : ℕ). i + z) q ∙ zero-add z))
+
+    -- It began in a frame before.
+    module _ (op : 0 < o) (ol : o < length u) where
+      abbrev left : ℕ
+      left = length u - o
+
+      left-length : length (drop o u) ≡ left
+      left-length = length-drop o u
+
+      some-held : 0 < length (take o u)
+      some-held = rw (length-take-le o u (omega arith)) op
+
+      -- What is left of it, or the whole of it where nothing was lost.
+      lead-ends : (on t : Bool) → yield (lead longest on (cond t (take o u) []) (drop o u)) ≡ yields (cond t (u ∷ []) []) []
+      lead-ends on true =
+          ap yield
+          (lead-joined longest on (take o u) (drop o u) u some-held (rw left-length (omega arith)) (take-append-drop o u)
+          ∙ ap (λ (f : Fate). become f u) (fate-ends longest u (w .0) on))
+      lead-ends on false = lead-none longest on (drop o u)
+
+      lead-goes : z < left → (t : Bool) → yield (lead longest true (cond t (take o u) []) (take z (drop o u))) ≡ yields [] (cond t (take (o + z) u) [])
+      lead-goes h true =
+          let l : length (take z (drop o u)) ≡ z = length-take-le z (drop o u) (rw left-length (omega arith)) in
+          let m : length (take (o + z) u) ≡ o + z = length-take-le (o + z) u (omega arith) in
+          ap yield
+          (lead-joined longest true (take o u) (take z (drop o u)) (take (o + z) u) some-held (rw l zp) (sym (take-add o z u))
+          ∙ ap (λ (n : ℕ). become (joinedFate longest true (measure (take (o + z) u)) n) (take (o + z) u)) m
+          ∙ ap (λ (f : Fate). become f (take (o + z) u)) (fate-goes longest u (w .0) (o + z) (omega arith)))
+      lead-goes h false = lead-none longest true (take z (drop o u))
+
+      abbrev live : Bool
+      live = j ≤? (a / z)
+
+      octets-from : drop o (joined (u ∷ us)) ≡ drop o u ++ joined us
+      unfolding joined
+      octets-from = drop-append-le o u (joined us) (omega arith)
+
+      abbrev behind : ℕ
+      behind = z - length (take z (drop o (joined (u ∷ us))))
+
+      -- It goes on after this frame.
+      goes : z < left → Says (cond live (take o u) []) (inside z left) (zoneFrom o (u ∷ us))
+      unfolding packetLane
+      goes h =
+          let x : take z (drop o (joined (u ∷ us))) ≡ take z (drop o u) = ap (take z) octets-from ∙ take-append-le z (drop o u) (joined us) (rw left-length (omega arith)) in
+          let l : length (take z (drop o u)) ≡ z = length-take-le z (drop o u) (rw left-length (omega arith)) in
+          let f : take z (drop o (joined (u ∷ us))) ++ filler behind ≡ take z (drop o u) = ap (λ (ys : List ℕ). ys ++ filler (z - length ys)) x ∙ ap (λ (n : ℕ). take z (drop o u) ++ filler (z - n)) l ∙ ap (λ (n : ℕ). take z (drop o u) ++ filler n) (sub-self z) ∙ append-nil (take z (drop o u)) in
+          ap₂ (λ (p : Place) (zs : List ℕ). yield (packetLane longest (cond live (take o u) []) p zs)) (inside-not left (omega arith)) f
+          ∙ lead-goes h live
+          ∙ sym
+          (ap₂ yields
+          (first-after z zp k (λ (i : ℕ). j ≤? i) u us a (wholes-filled longest us (w .1)) (omega arith))
+          (held-here z j a (o + z) u us (omega arith)))
+
+      -- It ends in this frame.
+      zone-ends : left ≤ z → zoneFrom o (u ∷ us) ≡ drop o u ++ (take (z - left) (joined us) ++ filler behind)
+      zone-ends h =
+          ap (λ (ys : List ℕ). ys ++ filler behind)
+          (ap (take z) octets-from ∙ take-over z (drop o u) (joined us) (rw left-length h) ∙ ap (λ (n : ℕ). drop o u ++ take (z - n) (joined us)) left-length)
+          ∙ append-assoc (drop o u) (take (z - left) (joined us)) (filler behind)
+
+      fill-fits : left ≤ z → (behind ≡ 0) ⊎ (length (joined us) ≤ z - left)
+      fill-fits h = by (fill-last (drop o (joined (u ∷ us))))
+        where
+          by : (behind ≡ 0) ⊎ (length (drop o (joined (u ∷ us))) ≤ z) → (behind ≡ 0) ⊎ (length (joined us) ≤ z - left)
+          by (inl q) = inl q
+          by (inr q) = inr (omega (arith, ap length octets-from, length-append (drop o u) (joined us), left-length))
+
+      rest-due : left ≤ z
+          → yield (walk longest (take (z - left) (joined us) ++ filler behind)) ≡ yields (ends (a + length u) us) (held (a + length u) (o + z - length u) us)
+      rest-due h =
+          let n : z - left ≡ o + z - length u = omega arith in
+          walk-due us (a + length u) (z - left) behind one (w .1) (omega arith) (omega arith) (fill-fits h)
+          ∙ ap (λ (i : ℕ). yields (ends (a + length u) us) (held (a + length u) i us)) n
+
+      all-due : left ≤ z
+          → yields (cond live (u ∷ []) [] ++ ends (a + length u) us) (held (a + length u) (o + z - length u) us)
+          ≡ yields (ends a (u ∷ us)) (held a (o + z) (u ∷ us))
+      all-due h =
+          sym (ap₂ yields (first-within z zp k (λ (i : ℕ). j ≤? i) u us a (omega arith) (omega arith)) (held-past z j a (o + z) u us (omega arith)))
+
+      both-yield : (x y : Made) → yield (both x y) ≡ yields (x .units ++ y .units) (y .held)
+      unfolding both
+      both-yield x y = refl
+
+      -- Before the frame's end.
+      before-end : left < z → Says (cond live (take o u) []) (inside z left) (zoneFrom o (u ∷ us))
+      unfolding packetLane
+      before-end h =
+          let rest : List ℕ = take (z - left) (joined us) ++ filler behind in
+          let g : left ≤ z = omega arith in
+          ap₂ (λ (p : Place) (zs : List ℕ). yield (packetLane longest (cond live (take o u) []) p zs)) (inside-at left h) (zone-ends g)
+          ∙ ap₂ (λ (xs ys : List ℕ). yield (both (lead longest false (cond live (take o u) []) xs) (walk longest ys)))
+          (take-at (drop o u) rest left left-length) (drop-at (drop o u) rest left left-length)
+          ∙ both-yield (lead longest false (cond live (take o u) []) (drop o u)) (walk longest rest)
+          ∙ ap₂ (λ (x y : Yield). yields (x .units ++ y .units) (y .held)) (lead-ends false live) (rest-due g)
+          ∙ all-due g
+
+      -- With it.
+      at-end : left ≡ z → Says (cond live (take o u) []) (inside z left) (zoneFrom o (u ∷ us))
+      unfolding packetLane
+      at-end h =
+          let g : left ≤ z = omega arith in
+          let n : z - left ≡ 0 = omega arith in
+          let l : length (take z (drop o (joined (u ∷ us)))) ≡ z = length-take-le z (drop o (joined (u ∷ us))) (omega (arith, ap length octets-from, length-append (drop o u) (joined us), left-length)) in
+          let f : behind ≡ 0 = omega (arith, l) in
+          let none : take (z - left) (joined us) ++ filler behind ≡ [] = ap₂ (λ (i m : ℕ). take i (joined us) ++ filler m) n f in
+          let nil : yields [] [] ≡ yields (ends (a + length u) us) (held (a + length u) (o + z - length u) us) = sym (ap (λ (xs : List ℕ). yield (walk longest xs)) none ∙ walk-fill 0 one) ∙ rest-due g in
+          ap₂ (λ (p : Place) (zs : List ℕ). yield (packetLane longest (cond live (take o u) []) p zs)) (inside-not left (omega arith))
+          (zone-ends g ∙ ap (λ (ys : List ℕ). drop o u ++ ys) none ∙ append-nil (drop o u))
+          ∙ lead-ends true live
+          ∙ ap (λ (xs : List (List ℕ)). yields xs []) (sym (append-nil (cond live (u ∷ []) [])))
+          ∙ ap (λ (y : Yield). yields (cond live (u ∷ []) [] ++ y .units) (y .held)) nil
+          ∙ all-due g
+
+      began : Says (cond live (take o u) []) (inside z left) (zoneFrom o (u ∷ us))
+      began = split left z (λ h. split z left (λ g. at-end (le-antisymm h g)) before-end) goes
+
+  -- ---- any octet of the units
+
+  start-zero : (us : List (List ℕ)) → startFrom us 0 ≡ 0
+  unfolding startFrom
+  start-zero [] = refl
+  start-zero (u ∷ us) = refl
+
+  start-on : (u : List ℕ) (us : List (List ℕ)) (o : ℕ) → 0 < o → startFrom (u ∷ us) o ≡ length u + startFrom us (o - length u)
+  unfolding startFrom
+  start-on u us o h = rw (ne-eqb o 0 (λ e. omega arith))
+
+  pub packet-lane : 1 ≤ longest → (us : List (List ℕ)) (a o : ℕ) → Wholes longest us → a + o ≡ k * z → o < length (joined us)
+      → yield (packetLane longest (held a o us) (inside z (startFrom us o - o)) (zoneFrom o us)) ≡ yields (ends a us) (held a (o + z) us)
+  unfolding joined
+  packet-lane one [] a o w e l = absurd (not-suc-le-zero l)
+  packet-lane one (u ∷ us) a o w e l =
+      split (length u) o
+      (λ h. past h (packet-lane one us (a + length u) (o - length u) (w .1) (omega arith) (omega (arith, length-append u (joined us)))))
+      (λ h. here o e h)
+    where
+      past : length u ≤ o
+          → yield (packetLane longest (held (a + length u) (o - length u) us) (inside z (startFrom us (o - length u) - (o - length u))) (zoneFrom (o - length u) us))
+          ≡ yields (ends (a + length u) us) (held (a + length u) (o - length u + z) us)
+          → yield (packetLane longest (held a o (u ∷ us)) (inside z (startFrom (u ∷ us) o - o)) (zoneFrom o (u ∷ us))) ≡ yields (ends a (u ∷ us)) (held a (o + z) (u ∷ us))
+      past h ih =
+          let s = w .0 .some in
+          let p : startFrom (u ∷ us) o - o ≡ startFrom us (o - length u) - (o - length u) = omega (arith, start-on u us o (omega arith)) in
+          let d : drop o (u ++ joined us) ≡ drop (o - length u) (joined us) = ap (λ (i : ℕ). drop i (u ++ joined us)) (sym (add-sub-of-le h)) ∙ drop-append-add u (joined us) (o - length u) in
+          let n : o - length u + z ≡ o + z - length u = omega arith in
+          ap₂ (λ (x : List ℕ) (q : Place). yield (packetLane longest x q (zoneFrom o (u ∷ us)))) (held-past z j a o u us h) (ap (inside z) p)
+          ∙ ap (λ (xs : List ℕ). yield (packetLane longest (held (a + length u) (o - length u) us) (inside z (startFrom us (o - length u) - (o - length u))) (take z xs ++ filler (z - length (take z xs))))) d
+          ∙ ih
+          ∙ ap (λ (i : ℕ). yields (ends (a + length u) us) (held (a + length u) i us)) n
+          ∙ sym (ap₂ yields (first-before z zp k (λ (i : ℕ). j ≤? i) u us a s (omega arith)) (held-past z j a (o + z) u us (omega arith)))
+
+      here : (o : ℕ) → a + o ≡ k * z → o < length u
+          → yield (packetLane longest (held a o (u ∷ us)) (inside z (startFrom (u ∷ us) o - o)) (zoneFrom o (u ∷ us))) ≡ yields (ends a (u ∷ us)) (held a (o + z) (u ∷ us))
+      here zero e h =
+          ap₂ (λ (x : List ℕ) (n : ℕ). yield (packetLane longest x (inside z n) (zoneFrom 0 (u ∷ us))))
+          (held-here z j a 0 u us h ∙ either-none (j ≤? (a / z))) (ap (λ (n : ℕ). n - 0) (start-zero (u ∷ us)))
+          ∙ starts one u us a 0 w e refl
+      here (suc o) e h =
+          let p : startFrom (u ∷ us) (suc o) - suc o ≡ length u - suc o = ap (λ (n : ℕ). n - suc o) (start-on u us (suc o) (omega arith) ∙ ap (λ (n : ℕ). length u + startFrom us n) (sub-eq-zero-of-le (omega arith)) ∙ ap (λ (n : ℕ). length u + n) (start-zero us) ∙ add-zero (length u)) in
+          ap₂ (λ (x : List ℕ) (n : ℕ). yield (packetLane longest x (inside z n) (zoneFrom (suc o) (u ∷ us)))) (held-here z j a (suc o) u us h) p
+          ∙ began one u us a (suc o) w e (omega arith) h

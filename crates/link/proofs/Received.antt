@@ -1,0 +1,254 @@
+-- What one read does: refused octets leave everything, and a written frame takes its count, makes its lane step, and leaves the other
+-- lanes' octets where they are.
+use mathlib.Core.Path.{_≡_, refl, sym, ap, ap₂, _∙_, subst}
+use mathlib.Core.Logic.{_≢_}
+use Prim.Native.Nat.{ℕ, zero, suc, _+_, _-_, _*_, _≤_, _<_}
+use native.Mathlib.Nat.{not-suc-le-zero, le-of-suc-le-suc, suc-ne-zero}
+use native.Mathlib.Omega.{arith}
+use mathlib.Core.Bool.{Bool, true, false, cond, not}
+use mathlib.Core.List.{List, [], _∷_}
+use lib.ListN.{length, getD, take, drop, set, length-take, List·getD-eq-default}
+use lib.Seq.{take-take, getD-take, getD-set-same, getD-set-other}
+use borrow.Author.Tests.{leb-true, le-ltb, eq-eqb, ne-eqb}
+use Rattle.rules.specs.declared.Lane.{Lane}
+use Rattle.rules.specs.declared.Setting.{Setting}
+use Rattle.rules.specs.declared.Expect.{Expect}
+use Rattle.rules.specs.declared.Reader.{Reader}
+use Rattle.rules.specs.declared.Gap.{Gap}
+use Rattle.rules.specs.declared.Verdict.{Verdict}
+use Rattle.rules.specs.Tests.{_≤?_, _=?_, given}
+use Rattle.rules.specs.Areas.{laid, joined, part}
+use Rattle.rules.specs.Settings.{noLane, noExpect, channel, lane, channelOf, zone, readerOk}
+use Rattle.rules.specs.Frames.{ruleIn, pointerIn, zoneIn, pointsTo}
+use Rattle.rules.specs.Writing.{zoneOf, ruleOf, pointerOf}
+use Rattle.rules.specs.Reading.{missing, expected, emptied, lanesOf, gapBy, gap, Made, laneStep}
+use Rattle.rules.specs.Refusals.{refusals, judged, judge}
+use Rattle.rules.specs.Calls.{Got, areasShort, laidOut, madeBy, readOn, onVerdict, verdict, read}
+use Rattle.rules.proofs.Tests.{split, and-left, and-right}
+use Rattle.rules.proofs.Areas.{length-laid, laid-at, laid-before, laid-after}
+use Rattle.rules.proofs.Valid.{Good, GoodReader, good-reader, least}
+use Rattle.rules.proofs.Lanes.{lane-below}
+use Rattle.rules.proofs.Calls.{read-valid, read-fits}
+use Rattle.rules.proofs.Written.{FrameBack}
+use Rattle.link.specs.Link.{Lent, unitsBy, handed}
+use Rattle.link.specs.Due.{placeOf}
+use Rattle.link.specs.Demand.{enough}
+use Rattle.link.proofs.Records.{handed-laid}
+
+-- ---- octets that are refused
+
+module _ (r : Reader) (f h : List ℕ) (a : Lent) (no : given (refusals (r .setting) f) ≢ 0) where
+  pub record Untouched (o : Got) : Type 0 where
+    pub state : o .taken .state ≡ r
+    pub area : o .heldArea ≡ h
+    pub none : (l : ℕ) → handed l o ≡ []
+
+  refused : (n : ℕ) → Untouched (onVerdict (Verdict.Refused n) r f h (a .units) (a .records))
+  unfolding onVerdict handed unitsBy
+  refused n = record { state = refl; area = refl; none = λ l. refl }
+
+  pub stray : Untouched (read r f h (a .units) (a .records))
+  unfolding read verdict judge judged
+  stray = go (readerOk r) (areasShort h (a .units) (a .records)) (given (refusals (r .setting) f)) no
+    where
+      go : (p q : Bool) (n : ℕ) → n ≢ 0
+          → Untouched (onVerdict (cond (not p) (Verdict.Refused 1) (cond q (Verdict.Refused 2) (judged (r .setting) f n))) r f h (a .units) (a .records))
+      go false q n e = refused 1
+      go true true n e = refused 2
+      go true false zero e = absurd (e refl)
+      go true false (suc n) e = refused (suc n)
+
+-- ---- the reader's state by its parts
+
+abbrev pub reader : Setting → List Expect → List ℕ → Reader
+reader s es hs = record { setting = s; expects = es; held = hs }
+
+-- What lane l holds: the first octets of its part of the held area.
+abbrev pub holds : List ℕ → List ℕ → ℕ → List ℕ
+holds hs h l = take (getD hs l 0) (part l h)
+
+-- How many octets each lane holds once m frames of channel c were missed.
+unfoldable pub left : Setting → ℕ → ℕ → List ℕ → List ℕ
+left s c m hs = cond (m =? 0) hs (emptied (λ (l : Lane). l .channel =? c) (lanesOf s) hs)
+
+length-emptied : (p : Lane → Bool) (ls : List Lane) (hs : List ℕ) → length (emptied p ls hs) ≡ length hs
+unfolding emptied
+length-emptied p [] hs = refl
+length-emptied p (x ∷ ls) [] = refl
+length-emptied p (x ∷ ls) (y ∷ hs) = ap suc (length-emptied p ls hs)
+
+pub length-left : (s : Setting) (c m : ℕ) (hs : List ℕ) → length (left s c m hs) ≡ length hs
+unfolding left
+length-left s c m hs = go (m =? 0)
+  where
+    go : (t : Bool) → length (cond t hs (emptied (λ (l : Lane). l .channel =? c) (lanesOf s) hs)) ≡ length hs
+    go true = refl
+    go false = length-emptied (λ (l : Lane). l .channel =? c) (lanesOf s) hs
+
+emptied-at : (p : Lane → Bool) (ls : List Lane) (hs : List ℕ) (l : ℕ) → l < length ls
+    → getD (emptied p ls hs) l 0 ≡ cond (p (getD ls l noLane)) 0 (getD hs l 0)
+unfolding emptied
+emptied-at p [] hs l h = absurd (not-suc-le-zero h)
+emptied-at p (x ∷ ls) [] l h = sym (zero-either (p (getD (x ∷ ls) l noLane)))
+  where
+    zero-either : (t : Bool) → _≡_ {A = ℕ} (cond t 0 0) 0
+    zero-either true = refl
+    zero-either false = refl
+emptied-at p (x ∷ ls) (y ∷ hs) zero h = refl
+emptied-at p (x ∷ ls) (y ∷ hs) (suc l) h = emptied-at p ls hs l (le-of-suc-le-suc h)
+
+module _ (s : Setting) (g : Good s) (l : ℕ) (lh : l < s .numbered) where
+  -- A numbered lane has a slot: one of zeros would have no longest unit.
+  slot : l < length (s .lanes)
+  slot = split (length (s .lanes)) l (λ h. absurd (bad (List·getD-eq-default (s .lanes) noLane h) (g .lanes l lh .kind .enough))) (λ h. h)
+    where
+      bad : lane s l ≡ noLane → least ((lane s l) .kind) ≤ (lane s l) .longest → ⊥
+      bad e h = omega (arith, subst (λ (x : Lane). least (x .kind) ≤ x .longest) e h)
+
+  -- Of another channel, a gap drops nothing; of this one, all.
+  pub left-at : (c m : ℕ) (hs : List ℕ) → getD (left s c m hs) l 0 ≡ cond (m =? 0) (getD hs l 0) (cond (placeOf s l =? c) 0 (getD hs l 0))
+  unfolding left
+  left-at c m hs = go (m =? 0)
+    where
+      n : l < length (lanesOf s)
+      n = omega (arith, length-take (s .numbered) (s .lanes), slot)
+
+      go : (t : Bool) → getD (cond t hs (emptied (λ (x : Lane). x .channel =? c) (lanesOf s) hs)) l 0 ≡ cond t (getD hs l 0) (cond (placeOf s l =? c) 0 (getD hs l 0))
+      go true = refl
+      go false =
+          emptied-at (λ (x : Lane). x .channel =? c) (lanesOf s) hs l n
+          ∙ ap (λ (x : Lane). cond (x .channel =? c) 0 (getD hs l 0)) (getD-take (s .numbered) (s .lanes) l noLane lh)
+
+  pub holds-other : (c m : ℕ) (hs h : List ℕ) → (placeOf s l ≡ c → ⊥) → holds (left s c m hs) h l ≡ holds hs h l
+  holds-other c m hs h e = ap (λ (n : ℕ). take n (part l h)) (left-at c m hs ∙ go (m =? 0))
+    where
+      go : (t : Bool) → cond t (getD hs l 0) (cond (placeOf s l =? c) 0 (getD hs l 0)) ≡ getD hs l 0
+      go true = refl
+      go false = rw (ne-eqb (placeOf s l) c e)
+
+  pub holds-gap : (m : ℕ) (hs h : List ℕ) → holds (left s (placeOf s l) m hs) h l ≡ cond (m =? 0) (holds hs h l) []
+  holds-gap m hs h = ap (λ (n : ℕ). take n (part l h)) (left-at (placeOf s l) m hs) ∙ go (m =? 0)
+    where
+      go : (t : Bool) → take (cond t (getD hs l 0) (cond (placeOf s l =? placeOf s l) 0 (getD hs l 0))) (part l h) ≡ cond t (holds hs h l) []
+      go true = refl
+      go false = rw (eq-eqb (placeOf s l) (placeOf s l) refl)
+
+-- ---- octets laid into a lane's part of the held area
+
+module _ (hs h xs : List ℕ) (i : ℕ) (ih : i < 8) (slots : length hs ≡ 8) (area : length h ≡ 65536) (small : length xs ≤ 8192) where
+  room : 8192 * i + length xs ≤ length h
+  room = omega arith
+
+  pub stored-length : length (laid h (8192 * i) xs) ≡ 65536
+  stored-length = length-laid h (8192 * i) xs room ∙ area
+
+  pub stored-here : holds (set hs i (length xs)) (laid h (8192 * i) xs) i ≡ xs
+  stored-here =
+      ap (λ (n : ℕ). take n (part i (laid h (8192 * i) xs))) (getD-set-same hs i (length xs) 0 (omega arith))
+      ∙ take-take (length xs) 8192 (drop (8192 * i) (laid h (8192 * i) xs)) small ∙ laid-at h (8192 * i) xs room
+
+  pub stored-other : (l : ℕ) → (l ≡ i → ⊥) → holds (set hs i (length xs)) (laid h (8192 * i) xs) l ≡ holds hs h l
+  stored-other l e =
+      ap₂ (λ (n : ℕ) (y : List ℕ). take n y) (getD-set-other hs i l (length xs) 0 e)
+      (split i l
+      (λ q. ap (take 8192) (laid-after h (8192 * i) xs room (8192 * l) (omega arith)))
+      (λ q. laid-before h (8192 * i) xs room (8192 * l) 8192 (omega arith)))
+
+-- ---- a frame that is read
+
+enough-areas : (h : List ℕ) (a : Lent) → length h ≡ 65536 → enough a ≡ true → areasShort h (a .units) (a .records) ≡ false
+unfolding areasShort enough
+enough-areas h a e q =
+    let u : 12288 ≤ length (a .units) = leb-true _ _ (and-left _ _ q) in
+    let c : 9600 ≤ length (a .records) = leb-true _ _ (and-right (12288 ≤? length (a .units)) _ q) in
+    rw (eq-eqb (length h) 65536 e, le-ltb _ _ u, le-ltb _ _ c)
+
+-- What the lanes hold once the count v of a frame of lane i is taken.
+abbrev pub gapped : Setting → List Expect → List ℕ → ℕ → ℕ → List ℕ
+gapped s es hs i v = left s (placeOf s i) (missing ((channelOf s i) .octets) (getD es (placeOf s i) noExpect) v) hs
+
+-- What lane i makes of frame k of the batch b.
+unfoldable pub makes : Setting → List Expect → List ℕ → List ℕ → ℕ → ℕ → List ℕ → ℕ → Made
+makes s es hs h i v b k =
+    laneStep ((lane s i) .kind) ((lane s i) .longest) (ruleOf ((lane s i) .kind) k) (holds (gapped s es hs i v) h i)
+    (pointsTo (pointerOf ((lane s i) .kind) (zone s (channelOf s i)) b k)) (zoneOf ((lane s i) .kind) (zone s (channelOf s i)) b k)
+
+-- What a read of it gives.
+pub record Taken (s : Setting) (es : List Expect) (hs h : List ℕ) (i v : ℕ) (m : Made) (o : Got) : Type 0 where
+  pub state : o .taken .state
+      ≡ reader s (set es (placeOf s i) (expected ((channelOf s i) .octets) v)) (set (gapped s es hs i v) i (length (m .held)))
+  pub area : o .heldArea ≡ laid h (8192 * i) (m .held)
+  pub units : (l : ℕ) → handed l o ≡ cond (i =? l) (m .units) []
+  pub small : length (m .held) ≤ 8192
+
+module _ (s : Setting) (es : List Expect) (hs h : List ℕ) (a : Lent) (i v : ℕ) where
+  abbrev c : ℕ
+  c = placeOf s i
+
+  abbrev n : ℕ
+  n = (channelOf s i) .octets
+
+  abbrev after : List ℕ
+  after = gapped s es hs i v
+
+  abbrev made : List ℕ → ℕ → Made
+  made b k = makes s es hs h i v b k
+
+  gap-state : (gap (reader s es hs) c v) .state ≡ reader s (set es c (expected n v)) after
+  unfolding gap left
+  gap-state = go (missing n (getD es c noExpect) v)
+    where
+      go : (m : ℕ) → (gapBy (reader s (set es c (expected n v)) hs) c m) .state
+          ≡ reader s (set es c (expected n v)) (cond (m =? 0) hs (emptied (λ (l : Lane). l .channel =? c) (lanesOf s) hs))
+      go zero = unfold gapBy in refl
+      go (suc m) = unfold gapBy in rw (ne-eqb (suc m) 0 (suc-ne-zero m))
+
+  module _ (b ins oc : List ℕ) (k : ℕ) (f : List ℕ) (back : FrameBack s i v b ins oc k f) (ok : readerOk (reader s es hs) ≡ true)
+      (ih : i < s .numbered) (full : length h ≡ 65536) (lent : enough a ≡ true) where
+    abbrev g : Gap
+    g = gap (reader s es hs) c v
+
+    read-is : read (reader s es hs) f h (a .units) (a .records)
+        ≡ laidOut g i v (madeBy g i (channelOf s i) f h) h (a .units) (a .records)
+    unfolding read verdict onVerdict readOn
+    read-is =
+        rw (ok, enough-areas h a full lent, back .read)
+        (ap (λ (x : ℕ). laidOut (gap (reader s es hs) c x) i x (madeBy (gap (reader s es hs) c x) i (channelOf s i) f h) h (a .units) (a .records)) (back .count))
+
+    made-is : madeBy g i (channelOf s i) f h ≡ made b k
+    unfolding madeBy makes
+    made-is =
+        ap (λ (r : Reader).
+        laneStep ((lane (r .setting) i) .kind) ((lane (r .setting) i) .longest) (ruleIn (r .setting) (channelOf s i) f) (holds (r .held) h i)
+        (pointsTo (pointerIn (r .setting) (channelOf s i) f)) (zoneIn (r .setting) (channelOf s i) f)) gap-state
+        ∙ rw (back .rule, back .pointer, back .octets)
+
+    pub read-takes : Taken s es hs h i v (made b k) (read (reader s es hs) f h (a .units) (a .records))
+    unfolding laidOut
+    read-takes =
+        subst (Taken s es hs h i v (made b k)) (sym (read-is ∙ ap (λ (m : Made). laidOut g i v m h (a .units) (a .records)) made-is))
+        (record {
+          state = ap (λ (r : Reader). reader (r .setting) (r .expects) (set (r .held) i (length ((made b k) .held)))) gap-state;
+          area = refl;
+          units = λ l. handed-laid l g i v (made b k) h (a .units) (a .records) fits;
+          small = below;
+        })
+      where
+        gr : GoodReader (reader s es hs)
+        gr = good-reader (reader s es hs) ok
+
+        fits : length (joined ((made b k) .units)) ≤ 12288
+        fits =
+            subst (λ (o : Got). o .taken .answer .octets ≤ 12288)
+            (read-is ∙ ap (λ (m : Made). laidOut g i v m h (a .units) (a .records)) made-is)
+            (read-fits (reader s es hs) f h (a .units) (a .records) .octets)
+
+        below : length ((made b k) .held) ≤ 8192
+        below =
+            let q = gr .setting .lanes i ih .kind in
+            let p : length ((made b k) .held) < (lane s i) .longest = unfold makes in lane-below ((lane s i) .kind) ((lane s i) .longest) (ruleOf ((lane s i) .kind) k) (holds after h i) (pointsTo (pointerOf ((lane s i) .kind) (zone s (channelOf s i)) b k)) (zoneOf ((lane s i) .kind) (zone s (channelOf s i)) b k) (q .enough) in
+            omega (arith, p, q .most)
+
+    pub read-ready : readerOk (reader s (set es c (expected n v)) (set after i (length ((made b k) .held)))) ≡ true
+    read-ready =
+        subst (λ (r : Reader). readerOk r ≡ true) (read-takes .state) (read-valid (reader s es hs) f h (a .units) (a .records) ok)

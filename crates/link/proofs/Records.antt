@@ -1,0 +1,59 @@
+-- What a lane's units and records, laid into areas, read back by the records: the lane's units, and for another lane none.
+use mathlib.Core.Path.{_≡_, refl, sym, ap, ap₂, _∙_}
+use Prim.Native.Nat.{ℕ, _+_, _-_, _^_, _≤_, _<_}
+use native.Mathlib.Omega.{arith}
+use mathlib.Core.Bool.{Bool, true, false, cond}
+use mathlib.Core.List.{List, [], _∷_, _++_, append-assoc}
+use lib.ListN.{length, take, drop, length-append}
+use lib.Seq.{take-at, drop-at}
+use Rattle.rules.specs.declared.Info.{Info}
+use Rattle.rules.specs.declared.Gap.{Gap}
+use Rattle.rules.specs.Tests.{_=?_}
+use Rattle.rules.specs.Octets.{be}
+use Rattle.rules.specs.Areas.{laid, joined}
+use Rattle.rules.specs.Reading.{Made, recordOf, recordsFrom, infoOf}
+use Rattle.rules.specs.Calls.{laidOut}
+use Rattle.rules.proofs.Octets.{num-be-below}
+use Rattle.link.specs.Link.{unitBy, unitsBy, handed}
+
+-- A list where a test passes, and none where it does not, may be made piece by piece.
+pub pick-append {ℓ} : {A : Type ℓ} (t : Bool) (xs ys : List A) → cond t xs [] ++ cond t ys [] ≡ cond t (xs ++ ys) []
+pick-append true xs ys = refl
+pick-append false xs ys = refl
+
+pick-nil {ℓ} : {A : Type ℓ} (t : Bool) → _≡_ {A = List A} (cond t [] []) []
+pick-nil true = refl
+pick-nil false = refl
+
+module _ (i : Info) (l : ℕ) where
+  -- The record that stands first says where its unit is.
+  first-unit : (start : ℕ) (u pre post rest : List ℕ) → length pre ≡ start → start + length u < 256 ^ 4
+      → unitBy (recordOf i start (length u) ++ rest) (pre ++ (u ++ post)) ≡ u
+  unfolding unitBy recordOf be
+  first-unit start u pre post rest e h =
+      ap₂ (λ (n m : ℕ). take n (drop m (pre ++ (u ++ post)))) (num-be-below 4 (length u) (omega arith)) (num-be-below 4 start (omega arith))
+      ∙ ap (take (length u)) (drop-at pre (u ++ post) start e) ∙ take-at u post (length u) refl
+
+  by-records : (us : List (List ℕ)) (start : ℕ) (pre post rest : List ℕ) → length pre ≡ start → start + length (joined us) < 256 ^ 4
+      → unitsBy l (length us) (recordsFrom i start us ++ rest) (pre ++ (joined us ++ post)) ≡ cond (i .lane =? l) us []
+  unfolding unitsBy recordsFrom joined recordOf be
+  by-records [] start pre post rest e h = sym (pick-nil (i .lane =? l))
+  by-records (u ∷ us) start pre post rest e h =
+      let n : length (u ++ joined us) ≡ length u + length (joined us) = length-append u (joined us) in
+      let more : List ℕ = recordsFrom i (start + length u) us in
+      let a : (u ++ joined us) ++ post ≡ u ++ (joined us ++ post) = append-assoc u (joined us) post in
+      let b : pre ++ (u ++ (joined us ++ post)) ≡ (pre ++ u) ++ (joined us ++ post) = sym (append-assoc pre u (joined us ++ post)) in
+      ap₂ _++_
+      (ap₂ (λ (x y : List ℕ). cond (i .lane =? l) (unitBy x (pre ++ y) ∷ []) []) (append-assoc (recordOf i start (length u)) more rest) a
+      ∙ ap (λ (x : List ℕ). cond (i .lane =? l) (x ∷ []) []) (first-unit start u pre (joined us ++ post) (more ++ rest) e (omega (arith, n))))
+      (ap (λ (y : List ℕ). unitsBy l (length us) (more ++ rest) y) (ap (λ (y : List ℕ). pre ++ y) a ∙ b)
+      ∙ by-records us (start + length u) (pre ++ u) post rest (length-append pre u ∙ ap (λ (m : ℕ). m + length u) e) (omega (arith, n)))
+      ∙ pick-append (i .lane =? l) (u ∷ []) us
+
+-- What a read that lays a lane's units and records out hands out on lane l.
+pub handed-laid : (l : ℕ) (g : Gap) (ours count : ℕ) (m : Made) (h u c : List ℕ) → length (joined (m .units)) ≤ 12288
+    → handed l (laidOut g ours count m h u c) ≡ cond (ours =? l) (m .units) []
+unfolding handed laidOut laid infoOf
+handed-laid l g ours count m h u c b =
+    by-records (infoOf (g .state .setting) ours count) l (m .units) 0 [] (drop (0 + length (joined (m .units))) u)
+    (drop (0 + length (recordsFrom (infoOf (g .state .setting) ours count) 0 (m .units))) c) refl (omega arith)

@@ -1,0 +1,113 @@
+-- Demand 3. For a lane, what both ends know of it is its invariant; for a number that is no lane there is nothing to know.
+use mathlib.Core.Path.{_≡_, refl, sym, ap, _∙_, subst}
+use mathlib.Core.Logic.{_≢_}
+use Prim.Native.Nat.{ℕ, _*_, _^_, _<_}
+use native.Mathlib.Nat.{not-suc-le-zero, zero-add}
+use native.Mathlib.Omega.{arith}
+use mathlib.Core.Bool.{Bool, true, false, cond, false≢true}
+use mathlib.Core.List.{List, []}
+use lib.ListN.{length, getD, take, replicate, getD-replicate}
+use Rattle.rules.specs.declared.Setting.{Setting}
+use Rattle.rules.specs.declared.Expect.{Expect}
+use Rattle.rules.specs.declared.Reader.{Reader}
+use Rattle.rules.specs.declared.Writer.{Writer}
+use Rattle.rules.specs.declared.Listener.{Listener}
+use Rattle.rules.specs.declared.Sender.{Sender}
+use Rattle.rules.specs.declared.Outcome.the-variants.{Done, Refused}
+use Rattle.rules.specs.Areas.{part}
+use Rattle.rules.specs.Settings.{noExpect, channel, lane, channelOf, zone, settingOk, freshReader, freshWriter, noWriter}
+use Rattle.rules.specs.Writing.{unitsOf}
+use Rattle.rules.specs.Calls.{setUpReader, setUpWriter}
+use Rattle.rules.proofs.Tests.{split}
+use Rattle.rules.proofs.Octets.{pow256-pos}
+use Rattle.rules.proofs.Valid.{Good, good}
+use Rattle.rules.proofs.States.{fresh-reader}
+use Rattle.rules.proofs.Calls.{setup-accepted}
+use Rattle.link.specs.Link.{Call, Frame, frameBy, sent, arrivals, reads, handedOut}
+use Rattle.link.specs.Due.{placeOf, due}
+use Rattle.link.specs.Demand.{InOrder, allPass, keptOn, fewGone, Demand}
+use Rattle.link.proofs.Spans.{heldFrom, held-none}
+use Rattle.link.proofs.Views.{due-not, view}
+use Rattle.link.proofs.Run.{State, frame, Ready, Goes, run}
+use Rattle.link.proofs.Steps.{zone-some, Knows, channel-8, if-gone, none-other, if-kept}
+
+-- ---- fresh ends
+
+unfoldable fresh : List ℕ → State
+fresh h =
+    record {
+      counts = replicate 8 0;
+      next = replicate 8 0;
+      expects = replicate 8 noExpect;
+      held = replicate 8 0;
+      area = h;
+      last = λ (l : ℕ). [];
+      past = [];
+    }
+
+module _ (s : Setting) (ok : settingOk s ≡ true) (h : List ℕ) (full : length h ≡ 65536) where
+  fresh-ready : Ready s (fresh h)
+  unfolding fresh freshReader
+  fresh-ready =
+      record { counts-8 = refl; next-8 = refl; expects-8 = refl; held-8 = refl; full = full; valid = fresh-reader s ok }
+
+  fresh-knows : (l : ℕ) (lh : l < s .numbered) (fs : List Frame)
+      → fewGone (256 ^ (channelOf s l) .octets) false 0 (keptOn s (placeOf s l) fs) ≡ true → Knows s (good s ok) l lh (fresh h) fs
+  unfolding Knows fresh view
+  fresh-knows l lh fs few =
+      let n : _≡_ {A = ℕ} (getD (replicate 8 0) l 0) 0 = getD-replicate {A = ℕ} 8 l 0 0 (omega (arith, good s ok .numbered)) in
+      let e : getD (replicate 8 noExpect) (placeOf s l) noExpect ≡ noExpect = getD-replicate 8 (placeOf s l) noExpect noExpect (channel-8 s (good s ok) l lh) in
+      let z : 0 < zone s (channelOf s l) = zone-some s (good s ok) l lh in
+      record {
+        j = 0;
+        gone = 0;
+        any = false;
+        since = omega arith;
+        wholly = λ i b. absurd (not-suc-le-zero (rw n at b));
+        known = ap (λ (x : Expect). x .known) e;
+        below = rw e (pow256-pos ((channelOf s l) .octets));
+        count = λ a. absurd (false≢true a);
+        held = λ a. ap (λ (i : ℕ). take i (part l h)) n
+            ∙ sym (ap (λ (i : ℕ). heldFrom (zone s (channelOf s l)) 0 0 (i * zone s (channelOf s l)) (unitsOf ((lane s l) .kind) [])) n
+            ∙ held-none (zone s (channelOf s l)) z 0 0 _ (unitsOf ((lane s l) .kind) []) (zero-add _));
+        fresh = λ a. ap (λ (i : ℕ). take i (part l h)) n;
+        lost = λ b. absurd (b refl);
+        few = few;
+      }
+
+-- ---- demand 3
+
+writer-accepted : (s : Setting) → (setUpWriter s) .outcome ≡ Done → settingOk s ≡ true
+unfolding setUpWriter
+writer-accepted s e = go (settingOk s) e
+  where
+    go : (t : Bool) → (cond {A = Sender} t (record { outcome = Done; state = freshWriter s }) (record { outcome = Refused 1; state = noWriter })) .outcome ≡ Done → t ≡ true
+    go true q = refl
+    go false q = let z : _≡_ {A = ℕ} 0 1 = cc in absurd (omega arith)
+
+from-fresh : (s : Setting) (h : List ℕ) (xs : List Call) → settingOk s ≡ true → length h ≡ 65536 → InOrder (freshWriter s) (λ (l : ℕ). []) xs
+    → allPass s (sent (freshWriter s) xs) ≡ true
+    → ((c : ℕ) → c < s .listed → fewGone (256 ^ (channel s c) .octets) false 0 (keptOn s c (sent (freshWriter s) xs)) ≡ true) → (l : ℕ)
+    → handedOut l (reads (freshReader s) h (arrivals (sent (freshWriter s) xs))) ≡ due s l [] (sent (freshWriter s) xs)
+unfolding freshReader freshWriter fresh frameBy
+from-fresh s h xs ok full order pass near l =
+    let g : Good s = good s ok in
+    split (s .numbered) l
+    (λ b.
+    let n : (st : State) (x : Call) → Goes s st x → x .lane ≡ l → ⊥ = λ st x c e. omega (arith, c .takes .numbered) in
+    run s g l (λ (st : State) (fs : List Frame). Unit {0}) (λ st x rest r c q k. (due-not s l (frame s st x) (st .past) (n st x c), tt))
+    (λ st x rest r c small q k. (none-other s g l st x (n st x c), tt)) xs (fresh h) (fresh-ready s ok h full) order pass tt)
+    (λ b.
+    run s g l (Knows s g l b) (if-gone s g l b) (if-kept s g l b) xs (fresh h) (fresh-ready s ok h full) order pass
+    (fresh-knows s ok h full l b (sent (freshWriter s) xs) (near (placeOf s l) (g .lanes l b .channel))))
+
+pub demand : Demand
+demand s h xs d near l =
+    let ok : settingOk s ≡ true = writer-accepted s (d .writer) in
+    let r : (setUpReader s) .state ≡ freshReader s = ap (λ (o : Listener). o .state) (setup-accepted s ok .0) in
+    let w : (setUpWriter s) .state ≡ freshWriter s = ap (λ (o : Sender). o .state) (setup-accepted s ok .1) in
+    subst (λ (y : Writer). handedOut l (reads ((setUpReader s) .state) h (arrivals (sent y xs))) ≡ due s l [] (sent y xs)) (sym w)
+    (subst (λ (y : Reader). handedOut l (reads y h (arrivals (sent (freshWriter s) xs))) ≡ due s l [] (sent (freshWriter s) xs)) (sym r)
+    (from-fresh s h xs ok (d .area) (subst (λ (y : Writer). InOrder y (λ (l : ℕ). []) xs) w (d .calls))
+    (subst (λ (y : Writer). allPass s (sent y xs) ≡ true) w (d .link))
+    (λ c b. subst (λ (y : Writer). fewGone (256 ^ (channel s c) .octets) false 0 (keptOn s c (sent y xs)) ≡ true) w (near c b)) l))
