@@ -1,0 +1,92 @@
+-- A frame's count: what is missing, what lanes drop, and the state after it.
+use mathlib.Core.Path.{_≡_, refl, sym, ap, ap₂, _∙_}
+use Prim.Native.Nat.{ℕ, zero, suc, _+_, _-_, _*_, _%_, _^_, _≤_, _<_}
+use native.Mathlib.Nat.{zero-lt-suc, pow-le-pow-right, mod-eq-of-lt, le-antisymm, add-zero}
+use native.Mathlib.Numerals.{add-one}
+use native.Mathlib.Omega.{arith}
+use mathlib.Core.Bool.{Bool, true, false, cond}
+use mathlib.Core.List.{List, [], _∷_, _++_, append-nil}
+use lib.ListN.{length, getD, take, drop, set, length-set, drop-of-length-le, take-append-drop}
+use lib.Seq.{length-take-le, getD-take, drop-cons, take-suc, take-suc-set, drop-set-lt, append-snoc}
+use Rattle.rules.specs.declared.Lane.{Lane}
+use Rattle.rules.specs.declared.Setting.{Setting}
+use Rattle.rules.specs.declared.Expect.{Expect}
+use Rattle.rules.specs.declared.Reader.{Reader}
+use Rattle.rules.specs.declared.Gap.{Gap}
+use Rattle.rules.specs.Tests.{_=?_}
+use Rattle.rules.specs.Settings.{noLane, channel, lane, expect, heldBy, readerOk}
+use Rattle.rules.specs.Reading.{missing, expected, emptied, lost, lanesOf, gapBy, gap}
+use Rattle.rules.proofs.Octets.{pow256-pos}
+use Rattle.rules.proofs.Valid.{Good, GoodReader, good-reader}
+
+-- ---- counts of n octets
+
+pub modulus-is : (n m : ℕ) → n ≤ 7 → m ≡ 256 ^ n % 2 ^ 64 → m ≡ 256 ^ n
+modulus-is n m h e =
+    let s : 256 ^ n ≤ 256 ^ 7 = pow-le-pow-right (zero-lt-suc 255) h in
+    e ∙ mod-eq-of-lt (omega arith)
+
+pub modulus-small : (n : ℕ) → n ≤ 7 → 256 ^ n ≤ 2 ^ 56
+modulus-small n h = pow-le-pow-right (zero-lt-suc 255) h
+
+-- ---- a loop over the lanes
+
+pub lane-at : (s : Setting) (i : ℕ) → i < s .numbered → getD (lanesOf s) i noLane ≡ lane s i
+lane-at s i h = getD-take (s .numbered) (s .lanes) i noLane h
+
+pub lanes-long : (s : Setting) → s .numbered ≤ 8 → length (s .lanes) ≡ 8 → length (lanesOf s) ≡ s .numbered
+lanes-long s h e = length-take-le (s .numbered) (s .lanes) (omega arith)
+
+module _ (p : Lane → Bool) (ls : List Lane) where
+  -- The lanes below i have dropped theirs.
+  pub record Emptying (hs t : List ℕ) (i : ℕ) : Type 0 where
+    pub whole : emptied p ls hs ≡ take i t ++ emptied p (drop i ls) (drop i t)
+    pub long : length t ≡ length hs
+
+  pub emptying-none : (hs : List ℕ) → Emptying hs hs 0
+  emptying-none hs = record { whole = refl; long = refl }
+
+  one : (hs t : List ℕ) (i : ℕ) → i < length ls → i < length t → Emptying hs t i
+      → emptied p ls hs ≡ take i t ++ cond (p (getD ls i noLane)) 0 (getD t i 0) ∷ emptied p (drop (suc i) ls) (drop (suc i) t)
+  unfolding emptied
+  one hs t i h k w = w .whole ∙ ap₂ (λ (x : List Lane) (y : List ℕ). take i t ++ emptied p x y) (drop-cons ls i noLane h) (drop-cons t i 0 k)
+
+  pub emptying-drops : (hs t : List ℕ) (i : ℕ) → i < length ls → i < length t → p (getD ls i noLane) ≡ true → Emptying hs t i → Emptying hs (set t i 0) (i + 1)
+  emptying-drops hs t i h k e w =
+      record {
+        whole =
+            one hs t i h k w ∙ ap (λ (b : Bool). take i t ++ cond b 0 (getD t i 0) ∷ emptied p (drop (suc i) ls) (drop (suc i) t)) e
+            ∙ sym (append-snoc (take i t) 0 (emptied p (drop (suc i) ls) (drop (suc i) t)))
+            ∙ ap₂ (λ (x y : List ℕ). x ++ emptied p (drop (suc i) ls) y) (sym (take-suc-set t i 0 k)) (sym (drop-set-lt (suc i) t i 0 (omega arith)))
+            ∙ ap (λ (n : ℕ). take n (set t i 0) ++ emptied p (drop n ls) (drop n (set t i 0))) (sym (add-one i));
+        long = length-set t i 0 ∙ w .long
+      }
+
+  pub emptying-keeps : (hs t : List ℕ) (i : ℕ) → i < length ls → i < length t → p (getD ls i noLane) ≡ false → Emptying hs t i → Emptying hs t (i + 1)
+  emptying-keeps hs t i h k e w =
+      record {
+        whole =
+            one hs t i h k w ∙ ap (λ (b : Bool). take i t ++ cond b 0 (getD t i 0) ∷ emptied p (drop (suc i) ls) (drop (suc i) t)) e
+            ∙ sym (append-snoc (take i t) (getD t i 0) (emptied p (drop (suc i) ls) (drop (suc i) t)))
+            ∙ ap (λ (x : List ℕ). x ++ emptied p (drop (suc i) ls) (drop (suc i) t)) (sym (take-suc t i 0 k))
+            ∙ ap (λ (n : ℕ). take n t ++ emptied p (drop n ls) (drop n t)) (sym (add-one i));
+        long = w .long
+      }
+
+  pub emptying-all : (hs t : List ℕ) (i : ℕ) → length ls ≤ i → Emptying hs t i → t ≡ emptied p ls hs
+  unfolding emptied
+  emptying-all hs t i h w =
+      sym (w .whole ∙ ap (λ (x : List Lane). take i t ++ emptied p x (drop i t)) (drop-of-length-le ls h) ∙ take-append-drop i t)
+
+  -- What the lanes below i have dropped.
+  pub lost-one : (hs : List ℕ) (i n : ℕ) → i < length ls → i < length hs → lost p ls hs ≡ n + lost p (drop i ls) (drop i hs)
+      → lost p ls hs ≡ n + cond (p (getD ls i noLane)) (getD hs i 0) 0 + lost p (drop (i + 1) ls) (drop (i + 1) hs)
+  unfolding lost
+  lost-one hs i n h k w =
+      w ∙ ap₂ (λ (x : List Lane) (y : List ℕ). n + lost p x y) (drop-cons ls i noLane h) (drop-cons hs i 0 k)
+      ∙ sym (native.Mathlib.Nat.add-assoc n (cond (p (getD ls i noLane)) (getD hs i 0) 0) (lost p (drop (suc i) ls) (drop (suc i) hs)))
+      ∙ ap (λ (m : ℕ). n + cond (p (getD ls i noLane)) (getD hs i 0) 0 + lost p (drop m ls) (drop m hs)) (sym (add-one i))
+
+  pub lost-all : (hs : List ℕ) (i n : ℕ) → length ls ≤ i → lost p ls hs ≡ n + lost p (drop i ls) (drop i hs) → n ≡ lost p ls hs
+  unfolding lost
+  lost-all hs i n h w = sym (w ∙ ap (λ (x : List Lane). n + lost p x (drop i hs)) (drop-of-length-le ls h) ∙ add-zero n)

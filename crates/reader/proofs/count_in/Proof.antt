@@ -1,0 +1,34 @@
+use borrow.Author.Needs.{needs}
+use Rattle.reader.proofs.count_in.Statement.{statement}
+use Rattle.reader.proofs.count_in.Tie as tie
+use Rattle.reader.proofs.count_in.Reads as reads
+use Rattle.reader.proofs.count_in.Lts as lts
+use Rattle.octets.proofs.exact.Reads as exact-reads
+
+-- src/lib.rt:194:15
+add-end : tie.Need-add-end
+add-end c = search needs
+
+-- src/lib.rt:195:19
+sub-exact : tie.Need-sub-exact
+sub-exact c = search needs
+
+-- src/lib.rt:195:19
+part-exact-start : tie.Need-part-exact-start
+part-exact-start c = search needs
+
+-- src/lib.rt:195:19
+part-exact-end : tie.Need-part-exact-end
+part-exact-end c = search needs
+
+-- src/lib.rt:195:5
+exact-requires : tie.Need-exact-requires
+exact-requires c κs = search needs
+
+-- src/lib.rt:190:1
+returns : tie.Need-returns
+returns c = ?
+
+pub count-in-spec : {M : Type 1} → statement M
+count-in-spec =
+    tie.close (tie.spec add-end sub-exact part-exact-start part-exact-end exact-requires returns)
