@@ -249,9 +249,12 @@ part-stays {d = d} e h = record { handed = h; part = sym (ap (laid d 0) e ∙ la
 
 -- ---- held octets and those that follow them
 
-module _ (d : List ℕ) (h : ℕ) (x : List ℕ) (inside : h ≤ length d) where
+module _ {t : Tally} {u r d : List ℕ} {h : ℕ} {x : List ℕ} {m : Made} (ready : Ready t u r d h x m) where
+  pub held-length : length (take h d) ≡ h
+  held-length = length-take-le h d (ready .inside)
+
   pub follow-length : length (take h d ++ x) ≡ h + length x
-  follow-length = length-append (take h d) x ∙ ap (λ (n : ℕ). n + length x) (length-take-le h d inside)
+  follow-length = length-append (take h d) x ∙ ap (λ (n : ℕ). n + length x) held-length
 
   pub follow-laid : laid d h x ≡ laid d 0 (take h d ++ x)
   unfolding laid

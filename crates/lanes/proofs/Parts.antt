@@ -20,7 +20,7 @@ use Rattle.rules.proofs.Lanes.{lead-cases, total, lane-total, lane-below, lane-
 use Rattle.lanes.specs.declared.Tally.{Tally}
 use Rattle.lanes.specs.declared.Led.{Led}
 use Rattle.lanes.specs.Steps.{Room, Handed, Ready, Went, Lent, Stepped}
-use Rattle.lanes.proofs.Laws.{room-first, room-second, went-after}
+use Rattle.lanes.proofs.Laws.{room-first, room-second, went-after, held-length}
 
 -- ---- two parts
 
@@ -45,26 +45,21 @@ module _ {t : Tally} {u r d : List ℕ} {h : ℕ} {z : List ℕ} (a b : Made) (r
 
 -- ---- held octets and lead
 
-module _ (longest : ℕ) (d : List ℕ) (h : ℕ) (x : List ℕ) (inside : h ≤ length d) (fate : Fate) where
-  held-length : length (take h d) ≡ h
-  held-length = length-take-le h d inside
-
-  pub lead-is : (on : Bool) (m : Measure) → m ≡ measure (take h d ++ x) → fate ≡ leadFate longest on m h (length x)
+module _ {t : Tally} {u r d : List ℕ} {h : ℕ} {x : List ℕ} {m : Made} (ready : Ready t u r d h x m) (longest : ℕ) {fate : Fate} where
+  pub lead-is : (on : Bool) {k : Measure} → k ≡ measure (take h d ++ x) → fate ≡ leadFate longest on k h (length x)
       → lead longest on (take h d) x ≡ become fate (take h d ++ x)
   unfolding lead
-  lead-is on m e f =
-      ap (λ (k : Fate). become k (take h d ++ x))
-      (ap₂ (λ (k : Measure) (n : ℕ). leadFate longest on k n (length x)) (sym e) held-length ∙ sym f)
+  lead-is on e f = rw (f, e, held-length ready)
 
-  pub begin-is : (finished begins : Bool) → begins ≡ true → fate ≡ unitFate longest finished (length x)
+  pub begin-is : (finished : Bool) {begins : Bool} → begins ≡ true → fate ≡ unitFate longest finished (length x)
       → portion longest finished begins (take h d) x ≡ both (drops h) (become fate x)
   unfolding portion
-  begin-is finished begins e f = rw (e, held-length, f)
+  begin-is finished e f = rw (e, held-length ready, f)
 
-  pub follow-is : (finished begins : Bool) → begins ≡ false → fate ≡ followFate longest finished h (length x)
+  pub follow-is : (finished : Bool) {begins : Bool} → begins ≡ false → fate ≡ followFate longest finished h (length x)
       → portion longest finished begins (take h d) x ≡ become fate (take h d ++ x)
   unfolding portion
-  follow-is finished begins e f = rw (e, held-length, f)
+  follow-is finished e f = rw (e, held-length ready, f)
 
 -- A lead before a pointer is not held.
 pub lead-none : (longest : ℕ) (held xs : List ℕ) → (lead longest false held xs) .held ≡ []

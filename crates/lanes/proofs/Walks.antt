@@ -14,7 +14,7 @@ use Rattle.rules.specs.Reading.{Made, nothing, holds, drops, hands, idles, both
 use Rattle.rules.proofs.Lanes.{next-cases, walk-front}
 use Rattle.lanes.specs.declared.Tally.{Tally}
 use Rattle.lanes.specs.Steps.{Room, Handed, Begun}
-use Rattle.lanes.proofs.Laws.{hands-both, idles-both, room-first, begun-none, begun-on, begun-room}
+use Rattle.lanes.proofs.Laws.{hands-both, idles-both, room-first, begun-none, begun-is, begun-on, begun-room}
 
 -- The rest of a zone, as it is lent.
 pub rest-lent : (z : List ℕ) (at : ℕ) → take (length z - at) (drop at z) ≡ drop at z
@@ -26,12 +26,16 @@ unfolding walk walkUpTo
 walk-none longest [] h = refl
 walk-none longest (x ∷ xs) h = absurd (not-suc-le-zero h)
 
-pub ends : (longest : ℕ) (z : List ℕ) (at : ℕ) → length z ≤ at → walk longest (drop at z) ≡ nothing
-ends longest z at h = walk-none longest (drop at z) (rw length-drop (omega arith))
+-- ---- the invariant: what was handed out so far, and then a walk from octet `at` on, is the whole walk
 
--- ---- a turn, which passes a packet
+pub record Walking (longest : ℕ) (z : List ℕ) (from : ℕ) (i : Info) (t : Tally) (u r : List ℕ) (at : ℕ) (t₁ : Tally) (u₁ r₁ : List ℕ) : Type 0 where
+  pub inside : at ≤ length z
+  pub begun : Begun i t u r (walk longest (drop from z)) (walk longest (drop at z)) t₁ u₁ r₁
 
--- The n octets from octet `at` of a zone on, of which `made` is made.
+pub starts : {longest : ℕ} {z : List ℕ} {from : ℕ} {i : Info} {t : Tally} {u r : List ℕ} → from ≤ length z → Walking longest z from i t u r from t u r
+starts {longest} {z} {from} h = record { inside = h; begun = begun-none (walk longest (drop from z)) }
+
+-- A turn passes n octets, of which `made` is made.
 pub record Turn (longest : ℕ) (z : List ℕ) (at n : ℕ) (made : Made) : Type 0 where
   pub some : 1 ≤ n
   pub inside : n ≤ length z - at
@@ -44,63 +48,60 @@ Passed n (Skip k) = (1 ≤ k) × (k ≤ n)
 Passed n Keep = Unit {0}
 Passed n Lose = Unit {0}
 
-module _ (longest : ℕ) (z : List ℕ) (at : ℕ) (s : Next) (is : s ≡ nextOf longest (measure (take (length z - at) (drop at z))) (length (take (length z - at) (drop at z)))) where
-  next-is : s ≡ nextOf longest (measure (drop at z)) (length (drop at z))
-  next-is = rw (rest-lent z at) at is
-
-  here : walk longest (drop at z) ≡ front s (drop at z) (walk longest)
-  here = walk-front longest (drop at z) ∙ ap (λ (n : Next). front n (drop at z) (walk longest)) (sym next-is)
-
-  passed : Passed (length z - at) s
-  passed =
-      rw (next-is, ← length-drop at z)
-      (next-cases (Passed (length (drop at z))) longest (drop at z) (λ n a b c. (omega arith, b)) (λ n a b c. (a, b)) (λ h. tt) tt)
-
-  -- A packet is lent from where it starts to where it ends.
-  pub given : (n : ℕ) → s ≡ Give n → Turn longest z at n (hands (take (at + n - at) (drop at z)) nothing)
-  given n e =
-      let q : Passed (length z - at) (Give n) = rw e at passed in
-      let k : n ≡ at + n - at = omega arith in
-      record {
-        some = q .0;
-        inside = q .1;
-        split =
-            rw e at here ∙ hands-both (take n (drop at z)) (walk longest (drop n (drop at z)))
-            ∙ ap₂ (λ (i : ℕ) (xs : List ℕ). both (hands (take i (drop at z)) nothing) (walk longest xs)) k (drop-drop n at z);
-      }
-
-  pub skipped : (n : ℕ) → s ≡ Skip n → Turn longest z at n (idles n nothing)
-  skipped n e =
-      let q : Passed (length z - at) (Skip n) = rw e at passed in
-      record {
-        some = q .0;
-        inside = q .1;
-        split =
-            rw e at here ∙ idles-both n (walk longest (drop n (drop at z)))
-            ∙ ap (λ (xs : List ℕ). both (idles n nothing) (walk longest xs)) (drop-drop n at z);
-      }
-
-  -- One that ends the walk makes what its end says of all that is left.
-  pub kept : s ≡ Keep → walk longest (drop at z) ≡ holds (drop at z)
-  kept e = rw e at here
-
-  pub lost : s ≡ Lose → walk longest (drop at z) ≡ drops (length (drop at z))
-  lost e = rw e at here
-
--- ---- the invariant: what was handed out so far, and then a walk from octet `at` on, is the whole walk
-
-pub record Walking (longest : ℕ) (z : List ℕ) (from : ℕ) (i : Info) (t : Tally) (u r : List ℕ) (at : ℕ) (t₁ : Tally) (u₁ r₁ : List ℕ) : Type 0 where
-  pub inside : at ≤ length z
-  pub begun : Begun i t u r (walk longest (drop from z)) (walk longest (drop at z)) t₁ u₁ r₁
-
-pub walking-starts : {longest : ℕ} {z : List ℕ} {from : ℕ} {i : Info} {t : Tally} {u r : List ℕ} → from ≤ length z → Walking longest z from i t u r from t u r
-walking-starts {longest} {z} {from} h = record { inside = h; begun = begun-none (walk longest (drop from z)) }
-
 module _ {longest : ℕ} {z : List ℕ} {from : ℕ} {i : Info} {t : Tally} {u r : List ℕ} {at : ℕ} {t₁ : Tally} {u₁ r₁ : List ℕ}
-    (room : Room t u r (walk longest (drop from z))) (w : Walking longest z from i t u r at t₁ u₁ r₁) {n : ℕ} {a : Made} (turn : Turn longest z at n a) where
-  -- A turn has room, and keeps the invariant.
-  pub turn-room : Room t₁ u₁ r₁ a
-  turn-room = room-first a (walk longest (drop (at + n) z)) (rw (turn .split) at (begun-room room (w .begun)))
+    (w : Walking longest z from i t u r at t₁ u₁ r₁) where
+  -- At the zone's end nothing is left.
+  pub finished : length z ≤ at → Begun i t u r (walk longest (drop from z)) nothing t₁ u₁ r₁
+  finished h = begun-is (walk-none longest (drop at z) (rw length-drop (omega arith))) (w .begun)
 
-  pub turn-on : {t₂ : Tally} {u₂ r₂ : List ℕ} → Handed i t₁ u₁ r₁ a t₂ u₂ r₂ → Walking longest z from i t u r (at + n) t₂ u₂ r₂
-  turn-on next = record { inside = omega (arith, turn .inside, w .inside); begun = begun-on room (w .begun) (turn .split) next }
+  -- Else it goes by what becomes of the packet there.
+  module _ {s : Next} (is : s ≡ nextOf longest (measure (take (length z - at) (drop at z))) (length (take (length z - at) (drop at z)))) where
+    next-is : s ≡ nextOf longest (measure (drop at z)) (length (drop at z))
+    next-is = rw (rest-lent z at) at is
+
+    here : walk longest (drop at z) ≡ front s (drop at z) (walk longest)
+    here = walk-front longest (drop at z) ∙ ap (λ (n : Next). front n (drop at z) (walk longest)) (sym next-is)
+
+    passed : Passed (length z - at) s
+    passed =
+        rw (next-is, ← length-drop at z)
+        (next-cases (Passed (length (drop at z))) longest (drop at z) (λ n a b c. (omega arith, b)) (λ n a b c. (a, b)) (λ h. tt) tt)
+
+    -- A packet is lent from where it starts to where it ends.
+    pub given : {n : ℕ} → s ≡ Give n → Turn longest z at n (hands (take (at + n - at) (drop at z)) nothing)
+    given {n} e =
+        let q : Passed (length z - at) (Give n) = rw e at passed in
+        let k : n ≡ at + n - at = omega arith in
+        record {
+          some = q .0;
+          inside = q .1;
+          split =
+              rw e at here ∙ hands-both (take n (drop at z)) (walk longest (drop n (drop at z)))
+              ∙ ap₂ (λ (i : ℕ) (xs : List ℕ). both (hands (take i (drop at z)) nothing) (walk longest xs)) k (drop-drop n at z);
+        }
+
+    pub skipped : {n : ℕ} → s ≡ Skip n → Turn longest z at n (idles n nothing)
+    skipped {n} e =
+        let q : Passed (length z - at) (Skip n) = rw e at passed in
+        record {
+          some = q .0;
+          inside = q .1;
+          split =
+              rw e at here ∙ idles-both n (walk longest (drop n (drop at z)))
+              ∙ ap (λ (xs : List ℕ). both (idles n nothing) (walk longest xs)) (drop-drop n at z);
+        }
+
+    -- What is left is held, or dropped.
+    pub kept : s ≡ Keep → Begun i t u r (walk longest (drop from z)) (holds (drop at z)) t₁ u₁ r₁
+    kept e = begun-is (rw e at here) (w .begun)
+
+    pub lost : s ≡ Lose → Begun i t u r (walk longest (drop from z)) (drops (length (drop at z))) t₁ u₁ r₁
+    lost e = begun-is (rw e at here) (w .begun)
+
+  -- A turn has room, and keeps the invariant.
+  module _ (room : Room t u r (walk longest (drop from z))) {n : ℕ} {a : Made} (turn : Turn longest z at n a) where
+    pub turn-room : Room t₁ u₁ r₁ a
+    turn-room = room-first a (walk longest (drop (at + n) z)) (rw (turn .split) at (begun-room room (w .begun)))
+
+    pub turn-on : {t₂ : Tally} {u₂ r₂ : List ℕ} → Handed i t₁ u₁ r₁ a t₂ u₂ r₂ → Walking longest z from i t u r (at + n) t₂ u₂ r₂
+    turn-on next = record { inside = omega (arith, turn .inside, w .inside); begun = begun-on room (w .begun) (turn .split) next }

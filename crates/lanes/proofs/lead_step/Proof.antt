@@ -1,8 +1,8 @@
 -- The fate is the rule's, since held octets and lead are measured together, and settling does what it says.
 use mathlib.Core.Path.{sym}
 use native.Mathlib.Omega.{arith}
-use lib.Seq.{length-take-le}
 use borrow.Author.Needs.{needs}
+use Rattle.lanes.proofs.Laws.{held-length}
 use Rattle.lanes.proofs.Parts.{lead-is}
 use Rattle.lanes.proofs.lead_step.Statement.{statement}
 use Rattle.lanes.proofs.lead_step.Tie as tie
@@ -11,16 +11,16 @@ slice-reshare-prefix-measure-of : tie.Need-slice-reshare-prefix-measure-of
 slice-reshare-prefix-measure-of c = search needs
 
 slice-aggregate-measure-of : tie.Need-slice-aggregate-measure-of
-slice-aggregate-measure-of c = sym (length-take-le _ _ (c .before .before .before .before .before .pre .inside))
+slice-aggregate-measure-of c = sym (held-length (c .before .before .before .before .before .pre))
 
 measure-of-requires : tie.Need-measure-of-requires
-measure-of-requires c κs = omega (arith, length-take-le (c .before .before .before .before .before .args .h) (c .before .before .before .before .before .args .part .now) (c .before .before .before .before .before .pre .inside), c .before .before .before .before .before .pre .few)
+measure-of-requires c κs = omega (arith, held-length (c .before .before .before .before .before .pre), c .before .before .before .before .before .pre)
 
 lead-fate-requires : tie.Need-lead-fate-requires
 lead-fate-requires c κs = search needs
 
 settle-requires : tie.Need-settle-requires
-settle-requires c κs = rw (lead-is (c .before .before .before .before .before .before .before .before .before .before .args .longest) (c .before .before .before .before .before .before .before .before .before .before .args .part .now) (c .before .before .before .before .before .before .before .before .before .before .args .h) (c .before .before .before .before .before .before .before .before .before .before .args .next .now) (c .before .before .before .before .before .before .before .before .before .before .pre .inside) _ (c .before .before .before .before .before .before .before .before .before .before .args .on) _ (c .before .before .before .before .measure-of .ensures) (c .before .before .before .lead-fate .ensures)) at (c .before .before .before .before .before .before .before .before .before .before .pre)
+settle-requires c κs = rw (lead-is (c .before .before .before .before .before .before .before .before .before .before .pre) _ _ (c .before .before .before .before .measure-of .ensures) (c .before .before .before .lead-fate .ensures)) at (c .before .before .before .before .before .before .before .before .before .before .pre)
 
 same-length : tie.Need-same-length
 same-length c = search needs
@@ -32,7 +32,7 @@ same-length-3 : tie.Need-same-length-3
 same-length-3 c = search needs
 
 returns : tie.Need-returns
-returns c = rw (lead-is (c .before .before .before .before .before .before .before .before .before .before .before .before .before .before .before .before .before .args .longest) (c .before .before .before .before .before .before .before .before .before .before .before .before .before .before .before .before .before .args .part .now) (c .before .before .before .before .before .before .before .before .before .before .before .before .before .before .before .before .before .args .h) (c .before .before .before .before .before .before .before .before .before .before .before .before .before .before .before .before .before .args .next .now) (c .before .before .before .before .before .before .before .before .before .before .before .before .before .before .before .before .before .pre .inside) _ (c .before .before .before .before .before .before .before .before .before .before .before .before .before .before .before .before .before .args .on) _ (c .before .before .before .before .before .before .before .before .before .before .before .measure-of .ensures) (c .before .before .before .before .before .before .before .before .before .before .lead-fate .ensures)) (c .before .before .before .before .before .before .settle .ensures)
+returns c = rw (lead-is (c .before .before .before .before .before .before .before .before .before .before .before .before .before .before .before .before .before .pre) _ _ (c .before .before .before .before .before .before .before .before .before .before .before .measure-of .ensures) (c .before .before .before .before .before .before .before .before .before .before .lead-fate .ensures)) (c .before .before .before .before .before .before .settle .ensures)
 
 pub lead-step-spec : {M : Type 1} → statement M
 lead-step-spec =

@@ -1,13 +1,9 @@
 -- In each case the octets go where the rule puts them: out as one unit, into the count of idle or dropped ones, or behind the held ones,
 -- which stand at the front of the lane's part already.
 use mathlib.Core.Path.{refl, sym, _∙_}
-use mathlib.Core.List.{_++_}
-use Prim.Native.Nat.{_≤_}
 use native.Mathlib.Omega.{arith}
-use lib.ListN.{length, take}
-use lib.Seq.{length-take-le}
 use borrow.Author.Needs.{needs}
-use Rattle.lanes.proofs.Laws.{only-counted, part-stays, follow-length, follow-laid}
+use Rattle.lanes.proofs.Laws.{held-length, only-counted, part-stays, follow-length, follow-laid}
 use Rattle.lanes.proofs.settle.Statement.{statement}
 use Rattle.lanes.proofs.settle.Tie as tie
 
@@ -21,7 +17,7 @@ slice-reshare-prefix-hand-out : tie.Need-slice-reshare-prefix-hand-out
 slice-reshare-prefix-hand-out c = search needs
 
 slice-aggregate-hand-out : tie.Need-slice-aggregate-hand-out
-slice-aggregate-hand-out c = sym (length-take-le _ _ (c .before .before .before .before .before .before .before .pre .inside))
+slice-aggregate-hand-out c = sym (held-length (c .before .before .before .before .before .before .before .pre))
 
 hand-out-requires : tie.Need-hand-out-requires
 hand-out-requires c κs = rw (c .before .before .before .enum-told .given .1) at (c .before .before .before .before .before .before .before .before .before .pre .room)
@@ -45,31 +41,29 @@ add-s : tie.Need-add-s
 add-s c = search needs
 
 returns-2 : tie.Need-returns-2
-returns-2 c =
-    let n = follow-length (c .before .before .before .before .before .before .before .args .part .now) (c .before .before .before .before .before .before .before .args .h) (c .before .before .before .before .before .before .before .args .next .now) (c .before .before .before .before .before .before .before .pre .inside) in
+returns-2 c = 
+    let n = follow-length (c .before .before .before .before .before .before .before .pre) in
     rw (c .before .enum-told2 .given .1) (part-stays refl (only-counted refl refl refl (omega arith) (omega arith) (omega arith)))
 
 enum-told-3 : tie.Need-enum-told-3
 enum-told-3 c = search needs
 
 lay-requires : tie.Need-lay-requires
-lay-requires c κs =
-    let a = c .before .before .before .before .before .before .before .args in
-    let n = follow-length (a .part .now) (a .h) (a .next .now) (c .before .before .before .before .before .before .before .pre .inside) in
-    let q : length (take (a .h) (a .part .now) ++ a .next .now) ≤ length (a .part .now) = rw (c .before .enum-told3 .given .1) at (c .before .before .before .before .before .before .before .pre .held) in
+lay-requires c κs = 
+    let n = follow-length (c .before .before .before .before .before .before .before .pre) in
+    let held = rw (c .before .enum-told3 .given .1) at (c .before .before .before .before .before .before .before .pre .held) in
     omega arith
 
 same-length-4 : tie.Need-same-length-4
 same-length-4 c = search needs
 
 returns-3 : tie.Need-returns-3
-returns-3 c =
-    let a = c .before .before .before .before .before .before .before .before .before .before .args in
+returns-3 c = 
     rw (c .before .before .before .before .enum-told3 .given .1)
     (record {
       handed = only-counted refl refl refl (omega arith) (omega arith) (omega arith);
-      part = c .before .before .lay .ensures ∙ follow-laid (a .part .now) (a .h) (a .next .now) (c .before .before .before .before .before .before .before .before .before .before .pre .inside);
-      held = sym (follow-length (a .part .now) (a .h) (a .next .now) (c .before .before .before .before .before .before .before .before .before .before .pre .inside));
+      part = c .before .before .lay .ensures ∙ follow-laid (c .before .before .before .before .before .before .before .before .before .before .pre);
+      held = sym (follow-length (c .before .before .before .before .before .before .before .before .before .before .pre));
     })
 
 enum-told-4 : tie.Need-enum-told-4
@@ -79,8 +73,8 @@ add-s-2 : tie.Need-add-s-2
 add-s-2 c = search needs
 
 returns-4 : tie.Need-returns-4
-returns-4 c =
-    let n = follow-length (c .before .before .before .before .before .before .before .args .part .now) (c .before .before .before .before .before .before .before .args .h) (c .before .before .before .before .before .before .before .args .next .now) (c .before .before .before .before .before .before .before .pre .inside) in
+returns-4 c = 
+    let n = follow-length (c .before .before .before .before .before .before .before .pre) in
     rw (c .before .enum-told4 .given .1) (part-stays refl (only-counted refl refl refl (omega arith) (omega arith) (omega arith)))
 
 pub settle-spec : {M : Type 1} → statement M
