@@ -1,7 +1,8 @@
 -- A frame's count: what is missing, what lanes drop, and the state after it.
 use mathlib.Core.Path.{_≡_, refl, sym, ap, ap₂, _∙_}
 use Prim.Native.Nat.{ℕ, zero, suc, _+_, _-_, _*_, _%_, _^_, _≤_, _<_}
-use native.Mathlib.Nat.{zero-lt-suc, pow-le-pow-right, mod-eq-of-lt, le-antisymm, add-zero}
+use native.Mathlib.Nat.{zero-lt-suc, pow-le-pow-right, mod-eq-of-lt, add-zero, zero-add, add-assoc}
+use borrow.Author.Tests.{eq-eqb, ne-eqb}
 use native.Mathlib.Numerals.{add-one}
 use native.Mathlib.Omega.{arith}
 use mathlib.Core.Bool.{Bool, true, false, cond}
@@ -84,9 +85,63 @@ module _ (p : Lane → Bool) (ls : List Lane) where
   unfolding lost
   lost-one hs i n h k w =
       w ∙ ap₂ (λ (x : List Lane) (y : List ℕ). n + lost p x y) (drop-cons ls i noLane h) (drop-cons hs i 0 k)
-      ∙ sym (native.Mathlib.Nat.add-assoc n (cond (p (getD ls i noLane)) (getD hs i 0) 0) (lost p (drop (suc i) ls) (drop (suc i) hs)))
+      ∙ sym (add-assoc n (cond (p (getD ls i noLane)) (getD hs i 0) 0) (lost p (drop (suc i) ls) (drop (suc i) hs)))
       ∙ ap (λ (m : ℕ). n + cond (p (getD ls i noLane)) (getD hs i 0) 0 + lost p (drop m ls) (drop m hs)) (sym (add-one i))
 
   pub lost-all : (hs : List ℕ) (i n : ℕ) → length ls ≤ i → lost p ls hs ≡ n + lost p (drop i ls) (drop i hs) → n ≡ lost p ls hs
   unfolding lost
   lost-all hs i n h w = sym (w ∙ ap (λ (x : List Lane). n + lost p x (drop i hs)) (drop-of-length-le ls h) ∙ add-zero n)
+
+-- ---- the two loops over a setting's lanes
+
+-- Whether a lane is channel c's.
+abbrev pub its : ℕ → Lane → Bool
+its c l = l .channel =? c
+
+-- The lanes below i drop n octets.
+pub record Losing (s : Setting) (c : ℕ) (hs : List ℕ) (n i : ℕ) : Type 0 where
+  pub whole : lost (its c) (lanesOf s) hs ≡ n + lost (its c) (drop i (lanesOf s)) (drop i hs)
+  pub small : n ≤ 8192 * i
+
+pub losing-none : (s : Setting) (c : ℕ) (hs : List ℕ) → Losing s c hs 0 0
+losing-none s c hs = record { whole = sym (zero-add _); small = omega arith }
+
+module _ (s : Setting) (c : ℕ) (few : s .numbered ≤ 8) (slots : length (s .lanes) ≡ 8) where
+  below : (i : ℕ) → i < s .numbered → i < length (lanesOf s)
+  below i h = let e = lanes-long s few slots in omega arith
+
+  yes : (i : ℕ) → i < s .numbered → lane s i .channel ≡ c → its c (getD (lanesOf s) i noLane) ≡ true
+  yes i h e = rw (lane-at s i h) (eq-eqb _ _ e)
+
+  no : (i : ℕ) → i < s .numbered → (lane s i .channel ≡ c → ⊥) → its c (getD (lanesOf s) i noLane) ≡ false
+  no i h e = rw (lane-at s i h) (ne-eqb _ _ e)
+
+  pub drops : (hs t t′ : List ℕ) (i : ℕ) → length hs ≡ 8 → i < s .numbered → lane s i .channel ≡ c → t′ ≡ set t i 0
+      → Emptying (its c) (lanesOf s) hs t i → Emptying (its c) (lanesOf s) hs t′ (i + 1)
+  drops hs t t′ i k h e et w = let j = w .long in rw et (emptying-drops (its c) (lanesOf s) hs t i (below i h) (omega arith) (yes i h e) w)
+
+  pub keeps : (hs t t′ : List ℕ) (i : ℕ) → length hs ≡ 8 → i < s .numbered → (lane s i .channel ≡ c → ⊥) → t′ ≡ t
+      → Emptying (its c) (lanesOf s) hs t i → Emptying (its c) (lanesOf s) hs t′ (i + 1)
+  keeps hs t t′ i k h e et w = let j = w .long in rw et (emptying-keeps (its c) (lanesOf s) hs t i (below i h) (omega arith) (no i h e) w)
+
+  pub loses : (hs : List ℕ) (n n′ i : ℕ) → length hs ≡ 8 → i < s .numbered → getD hs i 0 ≤ 8192 → lane s i .channel ≡ c → n′ ≡ n + getD hs i 0
+      → Losing s c hs n i → Losing s c hs n′ (i + 1)
+  loses hs n n′ i k h b e en w =
+      record { whole = lost-one (its c) (lanesOf s) hs i n (below i h) (omega arith) (w .whole) ∙ rw (yes i h e, en); small = let j = w .small in omega arith }
+
+  pub spares : (hs : List ℕ) (n n′ i : ℕ) → length hs ≡ 8 → i < s .numbered → (lane s i .channel ≡ c → ⊥) → n′ ≡ n
+      → Losing s c hs n i → Losing s c hs n′ (i + 1)
+  spares hs n n′ i k h e en w =
+      record {
+        whole = lost-one (its c) (lanesOf s) hs i n (below i h) (omega arith) (w .whole) ∙ rw (no i h e, en, add-zero n);
+        small = let j = w .small in omega arith
+      }
+
+  over : (i : ℕ) → s .numbered ≤ i → length (lanesOf s) ≤ i
+  over i h = let e = lanes-long s few slots in omega arith
+
+  pub emptied-now : (hs t : List ℕ) (i : ℕ) → s .numbered ≤ i → Emptying (its c) (lanesOf s) hs t i → t ≡ emptied (its c) (lanesOf s) hs
+  emptied-now hs t i h w = emptying-all (its c) (lanesOf s) hs t i (over i h) w
+
+  pub lost-now : (hs : List ℕ) (n i : ℕ) → s .numbered ≤ i → Losing s c hs n i → n ≡ lost (its c) (lanesOf s) hs
+  lost-now hs n i h w = lost-all (its c) (lanesOf s) hs i n (over i h) (w .whole)

@@ -1,3 +1,9 @@
+use Prim.Native.Nat.{ℕ, _+_, _-_}
+use mathlib.Core.Path.{_≡_, ap, _∙_}
+use lib.ListN.{take, drop}
+use native.Mathlib.Omega.{arith}
+use Rattle.rules.specs.Octets.{num}
+use Rattle.rules.specs.Frames.{countIn}
 use borrow.Author.Needs.{needs}
 use Rattle.reader.proofs.count_in.Statement.{statement}
 use Rattle.reader.proofs.count_in.Tie as tie
@@ -27,7 +33,11 @@ exact-requires c κs = search needs
 
 -- src/lib.rt:190:1
 returns : tie.Need-returns
-returns c = ?
+unfolding countIn
+returns c = 
+    let a = c .before .before .before .before .args in
+    let e : 7 + a .c .octets - 7 ≡ a .c .octets = omega arith in
+    c .exact .ensures ∙ ap (λ (n : ℕ). num (take n (drop 7 (a .frame .now)))) e
 
 pub count-in-spec : {M : Type 1} → statement M
 count-in-spec =

@@ -1,49 +1,69 @@
+use lib.ListN.{length-map}
+use Prim.Native.Nat.{_-_, _<_}
+use lib.ListN.{length}
+use mathlib.Core.Path.{_≡_, sym, _∙_}
+use mathlib.Core.Logic.{⊎-elim}
+use native.Mathlib.Omega.{arith}
+use borrow.Author.Needs.{needs}
+use Rattle.rules.specs.Reading.{lanesOf}
+use Rattle.rules.specs.Tests.{_=?_}
+use Rattle.reader.proofs.Gaps.{Emptying, emptying-none, its, drops, keeps, emptied-now}
 use Rattle.reader.proofs.emptied_of.Statement.{statement}
 use Rattle.reader.proofs.emptied_of.Tie as tie
 use Rattle.reader.proofs.emptied_of.Reads as reads
 use Rattle.reader.proofs.emptied_of.Lts as lts
 
 abbrev Inv-loop : tie.InvT-loop
-Inv-loop c s n t₀ i₀ t i = ?
+Inv-loop c s n t₀ i₀ t i = Emptying (its c) (lanesOf s) t₀ t i
 
 abbrev μ-loop : tie.MeasureT-loop
-μ-loop c s n t₀ i₀ t i = ?
+μ-loop c s n t₀ i₀ t i = n - i
 
 -- src/lib.rt:218:5
 loop-holds : tie.Need-loop-holds Inv-loop μ-loop
-loop-holds c = ?
+loop-holds c = emptying-none _ _ _
 
 -- src/lib.rt:219:17
 mul-a : tie.Need-mul-a Inv-loop μ-loop
-mul-a c = ?
+mul-a c = search needs
 
 -- src/lib.rt:219:17
 element-copy-out-a : tie.Need-element-copy-out-a Inv-loop μ-loop
-element-copy-out-a c = ?
+element-copy-out-a c = search needs
 
 -- src/lib.rt:221:13
 mul-t : tie.Need-mul-t Inv-loop μ-loop
-mul-t c = ?
+mul-t c = search needs
 
 -- src/lib.rt:221:13
 array-write-t : tie.Need-array-write-t Inv-loop μ-loop
-array-write-t c = ?
+array-write-t c = search needs
 
 -- src/lib.rt:223:9
 add-i : tie.Need-add-i Inv-loop μ-loop
-add-i c = ?
+add-i c = search needs
 
 -- src/lib.rt:218:5
 loop-less : tie.Need-loop-less Inv-loop μ-loop
-loop-less c = ?
+loop-less c = search needs
 
 -- src/lib.rt:218:5
 loop-again : tie.Need-loop-again Inv-loop μ-loop
-loop-again c = ?
+loop-again c = 
+    let l = c .before .before .before .before in
+    let a = l .before in
+    let g : length (a .args .t1 .lanes) ≡ 8 = (simp length-map at (a .good .0 .1 .1 .1 .1 .1 .1 .1 .1 .1 .1 .0 .1 .0 .1)) in
+    let j : length (a .args .held) ≡ 8 = search needs in
+    let at = c .before .before .before .loop-test .taken in
+    ⊎-elim (λ w. drops (a .args .t1) (a .args .c) (a .pre) g _ _ _ _ j at (w .0 .taken) (w .1) (l .loop .inv))
+    (λ w. keeps (a .args .t1) (a .args .c) (a .pre) g _ _ _ _ j at (w .0 .left) (w .1) (l .loop .inv)) (c .if1 .came)
 
 -- src/lib.rt:211:1
 returns : tie.Need-returns Inv-loop μ-loop
-returns c = ?
+returns c = 
+    let a = c .before .before in
+    let g : length (a .args .t1 .lanes) ≡ 8 = (simp length-map at (a .good .0 .1 .1 .1 .1 .1 .1 .1 .1 .1 .1 .0 .1 .0 .1)) in
+    emptied-now (a .args .t1) (a .args .c) (a .pre) g _ _ _ (c .loop-test .left) (c .before .loop .inv)
 
 pub emptied-of-spec : {M : Type 1} → statement M
 emptied-of-spec =

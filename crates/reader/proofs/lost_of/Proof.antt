@@ -1,53 +1,77 @@
+use lib.ListN.{length-map}
+use Prim.Native.Nat.{_-_, _+_, _*_, _<_, _≤_}
+use lib.ListN.{length, drop}
+use mathlib.Core.Path.{_≡_, refl, sym, _∙_}
+use mathlib.Core.Logic.{⊎-elim}
+use native.Mathlib.Omega.{arith}
+use borrow.Author.Needs.{needs}
+use Rattle.rules.specs.Reading.{lanesOf, lost as gone}
+use Rattle.rules.specs.Tests.{_=?_}
+use Rattle.reader.proofs.Gaps.{Losing, losing-none, loses, spares, lost-now}
 use Rattle.reader.proofs.lost_of.Statement.{statement}
 use Rattle.reader.proofs.lost_of.Tie as tie
 use Rattle.reader.proofs.lost_of.Reads as reads
 use Rattle.reader.proofs.lost_of.Lts as lts
 
 abbrev Inv-loop : tie.InvT-loop
-Inv-loop c s held n lost₀ i₀ lost i = ?
+Inv-loop c s held n lost₀ i₀ lost i = Losing s c held lost i
 
 abbrev μ-loop : tie.MeasureT-loop
-μ-loop c s held n lost₀ i₀ lost i = ?
+μ-loop c s held n lost₀ i₀ lost i = n - i
 
 -- src/lib.rt:236:5
 loop-holds : tie.Need-loop-holds Inv-loop μ-loop
-loop-holds c = ?
+loop-holds c = losing-none _ _ _
 
 -- src/lib.rt:237:17
 mul-a : tie.Need-mul-a Inv-loop μ-loop
-mul-a c = ?
+mul-a c = search needs
 
 -- src/lib.rt:237:17
 element-copy-out-a : tie.Need-element-copy-out-a Inv-loop μ-loop
-element-copy-out-a c = ?
+element-copy-out-a c = search needs
 
 -- src/lib.rt:239:21
 mul-lost : tie.Need-mul-lost Inv-loop μ-loop
-mul-lost c = ?
+mul-lost c = search needs
 
 -- src/lib.rt:239:21
 array-read-lost : tie.Need-array-read-lost Inv-loop μ-loop
-array-read-lost c = ?
+array-read-lost c = search needs
 
 -- src/lib.rt:239:13
 add-lost : tie.Need-add-lost Inv-loop μ-loop
-add-lost c = ?
+add-lost c = 
+    let l = c .before .before .before .before in
+    let b = l .before .pre .1 (l .loop .i) (c .before .before .before .loop-test .taken) in
+    let k = l .loop .inv .small in
+    search needs
 
 -- src/lib.rt:241:9
 add-i : tie.Need-add-i Inv-loop μ-loop
-add-i c = ?
+add-i c = search needs
 
 -- src/lib.rt:236:5
 loop-less : tie.Need-loop-less Inv-loop μ-loop
-loop-less c = ?
+loop-less c = search needs
 
 -- src/lib.rt:236:5
 loop-again : tie.Need-loop-again Inv-loop μ-loop
-loop-again c = ?
+loop-again c = 
+    let l = c .before .before .before .before in
+    let a = l .before in
+    let g : length (a .args .t1 .lanes) ≡ 8 = (simp length-map at (a .good .0 .1 .1 .1 .1 .1 .1 .1 .1 .1 .1 .0 .1 .0 .1)) in
+    let j : length (a .args .t3) ≡ 8 = search needs in
+    let at = c .before .before .before .loop-test .taken in
+    ⊎-elim (λ w. loses (a .args .t1) (a .args .c) (a .pre .0) g _ _ _ _ j at (a .pre .1 _ at) (w .0 .taken) (w .1) (l .loop .inv))
+    (λ w. spares (a .args .t1) (a .args .c) (a .pre .0) g _ _ _ _ j at (w .0 .left) (w .1) (l .loop .inv)) (c .if1 .came)
 
 -- src/lib.rt:229:1
 returns : tie.Need-returns Inv-loop μ-loop
-returns c = ?
+returns c = 
+    let a = c .before .before in
+    let g : length (a .args .t1 .lanes) ≡ 8 = (simp length-map at (a .good .0 .1 .1 .1 .1 .1 .1 .1 .1 .1 .1 .0 .1 .0 .1)) in
+    lost-now (a .args .t1) (a .args .c) (a .pre .0) g _ _ _ (c .loop-test .left) (c .before .loop .inv)
 
 pub lost-of-spec : {M : Type 1} → statement M
 lost-of-spec =

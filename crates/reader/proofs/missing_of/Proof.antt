@@ -1,3 +1,10 @@
+use Prim.Native.Nat.{ℕ, _%_, _^_, _+_, _-_, _≤_}
+use mathlib.Core.Path.{_≡_, refl, sym, ap, ap₂, _∙_}
+use mathlib.Core.Bool.{cond, Bool}
+use native.Mathlib.Omega.{arith}
+use Rattle.rules.specs.Reading.{missing}
+use Rattle.rules.proofs.Octets.{pow256-pos}
+use Rattle.reader.proofs.Gaps.{modulus-is, modulus-small}
 use borrow.Author.Needs.{needs}
 use Rattle.reader.proofs.missing_of.Statement.{statement}
 use Rattle.reader.proofs.missing_of.Tie as tie
@@ -11,23 +18,41 @@ modulus-requires c κs = search needs
 
 -- src/lib.rt:205:17
 add-result : tie.Need-add-result
-add-result c = ?
+add-result c = 
+    let a = c .before .before in
+    let e = modulus-is (a .args .n) (c .modulus .result) (a .pre .0) (c .modulus .ensures) in
+    let h = modulus-small (a .args .n) (a .pre .0) in
+    let k = a .pre .2 in
+    omega arith
 
 -- src/lib.rt:205:17
 sub-result : tie.Need-sub-result
-sub-result c = ?
+sub-result c = 
+    let a = c .before .before .before in
+    let e = modulus-is (a .args .n) (c .before .modulus .result) (a .pre .0) (c .before .modulus .ensures) in
+    let k = a .pre .1 in
+    omega arith
 
 -- src/lib.rt:205:16
 rem-result : tie.Need-rem-result
-rem-result c = ?
+rem-result c = 
+    let a = c .before .before .before in
+    let e = modulus-is (a .args .n) (c .before .modulus .result) (a .pre .0) (c .before .modulus .ensures) in
+    let h = pow256-pos (a .args .n) in
+    omega arith
 
 -- src/lib.rt:205:9
 returns : tie.Need-returns
-returns c = ?
+unfolding missing
+returns c = 
+    let a = c .before .before .before in
+    ap (λ (m : ℕ). (a .args .k + m - a .args .e .count) % m) (modulus-is (a .args .n) (c .before .modulus .result) (a .pre .0) (c .before .modulus .ensures))
+    ∙ ap (λ (b : Bool). cond b ((a .args .k + 256 ^ (a .args .n) - a .args .e .count) % 256 ^ (a .args .n)) 0) (sym (c .before .before .if1 .taken))
 
 -- src/lib.rt:199:1
 returns-2 : tie.Need-returns-2
-returns-2 c = ?
+unfolding missing
+returns-2 c = ap (λ (b : Bool). cond b ((c .before .args .k + 256 ^ (c .before .args .n) - c .before .args .e .count) % 256 ^ (c .before .args .n)) 0) (sym (c .if1 .left))
 
 pub missing-of-spec : {M : Type 1} → statement M
 missing-of-spec =
