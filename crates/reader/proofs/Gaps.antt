@@ -145,3 +145,56 @@ module _ (s : Setting) (c : ℕ) (few : s .numbered ≤ 8) (slots : length (s .l
 
   pub lost-now : (hs : List ℕ) (n i : ℕ) → s .numbered ≤ i → Losing s c hs n i → n ≡ lost (its c) (lanesOf s) hs
   lost-now hs n i h w = lost-all (its c) (lanesOf s) hs i n (over i h) (w .whole)
+
+-- ---- a gap of a valid state
+
+pub record Takes (r : Reader) (c : ℕ) : Type 0 where
+  pub eight : c < 8
+  pub seven : channel (r .setting) c .octets ≤ 7
+  pub count : expect r c .count < 256 ^ channel (r .setting) c .octets
+  pub few : r .setting .numbered ≤ 8
+  pub held : (l : ℕ) → l < r .setting .numbered → heldBy r l ≤ 8192
+
+pub takes : (r : Reader) (c : ℕ) → readerOk r ≡ true → c < r .setting .listed → Takes r c
+takes r c ok h =
+    let g = good-reader r ok in
+    record {
+      eight = omega (arith, g .setting .listed);
+      seven = g .setting .channels c h .seven;
+      count = g .counts c h;
+      few = g .setting .numbered;
+      held = λ l k. omega (arith, g .held l k, g .setting .lanes l k .kind .most)
+    }
+
+module _ (r : Reader) (c k m : ℕ) (e : m ≡ 256 ^ channel (r .setting) c .octets) where
+  abbrev next : List Expect
+  next = set (r .expects) c (record { known = true; count = (k + 1) % m })
+
+  abbrev gone : ℕ
+  gone = missing (channel (r .setting) c .octets) (expect r c) k
+
+  pub gap-none : gone ≡ 0
+      → record { state = record { setting = r .setting; expects = next; held = r .held }; missing = 0; dropped = 0 } ≡ gap r c k
+  unfolding gap gapBy expected
+  gap-none h = rw (h, e)
+
+  pub gap-some : (gone ≡ 0 → ⊥)
+      → record {
+          state = record { setting = r .setting; expects = next; held = emptied (its c) (lanesOf (r .setting)) (r .held) };
+          missing = gone;
+          dropped = lost (its c) (lanesOf (r .setting)) (r .held)
+        } ≡ gap r c k
+  unfolding gap expected
+  gap-some h = rw e (by-cases gone h)
+    where
+      state : Reader
+      state = record { setting = r .setting; expects = set (r .expects) c (record { known = true; count = (k + 1) % 256 ^ channel (r .setting) c .octets }); held = r .held }
+
+      by-cases : (n : ℕ) → (n ≡ 0 → ⊥)
+          → record {
+              state = record { setting = r .setting; expects = state .expects; held = emptied (its c) (lanesOf (r .setting)) (r .held) };
+              missing = n;
+              dropped = lost (its c) (lanesOf (r .setting)) (r .held)
+            } ≡ gapBy state c n
+      by-cases zero q = absurd (q refl)
+      by-cases (suc n) q = unfold gapBy in refl
