@@ -140,10 +140,11 @@ impl Session {
                 let lent = Lent { lane: decimal(lane)?, batch: &batch, insert: &insert, ocf: &ocf };
                 Ok(self.write(&lent, decimal(area_length)? as usize))
             }
-            ["read", frame] => Ok(self.read(&unhex(frame)?, UNIT_AREA, RECORD_AREA, HELD_AREA)),
-            ["read", frame, units, records, held] => {
-                let (units, records, held) = (decimal(units)?, decimal(records)?, decimal(held)?);
-                Ok(self.read(&unhex(frame)?, units as usize, records as usize, held as usize))
+            ["read", frame, lengths @ ..] if lengths.len() <= 3 => {
+                let units = length_or(lengths.first(), UNIT_AREA)?;
+                let records = length_or(lengths.get(1), RECORD_AREA)?;
+                let held = length_or(lengths.get(2), HELD_AREA)?;
+                Ok(self.read(&unhex(frame)?, units, records, held))
             }
             ["count", channel, number] => {
                 put(&mut self.writer.counts, decimal(channel)?, decimal(number)?);
@@ -168,6 +169,11 @@ impl Session {
             _ => Err("a line of a script".to_string()),
         }
     }
+}
+
+/// An area's length, where the line says it.
+fn length_or(word: Option<&&str>, otherwise: usize) -> Result<usize, String> {
+    word.map_or(Ok(otherwise), |word| decimal(word).map(|length| length as usize))
 }
 
 /// Changes a listed slot; there are no others.

@@ -514,7 +514,7 @@ impl Script {
                     let length = self.random.pick(&[0, 1, 3, 4, 5]);
                     ocf = self.random.octets(length);
                 }
-                6 => area_length = self.random.pick(&[area_length - 1, 0, area_length]),
+                6 => area_length = self.random.pick(&[self.setting.frame_length - 1, 0, self.setting.frame_length]),
                 _ => {
                     let frames = batch.len().div_ceil(zone) as u64;
                     let next = self.random.pick(&[frames, frames + 1, frames.saturating_sub(1), 32_767]);

@@ -1,6 +1,9 @@
 //! Document 01's worked frames (cases 1 to 11), the published values of the frame check, and what must not change.
 
+use crate::calls;
+use crate::demand3;
 use crate::frame::frame_check;
+use crate::random;
 use crate::reader::{Answer, Areas, Class, Reader, HELD_AREA, HELD_PART, RECORD_AREA, UNIT_AREA};
 use crate::setting::{Channel, Kind, Lane, Setting};
 use crate::text::{setting_from_file, setting_to_lines, unhex};
@@ -318,4 +321,51 @@ fn settings_as_text() {
     assert!(setting_from_file(twice.as_bytes()).unwrap_err().contains("line 8"));
     assert!(setting_from_file(b"frame length 32\n").is_err());
     assert_eq!(setting_from_file(setting_to_lines(&access_setting(1)).as_bytes()), Ok(access_setting(1)));
+}
+
+fn printed(script: &str) -> String {
+    let mut out = Vec::new();
+    calls::run(script.as_bytes(), &mut out).unwrap();
+    String::from_utf8(out).unwrap()
+}
+
+#[test]
+fn a_script_of_calls() {
+    let script = format!(
+        "{}begin\ncheck 313233343536373839\nwrite 0 0001C0000003A1A2A3A4 - - 33\nnext 0 1\nwrite 0 0001C0000003A1A2A3A4 - - 32\n\
+         held 0 0001C0\nread C002A06A001F010000000700000BA1A2A3A4{}\nread - 12287\nread -\n",
+        setting_to_lines(&worked_setting()),
+        "E0".repeat(14),
+    );
+    let frame = "C002A06A001F01000000000001C0000003A1A2A3A4".to_string() + &"E0".repeat(11) + "55";
+    let wanted = format!(
+        "setting ok\n29B1\nframe {frame}\nrefused 16\n\
+         read units 0 octets 0 missing 0 idle 14 fill 0 dropped 10 held 0 expects 1\narea -\n\
+         refused 2 units 0 octets 0 missing 0 idle 0 fill 0 dropped 0 held 0 expects 1\narea -\n\
+         refused 3 units 0 octets 0 missing 0 idle 0 fill 0 dropped 0 held 0 expects 1\narea -\n"
+    );
+    assert_eq!(printed(&script), wanted);
+}
+
+#[test]
+fn a_refused_setting_leaves_states_of_zeros() {
+    let script = "frame length 31\nspacecraft 1\nsource\ninsert 0\ncheck no\nbegin\nread 00\nwrite 0 - - - 0\n";
+    let zeros = "units 0 octets 0 missing 0 idle 0 fill 0 dropped 0";
+    assert_eq!(
+        printed(script),
+        format!("setting refused 1\nrefused 1 {zeros} held - expects -\narea -\nrefused 1\n")
+    );
+}
+
+#[test]
+fn random_scripts_are_the_same_each_time_and_can_be_called() {
+    let script = random::script(7, 300);
+    assert_eq!(script, random::script(7, 300));
+    assert_ne!(script, random::script(8, 300));
+    assert!(printed(&script).lines().count() > 300);
+}
+
+#[test]
+fn demand_3_in_some_runs() {
+    assert!(demand3::runs(5, 30).unwrap().ends_with("ok"));
 }
