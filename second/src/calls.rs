@@ -38,9 +38,7 @@ impl Session {
         self.begun = true;
         let lines = std::mem::take(&mut self.lines);
         let setting = if self.bad_line { None } else { lines.finish().ok() };
-        let ends = setting.and_then(|setting| {
-            Some((Writer::fresh(&setting).ok()?, Reader::fresh(&setting).ok()?))
-        });
+        let ends = setting.and_then(|setting| Some((Writer::fresh(&setting).ok()?, Reader::fresh(&setting).ok()?)));
         match ends {
             Some((writer, reader)) => {
                 (self.writer, self.reader) = (writer, reader);

@@ -76,7 +76,8 @@ impl Run {
         let setting = valid_setting(random, &[1, 1, 1, 1, 2, 3, 7]);
         let light = random.between(1, 5);
         let heavy = random.between(10, 60);
-        let loss = random.pick(&[Loss::None, Loss::Percent(light), Loss::Percent(light), Loss::Percent(heavy), Loss::Rows]);
+        let loss =
+            random.pick(&[Loss::None, Loss::Percent(light), Loss::Percent(light), Loss::Percent(heavy), Loss::Rows]);
         let short = random.between(5, 60);
         let long = random.between(300, 900);
         let cheap = setting.frame_length < 200;
@@ -123,10 +124,9 @@ impl Run {
         let listed = self.setting().lanes[lane].clone();
         let channel = self.setting().channels[listed.channel].clone();
         let zone = self.setting().zone_length(&channel);
-        let mut batch = self.open[lane].take().unwrap_or_else(|| Batch {
-            octets: good_batch(random, &listed, zone),
-            places: Vec::new(),
-        });
+        let mut batch = self.open[lane]
+            .take()
+            .unwrap_or_else(|| Batch { octets: good_batch(random, &listed, zone), places: Vec::new() });
         let insert = random.octets(self.setting().insert as usize);
         let ocf = random.octets(if channel.ocf { 4 } else { 0 });
         let mut frame = vec![0x55; self.setting().frame_length as usize];

@@ -256,8 +256,10 @@ pub fn pack(arguments: &[String]) -> Result<(), String> {
     let ocf = fixed_octets(&plan.ocf_file, 4)?;
     let mut writer = Writer::fresh(&setting).map_err(|_| "the setting is not valid")?;
     let mut out = BufWriter::new(io::stdout().lock());
-    let outcome =
-        plan.lane_files.iter().try_for_each(|(lane, path)| pack_file(&mut writer, *lane, path, &insert, &ocf, &mut out));
+    let outcome = plan
+        .lane_files
+        .iter()
+        .try_for_each(|(lane, path)| pack_file(&mut writer, *lane, path, &insert, &ocf, &mut out));
     // What was written before a refusal stays written.
     out.flush().map_err(said)?;
     outcome

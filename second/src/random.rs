@@ -56,6 +56,9 @@ impl Random {
 
 // Settings
 
+/// Counts of one octet are reached all round, so they come more often.
+const COUNT_LENGTHS: [u64; 9] = [1, 1, 1, 2, 3, 4, 5, 6, 7];
+
 fn random_channels(random: &mut Random, n_choices: &[u64]) -> Vec<Channel> {
     let wanted = random.pick(&[1, 1, 2, 2, 3, 4, 8]);
     let mut channels: Vec<Channel> = Vec::new();
@@ -142,8 +145,16 @@ fn spoil(random: &mut Random, setting: &mut Setting) {
     let lane = random.below(setting.lanes.len() as u64) as usize;
     let around = 10 + setting.channels[channel].count_length;
     match random.below(18) {
-        0 => setting.frame_length = random.pick(&[0, 1, 31, 4097, 65_535]),
-        1 => setting.insert = random.pick(&[64, 65, 66, 255]),
+        0 => {
+            // Nothing else is to be wrong with it.
+            setting.frame_length = random.pick(&[0, 1, 31, 31, 31, 32, 4096, 4097, 4097, 65_535]);
+            setting.insert = 0;
+            setting.channels[channel].count_length = 1;
+        }
+        1 => {
+            setting.frame_length = 4096;
+            setting.insert = random.pick(&[64, 65, 65, 66, 255]);
+        }
         2 => setting.insert = (setting.frame_length - around).min(64),
         3 => setting.insert = (setting.frame_length - around - 1).min(64),
         4 => setting.channels[channel].virtual_channel = random.pick(&[62, 63, 64]),
@@ -176,18 +187,17 @@ fn spoil(random: &mut Random, setting: &mut Setting) {
         }
         15 => setting.lanes[lane].channel = 99,
         16 => {
-            for map in 0..9 {
-                let mut more = setting.lanes[0].clone();
-                more.map = map;
-                setting.lanes.push(more);
-            }
+            let first = setting.lanes[0].clone();
+            let number = random.pick(&[8, 9, 9]);
+            setting.lanes = (0..number).map(|map| Lane { map, ..first.clone() }).collect();
         }
         _ => {
-            for virtual_channel in 20..29 {
-                let mut more = setting.channels[0].clone();
-                more.virtual_channel = virtual_channel;
-                setting.channels.push(more);
-            }
+            let first = setting.channels[0].clone();
+            let number = random.pick(&[8, 9, 9]);
+            setting.channels =
+                (0..number).map(|more| Channel { virtual_channel: 20 + more, ..first.clone() }).collect();
+            setting.lanes.truncate(1);
+            setting.lanes[0].channel = 0;
         }
     }
 }
@@ -347,19 +357,13 @@ impl Script {
     }
 
     fn setting_block(&mut self, count: u64) {
-        let mut setting = valid_setting(&mut self.random, &[1, 1, 1, 2, 3, 4, 5, 6, 7]);
-        if self.random.one_in(8) {
-            spoil(&mut self.random, &mut setting);
+        for _ in 0..4 {
+            self.setting_probe();
         }
-        self.line("setting");
-        self.out += &setting_to_lines(&setting);
-        self.line("begin");
+        let setting = valid_setting(&mut self.random, &COUNT_LENGTHS);
+        self.setting_lines(&setting);
         self.frames.clear();
-        let Ok(writer) = Writer::fresh(&setting) else {
-            self.write_line(0, &[1], &[], &[], 64);
-            self.read_line(&[0xC0; 32]);
-            return;
-        };
+        let Ok(writer) = Writer::fresh(&setting) else { return };
         self.writer = writer;
         self.open = vec![None; setting.lanes.len()];
         self.setting = setting;
@@ -367,6 +371,23 @@ impl Script {
         let enough = self.calls + self.random.between(10, 80) / (1 + dear / 16) + 5;
         while self.calls < enough.min(count) {
             self.step();
+        }
+    }
+
+    fn setting_lines(&mut self, setting: &Setting) {
+        self.line("setting");
+        self.out += &setting_to_lines(setting);
+        self.line("begin");
+    }
+
+    /// A setting at or over an edge, which is only judged; sometimes the state of zeros is called.
+    fn setting_probe(&mut self) {
+        let mut setting = valid_setting(&mut self.random, &COUNT_LENGTHS);
+        spoil(&mut self.random, &mut setting);
+        self.setting_lines(&setting);
+        if !setting.valid() && self.random.one_in(8) {
+            self.write_line(0, &[1], &[], &[], 64);
+            self.read_line(&[0xC0; 32]);
         }
     }
 
@@ -383,7 +404,7 @@ impl Script {
             96..=97 => self.other_frame_read(),
             98 => self.check_line(),
             _ => {
-                if self.random.one_in(20) {
+                if self.random.one_in(12) {
                     self.great_batch();
                 }
             }
@@ -536,7 +557,7 @@ impl Script {
         let Some(lane) = self.setting.lanes.iter().position(|lane| lane.kind == Kind::Packet) else { return };
         let longest = self.setting.lanes[lane].longest as usize;
         let mut batch = Vec::new();
-        let wanted = self.random.pick(&[LONGEST_BATCH, LONGEST_BATCH, LONGEST_BATCH + 1]);
+        let wanted = LONGEST_BATCH + self.random.below(2) as usize;
         while batch.len() < wanted {
             let left = wanted - batch.len();
             // Leave room for a last packet, or none.

@@ -75,17 +75,7 @@ struct Harvest {
 
 impl Answer {
     fn empty(class: Class) -> Answer {
-        Answer {
-            class,
-            units: 0,
-            octets: 0,
-            missing: 0,
-            idle: 0,
-            fill: 0,
-            dropped: 0,
-            channel: None,
-            lane: None,
-        }
+        Answer { class, units: 0, octets: 0, missing: 0, idle: 0, fill: 0, dropped: 0, channel: None, lane: None }
     }
 }
 
@@ -119,12 +109,7 @@ impl Reader {
             Ok(Passed::Idle) => Answer::empty(Class::Idle),
             Ok(Passed::Counted { channel, count }) => {
                 let (missing, dropped) = self.take_count(channel, count);
-                Answer {
-                    missing,
-                    dropped: dropped as u64,
-                    channel: Some(channel),
-                    ..Answer::empty(Class::Counted)
-                }
+                Answer { missing, dropped: dropped as u64, channel: Some(channel), ..Answer::empty(Class::Counted) }
             }
             Ok(Passed::Read { channel, count, lane, rule, pointer }) => {
                 let (missing, gap_dropped) = self.take_count(channel, count);

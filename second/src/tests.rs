@@ -351,10 +351,7 @@ fn a_script_of_calls() {
 fn a_refused_setting_leaves_states_of_zeros() {
     let script = "frame length 31\nspacecraft 1\nsource\ninsert 0\ncheck no\nbegin\nread 00\nwrite 0 - - - 0\n";
     let zeros = "units 0 octets 0 missing 0 idle 0 fill 0 dropped 0";
-    assert_eq!(
-        printed(script),
-        format!("setting refused 1\nrefused 1 {zeros} held - expects -\narea -\nrefused 1\n")
-    );
+    assert_eq!(printed(script), format!("setting refused 1\nrefused 1 {zeros} held - expects -\narea -\nrefused 1\n"));
 }
 
 #[test]
