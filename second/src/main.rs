@@ -1,0 +1,55 @@
+//! A second program, from document 01 alone, to be compared octet for octet with the archive's.
+
+mod calls;
+mod demand3;
+mod frame;
+mod packet;
+mod programs;
+mod random;
+mod reader;
+mod setting;
+mod text;
+mod writer;
+
+#[cfg(test)]
+mod tests;
+
+use std::io::{self, BufWriter, Write};
+use std::process::ExitCode;
+
+const USAGE: &str = "usage: second unpack SETTING RECORDING PREFIX
+       second pack SETTING LANE=FILE ..
+       second calls
+       second random SEED COUNT
+       second demand3 SEED COUNT";
+
+fn main() -> ExitCode {
+    let arguments: Vec<String> = std::env::args().skip(1).collect();
+    match run(&arguments) {
+        Ok(()) => ExitCode::SUCCESS,
+        Err(message) => {
+            eprintln!("second: {message}");
+            ExitCode::FAILURE
+        }
+    }
+}
+
+fn run(arguments: &[String]) -> Result<(), String> {
+    let Some((command, rest)) = arguments.split_first() else { return Err(USAGE.to_string()) };
+    match (command.as_str(), rest) {
+        ("unpack", _) => programs::unpack(rest),
+        ("pack", _) => programs::pack(rest),
+        ("calls", []) => calls::run(io::stdin().lock(), &mut BufWriter::new(io::stdout().lock())),
+        ("random", [seed, count]) => {
+            let script = random::script(text::decimal(seed)?, text::decimal(count)?);
+            let mut out = io::stdout().lock();
+            out.write_all(script.as_bytes()).and_then(|()| out.flush()).map_err(|error| error.to_string())
+        }
+        ("demand3", [seed, count]) => {
+            let line = demand3::runs(text::decimal(seed)?, text::decimal(count)?)?;
+            println!("{line}");
+            Ok(())
+        }
+        _ => Err(USAGE.to_string()),
+    }
+}

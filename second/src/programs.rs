@@ -1,0 +1,292 @@
+//! The archive's programs (PROGRAMS.md): `unpack` and `pack`.
+
+use std::fs::{self, File};
+use std::io::{self, BufReader, BufWriter, Read, Write};
+
+use crate::packet::whole_space_packet;
+use crate::reader::{Answer, Areas, Class, Reader, HELD_AREA, RECORD, RECORD_AREA, UNIT_AREA};
+use crate::setting::{Kind, Setting};
+use crate::text::{decimal, setting_from_file, LONGEST_SETTING_FILE};
+use crate::writer::{Lent, Writer, LONGEST_BATCH};
+
+fn load_setting(path: &str) -> Result<Setting, String> {
+    let mut octets = Vec::new();
+    File::open(path)
+        .and_then(|file| file.take(LONGEST_SETTING_FILE).read_to_end(&mut octets))
+        .map_err(|error| format!("{path}: {error}"))?;
+    setting_from_file(&octets).map_err(|wrong| format!("{path}: {wrong}"))
+}
+
+fn said(error: io::Error) -> String {
+    error.to_string()
+}
+
+// unpack
+
+#[derive(Clone, Default)]
+struct LaneTotals {
+    frames: u64,
+    units: u64,
+    octets: u64,
+}
+
+#[derive(Clone, Default)]
+struct ChannelTotals {
+    frames: u64,
+    /// One frame can miss almost 2^56, so many of them need a wide sum.
+    missing: u128,
+}
+
+#[derive(Default)]
+struct Totals {
+    frames: u64,
+    read: u64,
+    counted: u64,
+    idle_frames: u64,
+    refused: u64,
+    units: u64,
+    octets: u64,
+    idle: u64,
+    fill: u64,
+    dropped: u64,
+    lanes: Vec<LaneTotals>,
+    channels: Vec<ChannelTotals>,
+}
+
+impl Totals {
+    fn add(&mut self, answer: &Answer) {
+        self.frames += 1;
+        match answer.class {
+            Class::Read => self.read += 1,
+            Class::Counted => self.counted += 1,
+            Class::Idle => self.idle_frames += 1,
+            Class::Refused(_) => self.refused += 1,
+        }
+        self.units += answer.units;
+        self.octets += answer.octets;
+        self.idle += answer.idle;
+        self.fill += answer.fill;
+        self.dropped += answer.dropped;
+        if let Some(channel) = answer.channel {
+            self.channels[channel].frames += 1;
+            self.channels[channel].missing += u128::from(answer.missing);
+        }
+        if let Some(lane) = answer.lane {
+            self.lanes[lane].frames += 1;
+            self.lanes[lane].units += answer.units;
+            self.lanes[lane].octets += answer.octets;
+        }
+    }
+
+    fn print(&self, reader: &Reader, out: &mut impl Write) -> io::Result<()> {
+        for (lane, totals) in self.lanes.iter().enumerate() {
+            writeln!(out, "lane {lane} frames {} units {} octets {}", totals.frames, totals.units, totals.octets)?;
+        }
+        for (channel, totals) in reader.setting.channels.iter().zip(&self.channels) {
+            writeln!(
+                out,
+                "channel {} service {} frames {} missing {}",
+                channel.virtual_channel, channel.service, totals.frames, totals.missing
+            )?;
+        }
+        writeln!(
+            out,
+            "total frames {} read {} counted {} idle {} refused {} units {} octets {} idle {} fill {} dropped {} held {}",
+            self.frames,
+            self.read,
+            self.counted,
+            self.idle_frames,
+            self.refused,
+            self.units,
+            self.octets,
+            self.idle,
+            self.fill,
+            self.dropped,
+            reader.held.iter().sum::<usize>(),
+        )
+    }
+}
+
+fn print_answer(number: u64, answer: &Answer, out: &mut impl Write) -> io::Result<()> {
+    let (class, where_or_why) = match answer.class {
+        Class::Idle => ("idle", "-".to_string()),
+        Class::Counted => ("counted", "-".to_string()),
+        Class::Read => ("read", answer.lane.map_or("-".to_string(), |lane| lane.to_string())),
+        Class::Refused(refusal) => ("refused", refusal.to_string()),
+    };
+    writeln!(
+        out,
+        "{number} {class} {where_or_why} {} {} {} {} {} {}",
+        answer.units, answer.octets, answer.missing, answer.idle, answer.fill, answer.dropped
+    )
+}
+
+/// The recording's next F octets, fewer at its end, none past it.
+fn next_frame(recording: &mut impl Read, frame_length: usize) -> io::Result<Option<Vec<u8>>> {
+    let mut frame = Vec::with_capacity(frame_length);
+    recording.take(frame_length as u64).read_to_end(&mut frame)?;
+    Ok(if frame.is_empty() { None } else { Some(frame) })
+}
+
+fn create(path: String) -> Result<BufWriter<File>, String> {
+    File::create(&path).map(BufWriter::new).map_err(|error| format!("{path}: {error}"))
+}
+
+pub fn unpack(arguments: &[String]) -> Result<(), String> {
+    let [setting_path, recording_path, prefix] = arguments else {
+        return Err("usage: unpack SETTING RECORDING PREFIX".to_string());
+    };
+    let setting = load_setting(setting_path)?;
+    let file = File::open(recording_path).map_err(|error| format!("{recording_path}: {error}"))?;
+    let mut recording = BufReader::new(file);
+    let mut lane_files = Vec::new();
+    for lane in 0..setting.lanes.len() {
+        lane_files.push(create(format!("{prefix}.lane{lane}"))?);
+    }
+    let mut records_file = create(format!("{prefix}.records"))?;
+    let mut out = BufWriter::new(io::stdout().lock());
+
+    let mut reader = Reader::fresh(&setting).map_err(|_| "the setting is not valid")?;
+    let (mut held, mut units, mut records) = (vec![0; HELD_AREA], vec![0; UNIT_AREA], vec![0; RECORD_AREA]);
+    let mut totals = Totals {
+        lanes: vec![LaneTotals::default(); setting.lanes.len()],
+        channels: vec![ChannelTotals::default(); setting.channels.len()],
+        ..Totals::default()
+    };
+    writeln!(out, "frame answer lane units octets missing idle fill dropped").map_err(said)?;
+    while let Some(frame) = next_frame(&mut recording, setting.frame_length as usize).map_err(said)? {
+        let mut areas = Areas { held: &mut held, units: &mut units, records: &mut records };
+        let answer = reader.read(&frame, &mut areas);
+        print_answer(totals.frames, &answer, &mut out).map_err(said)?;
+        if let Some(lane) = answer.lane {
+            lane_files[lane].write_all(&units[..answer.octets as usize]).map_err(said)?;
+            records_file.write_all(&records[..answer.units as usize * RECORD]).map_err(said)?;
+        }
+        totals.add(&answer);
+    }
+    totals.print(&reader, &mut out).map_err(said)?;
+    for file in &mut lane_files {
+        file.flush().map_err(said)?;
+    }
+    records_file.flush().map_err(said)?;
+    out.flush().map_err(said)
+}
+
+// pack
+
+/// What the command line of `pack` names after the setting.
+#[derive(Default)]
+struct PackPlan {
+    lane_files: Vec<(u64, String)>,
+    insert_file: Option<String>,
+    ocf_file: Option<String>,
+}
+
+fn pack_plan(arguments: &[String]) -> Result<PackPlan, String> {
+    let mut plan = PackPlan::default();
+    for argument in arguments {
+        let (name, path) = argument.split_once('=').ok_or_else(|| format!("{argument}: expected LANE=FILE"))?;
+        let twice = match name {
+            "insert" => plan.insert_file.replace(path.to_string()).is_some(),
+            "ocf" => plan.ocf_file.replace(path.to_string()).is_some(),
+            _ => {
+                let lane = decimal(name).map_err(|expected| format!("{argument}: expected {expected}"))?;
+                plan.lane_files.push((lane, path.to_string()));
+                false
+            }
+        };
+        if twice {
+            return Err(format!("{argument}: said twice"));
+        }
+    }
+    Ok(plan)
+}
+
+/// Zeros, or the octets of a file that has exactly as many.
+fn fixed_octets(path: &Option<String>, length: usize) -> Result<Vec<u8>, String> {
+    let Some(path) = path else { return Ok(vec![0; length]) };
+    let octets = fs::read(path).map_err(|error| format!("{path}: {error}"))?;
+    if octets.len() == length {
+        Ok(octets)
+    } else {
+        Err(format!("{path}: expected {length} octets, found {}", octets.len()))
+    }
+}
+
+/// How many octets at the start of `rest` are the next batch: as many whole packets as fit. Where there is not
+/// even one, all the rest is a batch, and the writer refuses it.
+fn gathered(rest: &[u8]) -> usize {
+    let mut length = 0;
+    while let Some(packet) = whole_space_packet(&rest[length..]) {
+        if length + packet > LONGEST_BATCH {
+            break;
+        }
+        length += packet;
+    }
+    if length == 0 {
+        rest.len()
+    } else {
+        length
+    }
+}
+
+fn batches(kind: Kind, file: &[u8]) -> Vec<&[u8]> {
+    match kind {
+        Kind::Access => vec![file],
+        Kind::Packet => {
+            let mut batches = Vec::new();
+            let mut rest = file;
+            while !rest.is_empty() {
+                let (batch, later) = rest.split_at(gathered(rest));
+                batches.push(batch);
+                rest = later;
+            }
+            batches
+        }
+    }
+}
+
+pub fn pack(arguments: &[String]) -> Result<(), String> {
+    let Some((setting_path, named)) = arguments.split_first() else {
+        return Err("usage: pack SETTING LANE=FILE ..".to_string());
+    };
+    let setting = load_setting(setting_path)?;
+    let plan = pack_plan(named)?;
+    let insert = fixed_octets(&plan.insert_file, setting.insert as usize)?;
+    let ocf = fixed_octets(&plan.ocf_file, 4)?;
+    let mut writer = Writer::fresh(&setting).map_err(|_| "the setting is not valid")?;
+    let mut out = BufWriter::new(io::stdout().lock());
+    let outcome = plan
+        .lane_files
+        .iter()
+        .try_for_each(|(lane, path)| pack_file(&mut writer, *lane, path, &insert, &ocf, &mut out));
+    // What was written before a refusal stays written.
+    out.flush().map_err(said)?;
+    outcome
+}
+
+fn pack_file(
+    writer: &mut Writer,
+    lane: u64,
+    path: &str,
+    insert: &[u8],
+    ocf: &[u8],
+    out: &mut impl Write,
+) -> Result<(), String> {
+    let file = fs::read(path).map_err(|error| format!("{path}: {error}"))?;
+    let listed = usize::try_from(lane).ok().and_then(|place| writer.setting.lanes.get(place));
+    let Some(listed) = listed else { return Err(format!("{path}: refused 13: there is no lane {lane}")) };
+    let ocf = if writer.setting.channels[listed.channel].ocf { ocf } else { &[] };
+    let mut frame = vec![0; writer.setting.frame_length as usize];
+    for batch in batches(listed.kind, &file) {
+        loop {
+            let lent = Lent { lane, batch, insert, ocf };
+            writer.write(&lent, &mut frame).map_err(|number| format!("{path}: a batch is refused {number}"))?;
+            out.write_all(&frame).map_err(said)?;
+            if writer.next[lane as usize] == 0 {
+                break;
+            }
+        }
+    }
+    Ok(())
+}

@@ -1,0 +1,1007 @@
+//! `second random`: a random script for `second calls`. The same seed always gives the same script.
+
+use crate::frame::{put_big_endian, put_frame_check, Header, NO_POINTER};
+use crate::packet::IDLE_OCTET;
+use crate::reader::{HELD_AREA, RECORD_AREA, UNIT_AREA};
+use crate::setting::{Channel, Kind, Lane, Setting};
+use crate::text::{hex, setting_to_lines};
+use crate::writer::{Lent, Writer, LONGEST_BATCH};
+
+/// SplitMix64.
+pub struct Random(u64);
+
+impl Random {
+    pub fn new(seed: u64) -> Random {
+        Random(seed)
+    }
+
+    pub fn next(&mut self) -> u64 {
+        self.0 = self.0.wrapping_add(0x9E37_79B9_7F4A_7C15);
+        let mut mixed = self.0;
+        mixed = (mixed ^ mixed >> 30).wrapping_mul(0xBF58_476D_1CE4_E5B9);
+        mixed = (mixed ^ mixed >> 27).wrapping_mul(0x94D0_49BB_1331_11EB);
+        mixed ^ mixed >> 31
+    }
+
+    /// A number from 0 to `bound` - 1.
+    pub fn below(&mut self, bound: u64) -> u64 {
+        self.next() % bound
+    }
+
+    /// A number from `low` to `high`, both included.
+    pub fn between(&mut self, low: u64, high: u64) -> u64 {
+        low + self.below(high - low + 1)
+    }
+
+    pub fn one_in(&mut self, bound: u64) -> bool {
+        self.below(bound) == 0
+    }
+
+    pub fn percent(&mut self, chance: u64) -> bool {
+        self.below(100) < chance
+    }
+
+    pub fn pick<T: Copy>(&mut self, from: &[T]) -> T {
+        from[self.below(from.len() as u64) as usize]
+    }
+
+    pub fn octet(&mut self) -> u8 {
+        self.next() as u8
+    }
+
+    pub fn octets(&mut self, length: usize) -> Vec<u8> {
+        (0..length).map(|_| self.octet()).collect()
+    }
+}
+
+// Settings
+
+/// Counts of one octet are reached all round, so they come more often.
+const COUNT_LENGTHS: [u64; 9] = [1, 1, 1, 2, 3, 4, 5, 6, 7];
+
+fn random_channels(random: &mut Random, n_choices: &[u64]) -> Vec<Channel> {
+    let wanted = random.pick(&[1, 1, 2, 2, 3, 4, 8]);
+    let mut channels: Vec<Channel> = Vec::new();
+    while channels.len() < wanted {
+        let any = random.below(63);
+        let repeated = channels.last().map_or(3, |channel| channel.virtual_channel);
+        let virtual_channel = random.pick(&[0, 1, 3, 62, any, repeated, repeated]);
+        let service = random.below(2);
+        if channels.iter().any(|c| c.virtual_channel == virtual_channel && c.service == service) {
+            continue;
+        }
+        let agreed = channels.iter().find(|c| c.virtual_channel == virtual_channel).map(|c| c.ocf);
+        let ocf = agreed.unwrap_or(random.one_in(3));
+        channels.push(Channel { virtual_channel, service, count_length: random.pick(n_choices), ocf });
+    }
+    channels
+}
+
+/// The lengths F and I with Z at least 1 for every channel: mostly at an edge.
+fn random_lengths(random: &mut Random, channels: &[Channel], check: bool) -> (u64, u64) {
+    let around = channels.iter().map(|c| 10 + c.count_length + if c.ocf { 4 } else { 0 }).max().unwrap_or(11)
+        + if check { 2 } else { 0 };
+    let some_insert = random.below(65);
+    let insert = random.pick(&[0, 0, 0, 1, 2, 64, some_insert]);
+    if random.percent(40) {
+        // A tiny zone, at most in the way of the least F.
+        let tiny = random.between(2, 30);
+        let zone = random.pick(&[1, 1, 2, 3, 6, 7, tiny, tiny]);
+        let frame_length = zone + around + insert;
+        return if frame_length < 32 { (32, 32 - zone - around) } else { (frame_length, insert) };
+    }
+    let small = random.between(32, 80);
+    let any = random.between(32, 4096);
+    let frame_length = random.pick(&[
+        32, 32, 32, 33, 33, 34, 40, 48, 64, small, small, small, small, small, 100, 128, 200, 256, 300, 512, 1024, any,
+        4095, 4096,
+    ]);
+    (frame_length, insert.min(frame_length - around - 1))
+}
+
+fn random_lanes(random: &mut Random, setting: &Setting) -> Vec<Lane> {
+    let wanted = random.pick(&[1, 1, 2, 2, 3, 4, 5, 8]);
+    let mut lanes: Vec<Lane> = Vec::new();
+    while lanes.len() < wanted {
+        let place = random.below(setting.channels.len() as u64) as usize;
+        let any_map = random.below(16);
+        let map = random.pick(&[0, 1, 5, 15, any_map, any_map]);
+        if lanes.iter().any(|lane| lane.channel == place && lane.map == map) {
+            continue;
+        }
+        let zone = setting.zone_length(&setting.channels[place]) as u64;
+        let any_longest = random.between(7, 8192);
+        let near_zone = zone * random.between(1, 3) + random.below(3);
+        let small = random.between(7, 100);
+        let lane = if random.percent(60) {
+            let longest = random.pick(&[7, 8, 13, 64, small, small, small, near_zone, 8191, 8192, any_longest]);
+            Lane { channel: place, map, kind: Kind::Packet, longest: longest.clamp(7, 8192), upid: 0 }
+        } else {
+            let longest = random.pick(&[1, 2, zone, near_zone, near_zone, small, 8191, 8192, any_longest]);
+            let any_upid = random.between(1, 30);
+            let upid = random.pick(&[1, 5, 30, any_upid]);
+            Lane { channel: place, map, kind: Kind::Access, longest: longest.clamp(1, 8192), upid }
+        };
+        lanes.push(lane);
+    }
+    lanes
+}
+
+pub fn valid_setting(random: &mut Random, n_choices: &[u64]) -> Setting {
+    let channels = random_channels(random, n_choices);
+    let check = random.one_in(2);
+    let (frame_length, insert) = random_lengths(random, &channels, check);
+    let any_spacecraft = random.below(65_536);
+    let spacecraft = random.pick(&[0, 42, 65_535, any_spacecraft]);
+    let destination = random.one_in(2);
+    let mut setting = Setting { frame_length, spacecraft, destination, insert, check, channels, lanes: Vec::new() };
+    setting.lanes = random_lanes(random, &setting);
+    setting
+}
+
+/// Pushes one fact over an edge (or just onto it: the ends judge, not this).
+fn spoil(random: &mut Random, setting: &mut Setting) {
+    let channel = random.below(setting.channels.len() as u64) as usize;
+    let lane = random.below(setting.lanes.len() as u64) as usize;
+    let around = 10 + setting.channels[channel].count_length;
+    match random.below(18) {
+        0 => {
+            // Nothing else is to be wrong with it.
+            setting.frame_length = random.pick(&[0, 1, 31, 31, 31, 32, 4096, 4097, 4097, 65_535]);
+            setting.insert = 0;
+            setting.channels[channel].count_length = 1;
+        }
+        1 => {
+            setting.frame_length = 4096;
+            setting.insert = random.pick(&[64, 65, 65, 66, 255]);
+        }
+        2 => setting.insert = (setting.frame_length - around).min(64),
+        3 => setting.insert = (setting.frame_length - around - 1).min(64),
+        4 => setting.channels[channel].virtual_channel = random.pick(&[62, 63, 64]),
+        5 => setting.channels[channel].count_length = random.pick(&[0, 7, 8]),
+        6 => setting.lanes[lane].map = random.pick(&[15, 16]),
+        7 => setting.lanes[lane].longest = random.pick(&[0, 1, 6, 7]),
+        8 => setting.lanes[lane].longest = random.pick(&[8192, 8193]),
+        9 => {
+            setting.lanes[lane].kind = Kind::Access;
+            setting.lanes[lane].upid = random.pick(&[0, 30, 31]);
+        }
+        10 => {
+            let twin = setting.channels[channel].clone();
+            setting.channels.push(twin);
+        }
+        11 => {
+            let mut other = setting.channels[channel].clone();
+            other.service = 1 - other.service;
+            other.ocf = !other.ocf;
+            setting.channels.push(other);
+        }
+        12 => {
+            let twin = setting.lanes[lane].clone();
+            setting.lanes.push(twin);
+        }
+        13 => setting.lanes.clear(),
+        14 => {
+            setting.channels.clear();
+            setting.lanes.clear();
+        }
+        15 => setting.lanes[lane].channel = 99,
+        16 => {
+            let first = setting.lanes[0].clone();
+            let number = random.pick(&[8, 9, 9]);
+            setting.lanes = (0..number).map(|map| Lane { map, ..first.clone() }).collect();
+        }
+        _ => {
+            let first = setting.channels[0].clone();
+            let number = random.pick(&[8, 9, 9]);
+            setting.channels =
+                (0..number).map(|more| Channel { virtual_channel: 20 + more, ..first.clone() }).collect();
+            setting.lanes.truncate(1);
+            setting.lanes[0].channel = 0;
+        }
+    }
+}
+
+// Packets and batches
+
+/// A Space Packet of this length in all; not idle unless asked for.
+pub fn space_packet(random: &mut Random, length: usize, idle: bool) -> Vec<u8> {
+    let mut octets = random.octets(length);
+    let application = if idle { 0x07FF } else { random.below(0x07FF) };
+    let upper = random.below(4) << 11;
+    put_big_endian(&mut octets[..2], application | upper);
+    put_big_endian(&mut octets[4..6], length as u64 - 7);
+    octets
+}
+
+/// A first octet that begins no packet.
+fn unreadable_octet(random: &mut Random) -> u8 {
+    loop {
+        let any = random.octet();
+        let octet = random.pick(&[0x20, 0xE1, 0xFF, 0xC0, any]);
+        if octet >> 5 != 0 && octet != IDLE_OCTET {
+            return octet;
+        }
+    }
+}
+
+/// A length for a good packet of a lane, biased to the ends and to what fits a few zones.
+fn packet_length(random: &mut Random, longest: usize, zone: usize) -> usize {
+    let short = random.between(7, 30);
+    let near_zone = random.between(1, 3) * zone as u64 + random.below(3);
+    let capped = random.between(7, longest.min(600) as u64);
+    let length = random.pick(&[7, 8, short, short, short, near_zone, capped, longest as u64]);
+    let affordable = if length > 700 && !random.one_in(12) { short } else { length };
+    (affordable as usize).clamp(7, longest)
+}
+
+/// A batch that keeps its lane's rule.
+pub fn good_batch(random: &mut Random, lane: &Lane, zone: usize) -> Vec<u8> {
+    let longest = lane.longest as usize;
+    match lane.kind {
+        Kind::Packet => {
+            let packets = random.pick(&[1, 1, 2, 3, 4, 6]);
+            let mut batch = Vec::new();
+            for _ in 0..packets {
+                let length = packet_length(random, longest, zone);
+                if batch.len() + length <= LONGEST_BATCH {
+                    batch.extend(space_packet(random, length, false));
+                }
+            }
+            batch
+        }
+        Kind::Access => {
+            let near_zone = random.between(1, 3) * zone as u64 + random.below(3) - 1;
+            let capped = random.between(1, longest.min(600) as u64);
+            let length = random.pick(&[1, 2, near_zone, near_zone, capped, capped, longest as u64]);
+            let affordable = if length > 700 && !random.one_in(12) { capped } else { length };
+            random.octets((affordable as usize).clamp(1, longest))
+        }
+    }
+}
+
+/// A batch that breaks a rule (or, where the lane allows it, only nearly breaks one).
+fn bad_batch(random: &mut Random, lane: &Lane, zone: usize) -> Vec<u8> {
+    let longest = lane.longest as usize;
+    if lane.kind == Kind::Access {
+        let length = random.pick(&[0, 0, longest + 1, longest]);
+        return random.octets(length);
+    }
+    let mut batch = if random.one_in(2) { good_batch(random, lane, zone) } else { Vec::new() };
+    match random.below(9) {
+        0 => batch.clear(),
+        1 => batch.extend(space_packet(random, longest.min(40), true)),
+        2 => batch.extend(space_packet(random, longest + 1, false)),
+        3 => {
+            let length = random.between(7, longest.min(40) as u64) as usize;
+            let cut = random.between(1, length as u64 - 1) as usize;
+            batch.extend(&space_packet(random, length, false)[..cut]);
+        }
+        4 => batch.push(unreadable_octet(random)),
+        5 => {
+            let packet = space_packet(random, 7, false);
+            batch.push(IDLE_OCTET);
+            batch.extend(packet);
+        }
+        6 => batch.push(IDLE_OCTET),
+        7 => {
+            let mut packet = space_packet(random, 9, false);
+            packet[0] = packet[0] & 0x1F | unreadable_octet(random) & 0xE0;
+            batch.extend(packet);
+        }
+        _ => {
+            let extra = random.between(1, 6) as usize;
+            batch.extend(vec![0; extra]);
+        }
+    }
+    batch
+}
+
+/// Octets for a zone from a packet's start on: packets of every kind, cut where the room ends.
+fn packet_stream(random: &mut Random, longest: usize, zone: usize, room: usize) -> Vec<u8> {
+    let mut octets = Vec::new();
+    while octets.len() < room {
+        let length = packet_length(random, longest, zone);
+        match random.below(20) {
+            0..=9 => octets.extend(space_packet(random, length, false)),
+            10..=12 => octets.extend(space_packet(random, length, true)),
+            13..=16 => octets.extend(vec![IDLE_OCTET; 1 + length % 5]),
+            17 => octets.push(unreadable_octet(random)),
+            18 => {
+                let idle = random.one_in(3);
+                let too_long = longest + random.pick(&[1, 1, 2, 300]);
+                octets.extend(space_packet(random, too_long, idle));
+            }
+            _ => octets.extend(random.octets(length)),
+        }
+    }
+    octets.truncate(room);
+    octets
+}
+
+// The script
+
+struct Script {
+    random: Random,
+    out: String,
+    calls: u64,
+    setting: Setting,
+    /// The same writer as the one that `calls` will have, to know the frames.
+    writer: Writer,
+    /// Each lane's batch that is not yet worked off.
+    open: Vec<Option<Vec<u8>>>,
+    /// Frames written not long ago.
+    frames: Vec<Vec<u8>>,
+}
+
+pub fn script(seed: u64, count: u64) -> String {
+    let mut script = Script {
+        random: Random::new(seed),
+        out: format!("# second random {seed} {count}\n"),
+        calls: 0,
+        setting: Setting::default(),
+        writer: Writer::default(),
+        open: Vec::new(),
+        frames: Vec::new(),
+    };
+    while script.calls < count {
+        script.setting_block(count);
+    }
+    script.out
+}
+
+impl Script {
+    fn line(&mut self, line: &str) {
+        self.out += line;
+        self.out.push('\n');
+    }
+
+    fn setting_block(&mut self, count: u64) {
+        for _ in 0..4 {
+            self.setting_probe();
+        }
+        let setting = valid_setting(&mut self.random, &COUNT_LENGTHS);
+        self.setting_lines(&setting);
+        self.frames.clear();
+        let Ok(writer) = Writer::fresh(&setting) else { return };
+        self.writer = writer;
+        self.open = vec![None; setting.lanes.len()];
+        self.setting = setting;
+        let dear = self.setting.frame_length / 64;
+        let enough = self.calls + self.random.between(10, 80) / (1 + dear / 16) + 5;
+        while self.calls < enough.min(count) {
+            self.step();
+        }
+    }
+
+    fn setting_lines(&mut self, setting: &Setting) {
+        self.line("setting");
+        self.out += &setting_to_lines(setting);
+        self.line("begin");
+    }
+
+    /// A setting at or over an edge, which is only judged; sometimes the state of zeros is called.
+    fn setting_probe(&mut self) {
+        let mut setting = valid_setting(&mut self.random, &COUNT_LENGTHS);
+        spoil(&mut self.random, &mut setting);
+        self.setting_lines(&setting);
+        if !setting.valid() && self.random.one_in(8) {
+            self.write_line(0, &[1], &[], &[], 64);
+            self.read_line(&[0xC0; 32]);
+        }
+    }
+
+    fn step(&mut self) {
+        match self.random.below(100) {
+            0..=39 => self.good_write(),
+            40..=49 => self.bad_write(),
+            50..=57 => self.damaged_read(),
+            58..=67 => self.forged_field_read(),
+            68..=84 => self.forged_lane_read(),
+            85..=86 => self.odd_area_read(),
+            87..=91 => self.writer_state(),
+            92..=95 => self.reader_state(),
+            96..=97 => self.other_frame_read(),
+            98 => self.check_line(),
+            _ => {
+                if self.random.one_in(12) {
+                    self.great_batch();
+                }
+            }
+        }
+    }
+
+    // Lines
+
+    fn read_line(&mut self, frame: &[u8]) {
+        self.calls += 1;
+        let line = format!("read {}", hex(frame));
+        self.line(&line);
+    }
+
+    fn write_line(&mut self, lane: u64, batch: &[u8], insert: &[u8], ocf: &[u8], area_length: u64) {
+        self.calls += 1;
+        let line = format!("write {lane} {} {} {} {area_length}", hex(batch), hex(insert), hex(ocf));
+        self.line(&line);
+    }
+
+    fn expect_line(&mut self, channel: usize, expected: Option<u64>) {
+        let said = expected.map_or("none".to_string(), |count| count.to_string());
+        self.line(&format!("expect {channel} {said}"));
+    }
+
+    fn check_line(&mut self) {
+        let length = self.random.below(40) as usize;
+        let octets = self.random.octets(length);
+        self.line(&format!("check {}", hex(&octets)));
+    }
+
+    // Places
+
+    fn any_lane(&mut self) -> usize {
+        self.random.below(self.setting.lanes.len() as u64) as usize
+    }
+
+    fn channel_of(&self, lane: usize) -> &Channel {
+        &self.setting.channels[self.setting.lanes[lane].channel]
+    }
+
+    fn zone_of(&self, lane: usize) -> usize {
+        self.setting.zone_length(self.channel_of(lane))
+    }
+
+    fn insert_octets(&mut self) -> Vec<u8> {
+        self.random.octets(self.setting.insert as usize)
+    }
+
+    fn ocf_octets(&mut self, lane: usize) -> Vec<u8> {
+        let length = if self.channel_of(lane).ocf { 4 } else { 0 };
+        self.random.octets(length)
+    }
+
+    // Writing
+
+    /// Writes with the mirrored writer too, and keeps the frame.
+    fn write(&mut self, lane: u64, batch: &[u8], insert: &[u8], ocf: &[u8], area_length: u64) -> Option<Vec<u8>> {
+        self.write_line(lane, batch, insert, ocf, area_length);
+        let mut area = vec![0; area_length as usize];
+        self.writer.write(&Lent { lane, batch, insert, ocf }, &mut area).ok()?;
+        area.truncate(self.setting.frame_length as usize);
+        if self.frames.len() < 16 {
+            self.frames.push(area.clone());
+        } else {
+            let place = self.random.below(16) as usize;
+            self.frames[place] = area.clone();
+        }
+        Some(area)
+    }
+
+    /// A frame of a good batch, read as it is, or lost, or repeated.
+    fn good_write(&mut self) {
+        let lane = self.any_lane();
+        let zone = self.zone_of(lane);
+        let batch = match self.open[lane].take() {
+            Some(batch) if !self.random.one_in(40) => batch,
+            _ => good_batch(&mut self.random, &self.setting.lanes[lane], zone),
+        };
+        let insert = self.insert_octets();
+        let ocf = self.ocf_octets(lane);
+        let longer = self.random.pick(&[0, 0, 0, 1, 3]);
+        let area_length = self.setting.frame_length + longer;
+        let frame = self.write(lane as u64, &batch, &insert, &ocf, area_length);
+        if self.writer.next[lane] != 0 && self.writer.next[lane] < 32_768 {
+            self.open[lane] = Some(batch);
+        }
+        let Some(frame) = frame else {
+            // A refusal that the state caused: put the state right, most of the time.
+            if self.random.percent(80) {
+                self.set_next(lane, 0);
+                self.set_count(self.setting.lanes[lane].channel, 0);
+            }
+            return;
+        };
+        match self.random.below(100) {
+            0..=79 => self.read_line(&frame),
+            80..=84 => {
+                self.read_line(&frame);
+                self.read_line(&frame);
+            }
+            85..=89 => {
+                let damaged = self.damage(&frame);
+                self.read_line(&damaged);
+            }
+            _ => {}
+        }
+    }
+
+    fn bad_write(&mut self) {
+        let lane = self.any_lane();
+        let zone = self.zone_of(lane);
+        let mut named = lane as u64;
+        let mut insert = self.insert_octets();
+        let mut ocf = self.ocf_octets(lane);
+        let mut area_length = self.setting.frame_length;
+        let mut batch = good_batch(&mut self.random, &self.setting.lanes[lane], zone);
+        // Up to three faults at once, so that the order of refusals shows.
+        for _ in 0..self.random.pick(&[1, 1, 1, 2, 3]) {
+            match self.random.below(8) {
+                0 => named = self.random.pick(&[self.setting.lanes.len() as u64, 8, 9, 255]),
+                1..=3 => batch = bad_batch(&mut self.random, &self.setting.lanes[lane], zone),
+                4 => {
+                    let length = self.random.pick(&[insert.len() + 1, insert.len().saturating_sub(1), 0]);
+                    insert = self.random.octets(length);
+                }
+                5 => {
+                    let length = self.random.pick(&[0, 1, 3, 4, 5]);
+                    ocf = self.random.octets(length);
+                }
+                6 => area_length = self.random.pick(&[self.setting.frame_length - 1, 0, self.setting.frame_length]),
+                _ => {
+                    let frames = batch.len().div_ceil(zone) as u64;
+                    let next = self.random.pick(&[frames, frames + 1, frames.saturating_sub(1), 32_767]);
+                    self.set_next(lane, next);
+                }
+            }
+        }
+        if let Some(frame) = self.write(named, &batch, &insert, &ocf, area_length) {
+            self.read_line(&frame);
+        }
+        if self.random.percent(60) {
+            self.set_next(lane, 0);
+        }
+        self.open[lane] = None;
+    }
+
+    /// The longest batch there is, or one octet more; few frames of it, since each line repeats it.
+    fn great_batch(&mut self) {
+        let Some(lane) = self.setting.lanes.iter().position(|lane| lane.kind == Kind::Packet) else { return };
+        let longest = self.setting.lanes[lane].longest as usize;
+        let mut batch = Vec::new();
+        let wanted = LONGEST_BATCH + self.random.below(2) as usize;
+        while batch.len() < wanted {
+            let left = wanted - batch.len();
+            // Leave room for a last packet, or none.
+            let length = if left <= longest { left } else { longest.min(left - 7) };
+            batch.extend(space_packet(&mut self.random, length.max(7), false));
+        }
+        let frames = batch.len().div_ceil(self.zone_of(lane)) as u64;
+        let (insert, ocf) = (self.insert_octets(), self.ocf_octets(lane));
+        for next in [frames - 1, frames, self.random.below(frames)] {
+            self.set_next(lane, next);
+            if let Some(frame) = self.write(lane as u64, &batch, &insert, &ocf, self.setting.frame_length) {
+                self.read_line(&frame);
+            }
+        }
+        self.set_next(lane, 0);
+        self.open[lane] = None;
+    }
+
+    // States
+
+    fn set_next(&mut self, lane: usize, number: u64) {
+        self.writer.next[lane] = number;
+        self.line(&format!("next {lane} {number}"));
+    }
+
+    fn set_count(&mut self, channel: usize, number: u64) {
+        self.writer.counts[channel] = number;
+        self.line(&format!("count {channel} {number}"));
+    }
+
+    fn writer_state(&mut self) {
+        let lane = self.any_lane();
+        let channel = self.setting.lanes[lane].channel;
+        let modulus = self.setting.channels[channel].modulus();
+        if self.random.percent(70) {
+            let any = self.random.below(modulus);
+            let count = self.random.pick(&[0, 1, modulus - 1, modulus - 1, modulus - 2, any, any, 255 % modulus]);
+            let count = if self.random.one_in(8) { modulus + self.random.below(2) } else { count };
+            self.set_count(channel, count);
+        } else {
+            let next = self.random.pick(&[0, 1, 1, 2, 3, 32_767, 32_768, 65_535]);
+            self.set_next(lane, next);
+        }
+    }
+
+    fn reader_state(&mut self) {
+        let lane = self.any_lane();
+        let channel = self.setting.lanes[lane].channel;
+        let modulus = self.setting.channels[channel].modulus();
+        match self.random.below(10) {
+            0 => self.expect_line(channel, None),
+            1 => {
+                // Not valid: a read is refused 1, and then the state is put right.
+                self.expect_line(channel, Some(modulus));
+                self.read_some_frame();
+                self.expect_line(channel, Some(modulus - 1));
+            }
+            2 => {
+                let longest = self.setting.lanes[lane].longest as usize;
+                if longest <= 700 || self.random.one_in(8) {
+                    let octets = self.random.octets(longest);
+                    self.held_line(lane, &octets);
+                    self.read_some_frame();
+                    self.held_line(lane, &octets[..longest - 1]);
+                }
+            }
+            3..=5 => {
+                let any = self.random.below(modulus);
+                let expected = self.random.pick(&[0, modulus - 1, self.writer.counts[channel] % modulus, any]);
+                self.expect_line(channel, Some(expected));
+            }
+            _ => {
+                let octets = self.held_octets(lane);
+                self.held_line(lane, &octets);
+            }
+        }
+    }
+
+    fn held_line(&mut self, lane: usize, octets: &[u8]) {
+        self.line(&format!("held {lane} {}", hex(octets)));
+    }
+
+    /// Octets of every kind that a lane may be said to hold, fewer than its longest.
+    fn held_octets(&mut self, lane: usize) -> Vec<u8> {
+        let zone = self.zone_of(lane);
+        let longest = self.setting.lanes[lane].longest as usize;
+        let limit = longest - 1;
+        let mut octets = match self.setting.lanes[lane].kind {
+            Kind::Access => {
+                let near = limit.saturating_sub(self.random.below(zone as u64 + 2) as usize);
+                let length = self.random.pick(&[0, 1, limit, near, limit.min(20)]);
+                let affordable = if length > 700 && !self.random.one_in(8) { 20 } else { length };
+                self.random.octets(affordable)
+            }
+            Kind::Packet => {
+                let (packet, cut) = self.cut_packet(longest, zone);
+                packet[..cut].to_vec()
+            }
+        };
+        octets.truncate(limit);
+        octets
+    }
+
+    /// A packet of any kind, and where it is cut: anywhere, or after its last octet.
+    fn cut_packet(&mut self, longest: usize, zone: usize) -> (Vec<u8>, usize) {
+        let random = &mut self.random;
+        let length = packet_length(random, longest, zone);
+        let mut packet = match random.below(12) {
+            0..=5 => space_packet(random, length, false),
+            6..=7 => space_packet(random, length, true),
+            8 => {
+                let idle = random.one_in(3);
+                space_packet(random, longest + 1, idle)
+            }
+            9 => {
+                let mut packet = space_packet(random, length, false);
+                packet[0] = unreadable_octet(random);
+                packet
+            }
+            10 => {
+                let mut packet = space_packet(random, length, false);
+                packet[0] = IDLE_OCTET;
+                packet
+            }
+            _ => {
+                // Already whole before its end.
+                let mut packet = space_packet(random, length, false);
+                let more = random.between(1, 9) as usize;
+                packet.extend(random.octets(more));
+                packet
+            }
+        };
+        if packet.len() > 1500 && !random.one_in(4) {
+            let (number, shorter) = (random.between(7, 60), random.octets(2));
+            packet.truncate(number as usize);
+            packet[4] = shorter[0] & 0x0F;
+            packet[5] = shorter[1];
+        }
+        let last = packet.len() as u64;
+        let anywhere = random.between(1, last);
+        let before_end = last - random.below(last.min(8));
+        let head = random.between(1, 6).min(last);
+        let cut = random.pick(&[head, head, anywhere, anywhere, before_end, last]);
+        (packet, cut as usize)
+    }
+
+    // Reading
+
+    fn some_frame(&mut self) -> Vec<u8> {
+        if self.frames.is_empty() {
+            let lane = self.any_lane();
+            let zone = self.zone_of(lane);
+            let zone_octets = vec![IDLE_OCTET; zone];
+            return self.lane_frame(lane, 0, 0, NO_POINTER, &zone_octets);
+        }
+        let place = self.random.below(self.frames.len() as u64) as usize;
+        self.frames[place].clone()
+    }
+
+    fn read_some_frame(&mut self) {
+        let frame = self.some_frame();
+        self.read_line(&frame);
+    }
+
+    /// One octet changed, or some at the end gone or more.
+    fn damage(&mut self, frame: &[u8]) -> Vec<u8> {
+        let mut damaged = frame.to_vec();
+        match self.random.below(10) {
+            0 => damaged.truncate(frame.len() - 1),
+            1 => damaged.truncate(self.random.below(frame.len() as u64) as usize),
+            2 => damaged.push(0),
+            3 => {
+                let more = self.random.between(1, 40) as usize;
+                damaged.extend(self.random.octets(more));
+            }
+            _ => {
+                let near_head = self.random.below(frame.len().min(16) as u64);
+                let anywhere = self.random.below(frame.len() as u64);
+                let place = self.random.pick(&[near_head, anywhere]) as usize;
+                let bit = 1 << self.random.below(8);
+                damaged[place] ^= self.random.pick(&[bit, bit, 0xFF]);
+            }
+        }
+        damaged
+    }
+
+    fn damaged_read(&mut self) {
+        let frame = self.some_frame();
+        let damaged = self.damage(&frame);
+        self.read_line(&damaged);
+    }
+
+    fn odd_area_read(&mut self) {
+        let frame = self.some_frame();
+        let units = self.random.pick(&[UNIT_AREA, UNIT_AREA - 1, UNIT_AREA + 1, 0]);
+        let records = self.random.pick(&[RECORD_AREA, RECORD_AREA, RECORD_AREA - 1, RECORD_AREA + 16, 0]);
+        let held = self.random.pick(&[HELD_AREA, HELD_AREA, HELD_AREA - 1, HELD_AREA + 1, 0]);
+        let frame = if self.random.one_in(4) { self.damage(&frame) } else { frame };
+        self.calls += 1;
+        let line = format!("read {} {units} {records} {held}", hex(&frame));
+        self.line(&line);
+    }
+
+    /// Puts the check right where there is one, most of the time.
+    fn seal(&mut self, frame: &mut [u8]) {
+        if self.setting.check && !self.random.one_in(25) {
+            put_frame_check(frame);
+        }
+    }
+
+    /// A written frame with one field, sometimes two, set to other values.
+    fn forged_field_read(&mut self) {
+        let mut frame = self.some_frame();
+        let mut header = Header::from_octets(&frame);
+        let count_length = usize::from(header.count_length);
+        for _ in 0..self.random.pick(&[1, 1, 1, 2]) {
+            self.forge_header_field(&mut header);
+        }
+        frame[..7].copy_from_slice(&header.to_octets());
+        let data_field = 7 + count_length + self.setting.insert as usize;
+        match self.random.below(10) {
+            0 => frame[data_field] = self.random.octet(),
+            1 => frame[data_field] ^= self.random.pick(&[0x20, 0x40, 0x60, 0x80, 0x01, 0x10]),
+            2..=3 => {
+                let any = self.random.next() as u16;
+                let near = self.random.below(64) as u16;
+                let pointer = self.random.pick(&[0, near, near, 0xFFFF, 0xFFFE, any]);
+                frame[data_field + 1..data_field + 3].copy_from_slice(&pointer.to_be_bytes());
+            }
+            4 => {
+                let octets = self.random.octets(count_length);
+                frame[7..7 + count_length].copy_from_slice(&octets);
+            }
+            _ => {}
+        }
+        self.seal(&mut frame);
+        self.read_line(&frame);
+    }
+
+    fn forge_header_field(&mut self, header: &mut Header) {
+        let random = &mut self.random;
+        let other = random.below(self.setting.channels.len() as u64) as usize;
+        let other_lane = random.below(self.setting.lanes.len() as u64) as usize;
+        match random.below(16) {
+            0 => header.version = random.below(16) as u8,
+            1 => header.spacecraft ^= 1 << random.below(16),
+            2 => header.destination = !header.destination,
+            3 => header.virtual_channel = random.below(64) as u8,
+            4 => header.virtual_channel = 63,
+            5 => header.virtual_channel = self.setting.channels[other].virtual_channel as u8,
+            6 => header.map = random.below(16) as u8,
+            7 => header.map = self.setting.lanes[other_lane].map as u8,
+            8 => header.end_of_header = true,
+            9 => {
+                let any = random.next() as u16;
+                header.length = random.pick(&[header.length.wrapping_add(1), header.length.wrapping_sub(1), any]);
+            }
+            10 => header.bypass = !header.bypass,
+            11 => {
+                header.command = true;
+                header.bypass |= random.percent(70);
+            }
+            12 => header.spare = random.below(4) as u8,
+            13 => header.ocf = !header.ocf,
+            14 => header.count_length = random.below(8) as u8,
+            _ => {}
+        }
+    }
+
+    /// A frame of a lane from its parts, sealed for certain; `rule` in its three bits.
+    fn lane_frame(&mut self, lane: usize, count: u64, rule: u8, pointer: u16, zone: &[u8]) -> Vec<u8> {
+        let insert = self.insert_octets();
+        let ocf = self.ocf_octets(lane);
+        let lane = &self.setting.lanes[lane];
+        let channel = &self.setting.channels[lane.channel];
+        let header = Header {
+            version: 0b1100,
+            spacecraft: self.setting.spacecraft as u16,
+            destination: self.setting.destination,
+            virtual_channel: channel.virtual_channel as u8,
+            map: lane.map as u8,
+            end_of_header: false,
+            length: (self.setting.frame_length - 1) as u16,
+            bypass: channel.service == 1,
+            command: false,
+            spare: 0,
+            ocf: channel.ocf,
+            count_length: channel.count_length as u8,
+        };
+        let mut frame = header.to_octets().to_vec();
+        frame.extend(&count.to_be_bytes()[8 - channel.count_length as usize..]);
+        frame.extend(insert);
+        frame.push(rule << 5 | lane.upid as u8);
+        frame.extend(pointer.to_be_bytes());
+        frame.extend(zone);
+        frame.extend(ocf);
+        if self.setting.check {
+            frame.extend([0, 0]);
+            put_frame_check(&mut frame);
+        }
+        frame
+    }
+
+    /// A count for a forged frame, and mostly the reader made to expect it.
+    fn aligned_count(&mut self, channel: usize) -> u64 {
+        let modulus = self.setting.channels[channel].modulus();
+        let any = self.random.below(modulus);
+        let count = self.random.pick(&[0, modulus - 1, modulus - 2, any, any]);
+        match self.random.below(20) {
+            0 => {}
+            1 => self.expect_line(channel, None),
+            2 => self.expect_line(channel, Some((count + 1) % modulus)),
+            _ => self.expect_line(channel, Some(count)),
+        }
+        count
+    }
+
+    /// A lane made to hold octets, then frames that carry them on (or do not).
+    fn forged_lane_read(&mut self) {
+        let lane = self.any_lane();
+        match self.setting.lanes[lane].kind {
+            Kind::Packet => self.forged_packet_read(lane),
+            Kind::Access => self.forged_access_read(lane),
+        }
+    }
+
+    fn forged_packet_read(&mut self, lane: usize) {
+        let zone = self.zone_of(lane);
+        let longest = self.setting.lanes[lane].longest as usize;
+        let channel = self.setting.lanes[lane].channel;
+        let modulus = self.setting.channels[channel].modulus();
+        let (packet, cut) = self.cut_packet(longest, zone);
+        let cut = cut.min(longest - 1);
+        let mut rest = &packet[cut..];
+        if self.random.percent(85) {
+            self.held_line(lane, &packet[..cut]);
+        } else {
+            self.held_line(lane, &[]);
+        }
+        let mut count = self.aligned_count(channel);
+        for _ in 0..3 {
+            let part = rest.len().min(zone);
+            let mut octets = rest[..part].to_vec();
+            octets.extend(packet_stream(&mut self.random, longest, zone, zone - part));
+            let pointer = if part < zone { part as u16 } else { NO_POINTER };
+            let pointer = self.moved_pointer(pointer, zone);
+            let frame = self.lane_frame(lane, count, 0, pointer, &octets);
+            self.read_line(&frame);
+            rest = &rest[part..];
+            count = (count + 1) % modulus;
+            if self.random.one_in(3) || zone > 700 {
+                break;
+            }
+        }
+    }
+
+    /// The pointer as it is, mostly; else a near or far one.
+    fn moved_pointer(&mut self, pointer: u16, zone: usize) -> u16 {
+        if self.random.percent(65) {
+            return pointer;
+        }
+        let any = self.random.below(zone as u64) as u16;
+        let last = (zone - 1) as u16;
+        self.random.pick(&[
+            0,
+            0,
+            pointer.wrapping_add(1),
+            pointer.wrapping_sub(1),
+            any,
+            any,
+            last,
+            zone as u16,
+            NO_POINTER,
+            NO_POINTER,
+            NO_POINTER - 1,
+        ])
+    }
+
+    fn forged_access_read(&mut self, lane: usize) {
+        let zone = self.zone_of(lane);
+        let channel = self.setting.lanes[lane].channel;
+        let modulus = self.setting.channels[channel].modulus();
+        let octets = self.held_octets(lane);
+        self.held_line(lane, &octets);
+        let mut count = self.aligned_count(channel);
+        for _ in 0..3 {
+            let rule = self.random.pick(&[1, 2, 2, 2, 2, 2]);
+            let rule = if self.random.one_in(20) { self.random.below(8) as u8 } else { rule };
+            let any = self.random.below(zone as u64) as u16;
+            let last = (zone - 1) as u16;
+            // Where the unit would reach its lane's longest.
+            let left = (self.setting.lanes[lane].longest as usize).saturating_sub(octets.len()).min(zone) as u16;
+            let pointer = self.random.pick(&[NO_POINTER, NO_POINTER, any, last, left, left.saturating_sub(1), 0]);
+            let zone_octets = self.random.octets(zone);
+            let frame = self.lane_frame(lane, count, rule, pointer, &zone_octets);
+            self.read_line(&frame);
+            count = (count + 1) % modulus;
+            if self.random.one_in(3) || zone > 700 {
+                break;
+            }
+        }
+    }
+
+    /// Frames that are counted or idle: another map, a command, virtual channel 63; and random octets.
+    fn other_frame_read(&mut self) {
+        let lane = self.any_lane();
+        let zone = self.zone_of(lane);
+        let channel = self.setting.lanes[lane].channel;
+        let octets = self.held_octets(lane);
+        self.held_line(lane, &octets);
+        let count = self.aligned_count(channel);
+        let zone_octets = self.random.octets(zone);
+        let any = self.random.next() as u16;
+        let rule = self.random.below(8) as u8;
+        let mut frame = self.lane_frame(lane, count, rule, any, &zone_octets);
+        let mut header = Header::from_octets(&frame);
+        match self.random.below(4) {
+            0 => header.map = self.random.below(16) as u8,
+            1 => {
+                header.command = true;
+                header.bypass |= self.random.one_in(2);
+            }
+            2 => {
+                header.virtual_channel = 63;
+                header.count_length = self.random.below(8) as u8;
+                header.ocf = self.random.one_in(2);
+                header.bypass = self.random.one_in(2);
+                header.command = self.random.one_in(4);
+            }
+            _ => {
+                // Only the length is right.
+                let length = frame.len();
+                frame = self.random.octets(length);
+                header = Header::from_octets(&frame);
+                header.version = 0b1100;
+                header.spacecraft = self.setting.spacecraft as u16;
+                header.destination = self.setting.destination;
+                header.end_of_header = self.random.one_in(4);
+                header.length = (length - 1) as u16;
+                header.spare = self.random.pick(&[0, 0, 0, 1]);
+            }
+        }
+        frame[..7].copy_from_slice(&header.to_octets());
+        self.seal(&mut frame);
+        self.read_line(&frame);
+    }
+}

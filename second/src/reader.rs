@@ -1,0 +1,373 @@
+//! The reader (document 01, "Reading"; refusals 1 to 12).
+
+use std::cmp::Ordering;
+
+use crate::frame::{
+    big_endian, frame_check_holds, put_big_endian, Header, NO_POINTER, RULE_ACCESS_CONTINUES, RULE_ACCESS_START,
+    RULE_PACKETS,
+};
+use crate::packet::{measure, Measure};
+use crate::setting::{Channel, Kind, Lane, Setting};
+
+pub const HELD_AREA: usize = 65_536;
+/// A lane's part of the held area.
+pub const HELD_PART: usize = 8_192;
+pub const UNIT_AREA: usize = 12_288;
+pub const RECORD_AREA: usize = 9_600;
+pub const RECORD: usize = 16;
+
+/// The reader's state. The default is the state of zeros, which is not valid.
+#[derive(Clone, PartialEq, Eq, Debug, Default)]
+pub struct Reader {
+    pub setting: Setting,
+    /// The count each channel expects, if any.
+    pub expected: Vec<Option<u64>>,
+    /// How many octets each lane holds.
+    pub held: Vec<usize>,
+}
+
+#[derive(Clone, Copy, PartialEq, Eq, Debug)]
+pub enum Class {
+    Idle,
+    Counted,
+    Read,
+    Refused(u8),
+}
+
+/// The answer; refused and idle frames have zero counts.
+#[derive(Clone, Copy, PartialEq, Eq, Debug)]
+pub struct Answer {
+    pub class: Class,
+    pub units: u64,
+    pub octets: u64,
+    pub missing: u64,
+    pub idle: u64,
+    pub fill: u64,
+    pub dropped: u64,
+    /// Where the frame belongs, for the programs' totals: its channel if counted or read, its lane if read.
+    pub channel: Option<usize>,
+    pub lane: Option<usize>,
+}
+
+/// The three areas that a call lends.
+pub struct Areas<'a> {
+    pub held: &'a mut [u8],
+    pub units: &'a mut [u8],
+    pub records: &'a mut [u8],
+}
+
+/// A frame that passed the checks.
+enum Passed {
+    Idle,
+    Counted { channel: usize, count: u64 },
+    Read { channel: usize, count: u64, lane: usize, rule: u8, pointer: u16 },
+}
+
+/// What one data field gave, apart from what a gap dropped.
+#[derive(Default)]
+struct Harvest {
+    units: Vec<Vec<u8>>,
+    held: Vec<u8>,
+    idle: usize,
+    fill: usize,
+    dropped: usize,
+}
+
+impl Answer {
+    fn empty(class: Class) -> Answer {
+        Answer { class, units: 0, octets: 0, missing: 0, idle: 0, fill: 0, dropped: 0, channel: None, lane: None }
+    }
+}
+
+impl Reader {
+    /// Set-up: a fresh reader, or refusal 1.
+    pub fn fresh(setting: &Setting) -> Result<Reader, u8> {
+        if !setting.valid() {
+            return Err(1);
+        }
+        Ok(Reader {
+            expected: vec![None; setting.channels.len()],
+            held: vec![0; setting.lanes.len()],
+            setting: setting.clone(),
+        })
+    }
+
+    pub fn valid(&self) -> bool {
+        self.setting.valid()
+            && self
+                .setting
+                .channels
+                .iter()
+                .zip(&self.expected)
+                .all(|(channel, expected)| expected.is_none_or(|count| count < channel.modulus()))
+            && self.setting.lanes.iter().zip(&self.held).all(|(lane, &held)| (held as u64) < lane.longest)
+    }
+
+    pub fn read(&mut self, frame: &[u8], areas: &mut Areas) -> Answer {
+        match self.judge(frame, areas) {
+            Err(number) => Answer::empty(Class::Refused(number)),
+            Ok(Passed::Idle) => Answer::empty(Class::Idle),
+            Ok(Passed::Counted { channel, count }) => {
+                let (missing, dropped) = self.take_count(channel, count);
+                Answer { missing, dropped: dropped as u64, channel: Some(channel), ..Answer::empty(Class::Counted) }
+            }
+            Ok(Passed::Read { channel, count, lane, rule, pointer }) => {
+                let (missing, gap_dropped) = self.take_count(channel, count);
+                let harvest = self.read_data_field(frame, lane, rule, pointer, areas.held);
+                self.keep(lane, &harvest.held, areas.held);
+                let octets = self.hand_out(lane, count, &harvest.units, areas);
+                Answer {
+                    class: Class::Read,
+                    units: harvest.units.len() as u64,
+                    octets: octets as u64,
+                    missing,
+                    idle: harvest.idle as u64,
+                    fill: harvest.fill as u64,
+                    dropped: (gap_dropped + harvest.dropped) as u64,
+                    channel: Some(channel),
+                    lane: Some(lane),
+                }
+            }
+        }
+    }
+
+    /// The first refusal that applies, or what the frame is.
+    fn judge(&self, frame: &[u8], areas: &Areas) -> Result<Passed, u8> {
+        let setting = &self.setting;
+        if !self.valid() {
+            return Err(1);
+        }
+        if areas.held.len() != HELD_AREA || areas.units.len() < UNIT_AREA || areas.records.len() < RECORD_AREA {
+            return Err(2);
+        }
+        if frame.len() as u64 != setting.frame_length {
+            return Err(3);
+        }
+        if setting.check && !frame_check_holds(frame) {
+            return Err(4);
+        }
+        let header = Header::from_octets(frame);
+        if header.version != 0b1100 {
+            return Err(5);
+        }
+        if u64::from(header.spacecraft) != setting.spacecraft || header.destination != setting.destination {
+            return Err(6);
+        }
+        if header.end_of_header {
+            return Err(7);
+        }
+        let length_wrong = u64::from(header.length) != setting.frame_length - 1;
+        if length_wrong || header.spare != 0b00 || (header.command && !header.bypass) {
+            return Err(8);
+        }
+        if header.virtual_channel == 63 {
+            return Ok(Passed::Idle);
+        }
+        self.judge_channel(frame, &header)
+    }
+
+    /// Refusals 9 to 12, of a virtual channel that is not 63.
+    fn judge_channel(&self, frame: &[u8], header: &Header) -> Result<Passed, u8> {
+        let setting = &self.setting;
+        let place = setting.find_channel(u64::from(header.virtual_channel), u64::from(header.bypass)).ok_or(9)?;
+        let channel = &setting.channels[place];
+        if u64::from(header.count_length) != channel.count_length {
+            return Err(10);
+        }
+        if header.ocf != channel.ocf {
+            return Err(11);
+        }
+        let count = big_endian(&frame[7..7 + channel.count_length as usize]);
+        let counted = Passed::Counted { channel: place, count };
+        if header.command {
+            return Ok(counted);
+        }
+        let Some(lane) = setting.find_lane(place, u64::from(header.map)) else { return Ok(counted) };
+        let (rule, pointer) = judge_data_field(setting, channel, &setting.lanes[lane], frame)?;
+        Ok(Passed::Read { channel: place, count, lane, rule, pointer })
+    }
+
+    /// Takes a frame's count; a gap drops what all lanes of the channel hold. Returns missing and dropped.
+    fn take_count(&mut self, place: usize, count: u64) -> (u64, usize) {
+        let modulus = self.setting.channels[place].modulus();
+        let missing = match self.expected[place] {
+            None => 0,
+            Some(expected) => (count + modulus - expected) % modulus,
+        };
+        self.expected[place] = Some((count + 1) % modulus);
+        let mut dropped = 0;
+        if missing != 0 {
+            for (lane, held) in self.setting.lanes.iter().zip(&mut self.held) {
+                if lane.channel == place {
+                    dropped += *held;
+                    *held = 0;
+                }
+            }
+        }
+        (missing, dropped)
+    }
+
+    fn read_data_field(&self, frame: &[u8], place: usize, rule: u8, pointer: u16, held_area: &[u8]) -> Harvest {
+        let lane = &self.setting.lanes[place];
+        let channel = &self.setting.channels[lane.channel];
+        let zone_place = self.setting.zone_place(channel);
+        let zone = &frame[zone_place..zone_place + self.setting.zone_length(channel)];
+        let held = &held_area[place * HELD_PART..place * HELD_PART + self.held[place]];
+        let pointer = if pointer == NO_POINTER { None } else { Some(usize::from(pointer)) };
+        match lane.kind {
+            Kind::Packet => read_packets(held, zone, pointer, lane.longest as usize),
+            Kind::Access => read_access(held, zone, rule, pointer, lane.longest as usize),
+        }
+    }
+
+    /// The lane now holds these octets; no other octet of the held area changes.
+    fn keep(&mut self, place: usize, octets: &[u8], held_area: &mut [u8]) {
+        let begin = place * HELD_PART;
+        held_area[begin..begin + octets.len()].copy_from_slice(octets);
+        self.held[place] = octets.len();
+    }
+
+    /// Puts the units back to back and a record for each; returns the unit octets.
+    fn hand_out(&self, place: usize, count: u64, units: &[Vec<u8>], areas: &mut Areas) -> usize {
+        let lane = &self.setting.lanes[place];
+        let channel = &self.setting.channels[lane.channel];
+        let mut start = 0;
+        for (unit, record) in units.iter().zip(areas.records.chunks_exact_mut(RECORD)) {
+            areas.units[start..start + unit.len()].copy_from_slice(unit);
+            record[0] = place as u8;
+            record[1] = channel.virtual_channel as u8;
+            record[2] = lane.map as u8;
+            record[3] = channel.service as u8;
+            put_big_endian(&mut record[4..8], start as u64);
+            put_big_endian(&mut record[8..12], unit.len() as u64);
+            put_big_endian(&mut record[12..16], count % (1 << 32));
+            start += unit.len();
+        }
+        start
+    }
+}
+
+/// Refusal 12, or the construction rule and the pointer.
+fn judge_data_field(setting: &Setting, channel: &Channel, lane: &Lane, frame: &[u8]) -> Result<(u8, u16), u8> {
+    let place = setting.data_field_place(channel);
+    let rule = frame[place] >> 5;
+    let upid = frame[place] & 0x1F;
+    let pointer = big_endian(&frame[place + 1..place + 3]) as u16;
+    let rule_fits = match lane.kind {
+        Kind::Packet => rule == RULE_PACKETS,
+        Kind::Access => rule == RULE_ACCESS_START || rule == RULE_ACCESS_CONTINUES,
+    };
+    let pointer_fits = usize::from(pointer) < setting.zone_length(channel) || pointer == NO_POINTER;
+    if rule_fits && u64::from(upid) == lane.upid && pointer_fits {
+        Ok((rule, pointer))
+    } else {
+        Err(12)
+    }
+}
+
+/// What becomes of a held packet when the lead follows it.
+enum Fate {
+    Ends { idle: bool },
+    GoesOn,
+    Fails,
+}
+
+/// A packet lane's zone; no pointer is FFFF.
+fn read_packets(held: &[u8], zone: &[u8], pointer: Option<usize>, longest: usize) -> Harvest {
+    let mut harvest = Harvest::default();
+    let lead = &zone[..pointer.unwrap_or(zone.len())];
+    if held.is_empty() {
+        harvest.dropped += lead.len();
+    } else {
+        let joined = [held, lead].concat();
+        match fate_of_held(&joined, pointer, longest) {
+            Fate::Ends { idle: true } => harvest.idle += joined.len(),
+            Fate::Ends { idle: false } => harvest.units.push(joined),
+            Fate::GoesOn => harvest.held = joined,
+            Fate::Fails => harvest.dropped += joined.len(),
+        }
+    }
+    if let Some(first) = pointer {
+        walk_packets(&zone[first..], longest, &mut harvest);
+    }
+    harvest
+}
+
+/// `joined` is the held octets and the lead. Only without a pointer may the packet go on.
+fn fate_of_held(joined: &[u8], pointer: Option<usize>, longest: usize) -> Fate {
+    if pointer == Some(0) {
+        return Fate::Fails;
+    }
+    let longer_than_joined = if pointer.is_none() { Fate::GoesOn } else { Fate::Fails };
+    match measure(joined) {
+        Measure::Unreadable => Fate::Fails,
+        Measure::TooFew => longer_than_joined,
+        Measure::Long { length, .. } if length > longest => Fate::Fails,
+        Measure::Long { length, idle } => match length.cmp(&joined.len()) {
+            Ordering::Less => Fate::Fails,
+            Ordering::Equal => Fate::Ends { idle },
+            Ordering::Greater => longer_than_joined,
+        },
+    }
+}
+
+/// From the pointer on: packets one after another.
+fn walk_packets(octets: &[u8], longest: usize, harvest: &mut Harvest) {
+    let mut rest = octets;
+    while !rest.is_empty() {
+        match measure(rest) {
+            Measure::Unreadable => {
+                harvest.dropped += rest.len();
+                return;
+            }
+            Measure::Long { length, .. } if length > longest => {
+                harvest.dropped += rest.len();
+                return;
+            }
+            Measure::TooFew => {
+                harvest.held = rest.to_vec();
+                return;
+            }
+            Measure::Long { length, .. } if length > rest.len() => {
+                harvest.held = rest.to_vec();
+                return;
+            }
+            Measure::Long { length, idle } => {
+                if idle {
+                    harvest.idle += length;
+                } else {
+                    harvest.units.push(rest[..length].to_vec());
+                }
+                rest = &rest[length..];
+            }
+        }
+    }
+}
+
+/// An access lane's zone; no pointer is FFFF.
+fn read_access(held: &[u8], zone: &[u8], rule: u8, pointer: Option<usize>, longest: usize) -> Harvest {
+    let mut harvest = Harvest::default();
+    let octets = match pointer {
+        Some(last) => &zone[..last + 1],
+        None => zone,
+    };
+    harvest.fill = zone.len() - octets.len();
+    let unit = if rule == RULE_ACCESS_START {
+        harvest.dropped += held.len();
+        octets.to_vec()
+    } else if held.is_empty() {
+        harvest.dropped += octets.len();
+        return harvest;
+    } else {
+        [held, octets].concat()
+    };
+    let finished = pointer.is_some();
+    if finished && unit.len() <= longest {
+        harvest.units.push(unit);
+    } else if !finished && unit.len() < longest {
+        harvest.held = unit;
+    } else {
+        harvest.dropped += unit.len();
+    }
+    harvest
+}

@@ -1,0 +1,368 @@
+//! Document 01's worked frames (cases 1 to 11), the published values of the frame check, and what must not change.
+
+use crate::calls;
+use crate::demand3;
+use crate::frame::frame_check;
+use crate::random;
+use crate::reader::{Answer, Areas, Class, Reader, HELD_AREA, HELD_PART, RECORD_AREA, UNIT_AREA};
+use crate::setting::{Channel, Kind, Lane, Setting};
+use crate::text::{setting_from_file, setting_to_lines, unhex};
+use crate::writer::{Lent, Writer};
+
+/// The setting of the worked frames.
+fn worked_setting() -> Setting {
+    Setting {
+        frame_length: 32,
+        spacecraft: 42,
+        destination: false,
+        insert: 0,
+        check: false,
+        channels: vec![Channel { virtual_channel: 3, service: 0, count_length: 1, ocf: false }],
+        lanes: vec![Lane { channel: 0, map: 5, kind: Kind::Packet, longest: 64, upid: 0 }],
+    }
+}
+
+fn access_setting(longest: u64) -> Setting {
+    let mut setting = worked_setting();
+    setting.lanes[0] = Lane { channel: 0, map: 5, kind: Kind::Access, longest, upid: 5 };
+    setting
+}
+
+fn octets(hex_with_spaces: &str) -> Vec<u8> {
+    unhex(&hex_with_spaces.replace(' ', "")).unwrap()
+}
+
+/// A Space Packet of so many octets in all.
+fn packet(length: usize) -> Vec<u8> {
+    let mut octets = vec![0x00, 0x01, 0xC0, 0x00, 0, (length - 7) as u8];
+    octets.resize(length, 0xAA);
+    octets
+}
+
+fn frames_of(setting: &Setting, batch: &[u8]) -> Vec<Vec<u8>> {
+    let mut writer = Writer::fresh(setting).unwrap();
+    let mut frames = Vec::new();
+    loop {
+        let mut area = vec![0x55; 35];
+        writer.write(&Lent { lane: 0, batch, insert: &[], ocf: &[] }, &mut area).unwrap();
+        assert_eq!(area[32..], [0x55; 3]);
+        area.truncate(32);
+        frames.push(area);
+        if writer.next[0] == 0 {
+            return frames;
+        }
+    }
+}
+
+struct End {
+    reader: Reader,
+    held: Vec<u8>,
+    units: Vec<u8>,
+    records: Vec<u8>,
+}
+
+impl End {
+    fn fresh(setting: &Setting) -> End {
+        End {
+            reader: Reader::fresh(setting).unwrap(),
+            held: vec![0x55; HELD_AREA],
+            units: vec![0x55; UNIT_AREA],
+            records: vec![0x55; RECORD_AREA],
+        }
+    }
+
+    fn read(&mut self, frame: &[u8]) -> Answer {
+        self.units.fill(0x55);
+        self.records.fill(0x55);
+        let areas = &mut Areas { held: &mut self.held, units: &mut self.units, records: &mut self.records };
+        let answer = self.reader.read(frame, areas);
+        assert!(self.units[answer.octets as usize..].iter().all(|&octet| octet == 0x55));
+        assert!(self.records[answer.units as usize * 16..].iter().all(|&octet| octet == 0x55));
+        answer
+    }
+}
+
+fn case_2_batch() -> Vec<u8> {
+    octets("00 01 C0 00 00 03 A1 A2 A3 A4 00 01 C0 01 00 0B B1 B2 B3 B4 B5 B6 B7 B8 B9 BA BB BC")
+}
+
+fn with_count(frame: &[u8], count: u8) -> Vec<u8> {
+    let mut frame = frame.to_vec();
+    frame[7] = count;
+    frame
+}
+
+#[test]
+fn cases_1_to_3_the_frames() {
+    let frames = frames_of(&worked_setting(), &case_2_batch());
+    assert_eq!(frames.len(), 2);
+    assert_eq!(frames[0][..4], [0xC0, 0x02, 0xA0, 0x6A]);
+    let zone_0 = "00 01 C0 00 00 03 A1 A2 A3 A4 00 01 C0 01 00 0B B1 B2 B3 B4 B5";
+    assert_eq!(frames[0], octets(&format!("C0 02 A0 6A 00 1F 01 00 00 00 00 {zone_0}")));
+    let zone_1 = "B6 B7 B8 B9 BA BB BC".to_string() + &" E0".repeat(14);
+    assert_eq!(frames[1], octets(&format!("C0 02 A0 6A 00 1F 01 01 00 00 07 {zone_1}")));
+}
+
+#[test]
+fn case_4_read_both() {
+    let frames = frames_of(&worked_setting(), &case_2_batch());
+    let mut end = End::fresh(&worked_setting());
+    let first = end.read(&frames[0]);
+    assert_eq!((first.class, first.units, first.octets, first.dropped), (Class::Read, 1, 10, 0));
+    assert_eq!(end.records[..16], octets("00 03 05 00 00000000 0000000A 00000000"));
+    assert_eq!(end.units[..10], case_2_batch()[..10]);
+    assert_eq!(end.reader.held, [11]);
+    assert_eq!(end.held[..11], case_2_batch()[10..21]);
+    let second = end.read(&frames[1]);
+    assert_eq!((second.units, second.octets, second.idle, second.missing), (1, 18, 14, 0));
+    assert_eq!(end.records[..16], octets("00 03 05 00 00000000 00000012 00000001"));
+    assert_eq!(end.units[..18], case_2_batch()[10..]);
+    // Nothing is held any more, and the held area is as it was.
+    assert_eq!(end.reader.held, [0]);
+    assert_eq!(end.held[..11], case_2_batch()[10..21]);
+    assert!(end.held[11..].iter().all(|&octet| octet == 0x55));
+}
+
+#[test]
+fn case_5_frame_1_alone() {
+    let frames = frames_of(&worked_setting(), &case_2_batch());
+    let answer = End::fresh(&worked_setting()).read(&frames[1]);
+    assert_eq!((answer.units, answer.dropped, answer.idle, answer.missing), (0, 7, 14, 0));
+}
+
+#[test]
+fn case_6_a_gap() {
+    let frames = frames_of(&worked_setting(), &case_2_batch());
+    let mut end = End::fresh(&worked_setting());
+    end.read(&frames[0]);
+    let answer = end.read(&with_count(&frames[1], 2));
+    assert_eq!((answer.missing, answer.dropped, answer.units), (1, 18, 0));
+}
+
+#[test]
+fn case_7_pointers() {
+    let pointers = |length| -> Vec<u16> {
+        let frames = frames_of(&worked_setting(), &packet(length));
+        frames.iter().map(|frame| u16::from(frame[9]) << 8 | u16::from(frame[10])).collect()
+    };
+    assert_eq!(pointers(60), [0, 0xFFFF, 18]);
+    assert_eq!(pointers(63), [0, 0xFFFF, 0xFFFF]);
+    for length in [60, 63] {
+        let mut end = End::fresh(&worked_setting());
+        let units: Vec<u64> =
+            frames_of(&worked_setting(), &packet(length)).iter().map(|frame| end.read(frame).units).collect();
+        assert_eq!(units, [0, 0, 1]);
+        assert_eq!(end.units[..length], packet(length));
+    }
+}
+
+#[test]
+fn case_8_access() {
+    let setting = access_setting(64);
+    let one = frames_of(&setting, &[0x77; 21]);
+    assert_eq!(one.len(), 1);
+    assert_eq!(one[0][8..11], [0x25, 0x00, 0x14]);
+    let two = frames_of(&setting, &[0x77; 22]);
+    assert_eq!(two.len(), 2);
+    assert_eq!(two[0][8..11], [0x25, 0xFF, 0xFF]);
+    assert_eq!(two[1][8..11], [0x45, 0x00, 0x00]);
+    assert_eq!(two[1][11], 0x77);
+    assert_eq!(two[1][12..], [0; 20]);
+    let mut end = End::fresh(&setting);
+    assert_eq!(end.read(&two[0]).units, 0);
+    let answer = end.read(&two[1]);
+    assert_eq!((answer.units, answer.octets, answer.fill, answer.dropped), (1, 22, 20, 0));
+}
+
+#[test]
+fn cases_9_and_10_counts() {
+    let frame = frames_of(&worked_setting(), &packet(7)).remove(0);
+    let missing = |counts: &[u8]| -> Vec<u64> {
+        let mut end = End::fresh(&worked_setting());
+        counts.iter().map(|&count| end.read(&with_count(&frame, count)).missing).collect()
+    };
+    assert_eq!(missing(&[254, 255, 0]), [0, 0, 0]);
+    assert_eq!(missing(&[255, 2]), [0, 2]);
+    assert_eq!(missing(&[5, 5]), [0, 255]);
+}
+
+#[test]
+fn case_11_edges() {
+    let mut frame = frames_of(&worked_setting(), &packet(7)).remove(0);
+    let mut end = End::fresh(&worked_setting());
+    frame[10] = 20;
+    assert_eq!(end.read(&frame).class, Class::Read);
+    frame[10] = 21;
+    assert_eq!(end.read(&frame).class, Class::Refused(12));
+    assert_eq!(end.read(&frame[..31]).class, Class::Refused(3));
+    assert_eq!(end.read(&[&frame[..], &[0]].concat()).class, Class::Refused(3));
+    let mut writer = Writer::fresh(&worked_setting()).unwrap();
+    let mut long = packet(64).repeat(511);
+    long.extend(packet(58));
+    long.extend(packet(7));
+    assert_eq!(long.len(), 32_769);
+    for batch in [&[], &long[..]] {
+        let lent = Lent { lane: 0, batch, insert: &[], ocf: &[] };
+        assert_eq!(writer.write(&lent, &mut [0; 32]), Err(14));
+    }
+    assert_eq!(writer, Writer::fresh(&worked_setting()).unwrap());
+}
+
+#[test]
+fn the_longest_batch_is_written() {
+    let mut batch = packet(64).repeat(511);
+    batch.extend(packet(57));
+    batch.extend(packet(7));
+    assert_eq!(batch.len(), 32_768);
+    assert_eq!(frames_of(&worked_setting(), &batch).len(), 32_768_usize.div_ceil(21));
+}
+
+#[test]
+fn the_listing_example() {
+    let frames = frames_of(&worked_setting(), &case_2_batch());
+    let mut end = End::fresh(&worked_setting());
+    let answers: Vec<(u64, u64)> = [&frames[0], &frames[1], &frames[1]]
+        .iter()
+        .map(|frame| end.read(frame))
+        .map(|answer| (answer.units, answer.missing))
+        .collect();
+    assert_eq!(answers, [(1, 0), (1, 0), (0, 255)]);
+}
+
+#[test]
+fn published_frame_checks() {
+    assert_eq!(frame_check(b"123456789"), 0x29B1);
+    assert_eq!(frame_check(&[0, 0]), 0x1D0F);
+    assert_eq!(frame_check(&[0, 0, 0]), 0xCC9C);
+    assert_eq!(frame_check(&octets("AB CD EF 01")), 0x04A2);
+    assert_eq!(frame_check(&octets("14 56 F8 9A 00 01")), 0x7FD5);
+    assert_eq!(frame_check(&[]), 0xFFFF);
+}
+
+#[test]
+fn states_of_zeros_are_not_valid() {
+    assert!(!Writer::default().valid());
+    assert!(!Reader::default().valid());
+}
+
+#[test]
+fn a_held_packet_of_each_fate() {
+    // Held octets, pointer, the zone's first octets; then units, idle, dropped, held.
+    let whole = packet(10);
+    let idle = [&[0x07, 0xFF, 0, 0, 0, 3][..], &[0; 4]].concat();
+    let fate = |held: &[u8], pointer: u16, zone_begin: &[u8]| {
+        let mut end = End::fresh(&worked_setting());
+        end.reader.held[0] = held.len();
+        end.held[..held.len()].copy_from_slice(held);
+        let mut frame = octets("C0 02 A0 6A 00 1F 01 00 00");
+        frame.extend(pointer.to_be_bytes());
+        frame.extend(zone_begin);
+        frame.resize(32, 0xE0);
+        let answer = end.read(&frame);
+        (answer.units, answer.idle, answer.dropped, end.reader.held[0])
+    };
+    assert_eq!(fate(&whole[..3], 7, &whole[3..]), (1, 14, 0, 0));
+    assert_eq!(fate(&idle[..3], 7, &idle[3..]), (0, 24, 0, 0));
+    assert_eq!(fate(&whole[..3], 8, &whole[3..]), (0, 13, 11, 0));
+    assert_eq!(fate(&whole[..3], 6, &whole[3..]), (0, 0, 9 + 15, 0));
+    assert_eq!(fate(&whole[..3], 0, &[]), (0, 21, 3, 0));
+    assert_eq!(fate(&whole, 0, &[]), (0, 21, 10, 0));
+    assert_eq!(fate(&whole[..3], 0xFFFF, &whole[3..]), (0, 0, 24, 0));
+    assert_eq!(fate(&packet(30)[..3], 0xFFFF, &packet(30)[3..24]), (0, 0, 0, 24));
+    assert_eq!(fate(&packet(24)[..3], 0xFFFF, &packet(24)[3..]), (1, 0, 0, 0));
+    assert_eq!(fate(&packet(65)[..3], 0xFFFF, &packet(65)[3..24]), (0, 0, 24, 0));
+    assert_eq!(fate(&packet(64)[..3], 0xFFFF, &packet(64)[3..24]), (0, 0, 0, 24));
+    assert_eq!(fate(&[0xE0], 1, &[]), (0, 20, 2, 0));
+    assert_eq!(fate(&[0x20], 0xFFFF, &[]), (0, 0, 22, 0));
+    assert_eq!(fate(&whole[..1], 4, &whole[1..5]), (0, 17, 5, 0));
+}
+
+#[test]
+fn access_longest() {
+    let read = |longest: u64, unit: usize| {
+        let setting = access_setting(longest);
+        let mut end = End::fresh(&setting);
+        let frames = frames_of(&access_setting(8192), &vec![0x77; unit]);
+        frames.iter().map(|frame| end.read(frame)).fold((0, 0, 0), |(units, dropped, fill), answer| {
+            (units + answer.units, dropped + answer.dropped, fill + answer.fill)
+        })
+    };
+    assert_eq!(read(42, 42), (1, 0, 0));
+    assert_eq!(read(41, 42), (0, 42, 0));
+    // At the longest and still unfinished after the first frame.
+    assert_eq!(read(21, 22), (0, 22, 20));
+    assert_eq!(read(22, 22), (1, 0, 20));
+    assert_eq!(read(1, 2), (0, 2, 19));
+}
+
+#[test]
+fn other_lanes_of_the_held_area_stay() {
+    let mut setting = worked_setting();
+    setting.lanes.push(Lane { channel: 0, map: 6, kind: Kind::Packet, longest: 64, upid: 0 });
+    let mut frame = frames_of(&worked_setting(), &case_2_batch()).remove(0);
+    frame[3] = 0x6C;
+    let mut end = End::fresh(&setting);
+    end.read(&frame);
+    assert_eq!(end.reader.held, [0, 11]);
+    assert!(end.held[..HELD_PART].iter().chain(&end.held[HELD_PART + 11..]).all(|&octet| octet == 0x55));
+    // A lost frame of the neighbor's map drops what this one holds.
+    let answer = end.read(&with_count(&frames_of(&worked_setting(), &packet(21)).remove(0), 2));
+    assert_eq!((answer.missing, answer.dropped, answer.units), (1, 11, 1));
+    assert_eq!(end.reader.held, [0, 0]);
+}
+
+#[test]
+fn settings_as_text() {
+    let setting = worked_setting();
+    assert_eq!(setting_from_file(setting_to_lines(&setting).as_bytes()), Ok(setting.clone()));
+    let text = setting_to_lines(&setting).replace('\n', " \t# said\r\n");
+    assert_eq!(setting_from_file(text.as_bytes()), Ok(setting.clone()));
+    let twice = setting_to_lines(&setting) + "insert 0\n";
+    assert!(setting_from_file(twice.as_bytes()).unwrap_err().contains("line 8"));
+    assert!(setting_from_file(b"frame length 32\n").is_err());
+    assert_eq!(setting_from_file(setting_to_lines(&access_setting(1)).as_bytes()), Ok(access_setting(1)));
+}
+
+fn printed(script: &str) -> String {
+    let mut out = Vec::new();
+    calls::run(script.as_bytes(), &mut out).unwrap();
+    String::from_utf8(out).unwrap()
+}
+
+#[test]
+fn a_script_of_calls() {
+    let script = format!(
+        "{}begin\ncheck 313233343536373839\nwrite 0 0001C0000003A1A2A3A4 - - 33\nnext 0 1\nwrite 0 0001C0000003A1A2A3A4 - - 32\n\
+         held 0 0001C0\nread C002A06A001F010000000700000BA1A2A3A4{}\nread - 12287\nread -\n",
+        setting_to_lines(&worked_setting()),
+        "E0".repeat(14),
+    );
+    let frame = "C002A06A001F01000000000001C0000003A1A2A3A4".to_string() + &"E0".repeat(11) + "55";
+    let wanted = format!(
+        "setting ok\n29B1\nframe {frame}\nrefused 16\n\
+         read units 0 octets 0 missing 0 idle 14 fill 0 dropped 10 held 0 expects 1\narea -\n\
+         refused 2 units 0 octets 0 missing 0 idle 0 fill 0 dropped 0 held 0 expects 1\narea -\n\
+         refused 3 units 0 octets 0 missing 0 idle 0 fill 0 dropped 0 held 0 expects 1\narea -\n"
+    );
+    assert_eq!(printed(&script), wanted);
+}
+
+#[test]
+fn a_refused_setting_leaves_states_of_zeros() {
+    let script = "frame length 31\nspacecraft 1\nsource\ninsert 0\ncheck no\nbegin\nread 00\nwrite 0 - - - 0\n";
+    let zeros = "units 0 octets 0 missing 0 idle 0 fill 0 dropped 0";
+    assert_eq!(printed(script), format!("setting refused 1\nrefused 1 {zeros} held - expects -\narea -\nrefused 1\n"));
+}
+
+#[test]
+fn random_scripts_are_the_same_each_time_and_can_be_called() {
+    let script = random::script(7, 300);
+    assert_eq!(script, random::script(7, 300));
+    assert_ne!(script, random::script(8, 300));
+    assert!(printed(&script).lines().count() > 300);
+}
+
+#[test]
+fn demand_3_in_some_runs() {
+    assert!(demand3::runs(5, 30).unwrap().ends_with("ok"));
+}
