@@ -1,0 +1,100 @@
+use borrow.Author.Needs.{needs}
+use Rattle.reader.proofs.read.Statement.{statement}
+use Rattle.reader.proofs.read.Tie as tie
+use Rattle.reader.proofs.read.Reads as reads
+use Rattle.reader.proofs.read.Lts as lts
+use Rattle.reader.proofs.count_on.Reads as count-on-reads
+use Rattle.reader.proofs.lane_gap.Reads as lane-gap-reads
+use Rattle.reader.proofs.read_on.Reads as read-on-reads
+use Rattle.reader.proofs.untouched.Reads as untouched-reads
+use Rattle.reader.proofs.verdict_of.Reads as verdict-of-reads
+
+-- src/lib.rt:475:9
+verdict-of-requires : tie.Need-verdict-of-requires
+verdict-of-requires c κs = search needs
+
+-- src/lib.rt:477:26
+enum-known-v : tie.Need-enum-known-v
+enum-known-v c = search needs
+
+-- src/lib.rt:479:13
+untouched-requires : tie.Need-untouched-requires
+untouched-requires c κs = search needs
+
+-- src/lib.rt:482:17
+enum-told : tie.Need-enum-told
+enum-told c = search needs
+
+-- src/lib.rt:483:13
+untouched-requires-2 : tie.Need-untouched-requires-2
+untouched-requires-2 c κs = search needs
+
+-- src/lib.rt:485:26
+enum-known-v-2 : tie.Need-enum-known-v-2
+enum-known-v-2 c = search needs
+
+-- src/lib.rt:485:32
+count-on-requires : tie.Need-count-on-requires
+count-on-requires c κs = ?
+
+-- src/lib.rt:486:23
+enum-known-v-3 : tie.Need-enum-known-v-3
+enum-known-v-3 c = search needs
+
+-- src/lib.rt:487:17
+lane-gap-requires : tie.Need-lane-gap-requires
+lane-gap-requires c κs = ?
+
+-- src/lib.rt:488:13
+read-on-requires : tie.Need-read-on-requires
+read-on-requires c κs = ?
+
+-- src/lib.rt:466:1
+returns : tie.Need-returns
+returns c = ?
+
+-- src/lib.rt:466:1
+returns-2 : tie.Need-returns-2
+returns-2 c = ?
+
+-- src/lib.rt:466:1
+returns-3 : tie.Need-returns-3
+returns-3 c = ?
+
+-- src/lib.rt:466:1
+same-length : tie.Need-same-length
+same-length c = search needs
+
+-- src/lib.rt:466:1
+same-length-2 : tie.Need-same-length-2
+same-length-2 c = search needs
+
+-- src/lib.rt:466:1
+same-length-3 : tie.Need-same-length-3
+same-length-3 c = search needs
+
+-- src/lib.rt:466:1
+returns-4 : tie.Need-returns-4
+returns-4 c = ?
+
+pub read-spec : {M : Type 1} → statement M
+read-spec =
+    tie.close
+    (tie.spec
+    verdict-of-requires
+    enum-known-v
+    untouched-requires
+    enum-told
+    untouched-requires-2
+    enum-known-v-2
+    count-on-requires
+    enum-known-v-3
+    lane-gap-requires
+    read-on-requires
+    returns
+    returns-2
+    returns-3
+    same-length
+    same-length-2
+    same-length-3
+    returns-4)

@@ -1,0 +1,62 @@
+-- What a read's parts are lent and hand back.
+use mathlib.Core.Path.{_≡_}
+use mathlib.Core.Bool.{Bool, cond, not, _||_}
+use Prim.Native.Nat.{ℕ, _+_, _≤_, _<_}
+use mathlib.Core.List.{List}
+use lib.ListN.{length, set}
+use Rattle.rules.specs.declared.Channel.{Channel}
+use Rattle.rules.specs.declared.Class.{Class}
+use Rattle.rules.specs.declared.Gap.{Gap}
+use Rattle.rules.specs.declared.Info.{Info}
+use Rattle.rules.specs.declared.Lane.{Lane}
+use Rattle.rules.specs.declared.Reader.{Reader}
+use Rattle.rules.specs.declared.Taken.{Taken}
+use Rattle.rules.specs.declared.Verdict.{Verdict}
+use Rattle.rules.specs.Tests.{_<?_, _≠?_}
+use Rattle.rules.specs.Settings.{readerOk}
+use Rattle.rules.specs.Refusals.{judge}
+use Rattle.rules.specs.Calls.{counted}
+use Rattle.rules.proofs.Valid.{GoodReader}
+use Rattle.rules.proofs.Judged.{Reads}
+use Rattle.lanes.specs.declared.Led.{Led}
+
+-- The paper's record fields of lane l, lane a on channel ch, and a count.
+abbrev pub infoFor : Lane → Channel → ℕ → ℕ → Info
+infoFor a ch l k = record { lane = l; vc = ch .vc; map = a .map; service = ch .service; count = k }
+
+-- The answer and the state once lane l has made its step after gap g.
+abbrev pub takenOf : Gap → ℕ → Led → Taken
+takenOf g l led =
+    record {
+      answer =
+          record {
+            class = Class.Read;
+            units = led .tally .count;
+            octets = led .tally .octets;
+            missing = g .missing;
+            idle = led .tally .idle;
+            fill = led .tally .fill;
+            dropped = g .dropped + led .tally .dropped;
+          };
+      state = record { setting = g .state .setting; expects = g .state .expects; held = set (g .state .held) l (led .held) };
+    }
+
+-- A frame that lane l reads after gap g, and areas of the paper's sizes.
+pub record OnLane (g : Gap) (l : ℕ) (f h u c : List ℕ) : Type 0 where
+  pub good : GoodReader (g .state)
+  pub dropped : g .dropped ≤ 65536
+  pub reads : Reads (g .state .setting) f l
+  pub held : length h ≡ 65536
+  pub units : 12288 ≤ length u
+  pub records : 9600 ≤ length c
+
+-- The checks of a read, whose areas have these lengths.
+abbrev pub shortOf : ℕ → ℕ → ℕ → Bool
+shortOf h u c = h ≠? 65536 || u <? 12288 || c <? 9600
+
+abbrev pub verdictOf : Reader → List ℕ → ℕ → ℕ → ℕ → Verdict
+verdictOf r f h u c = cond (not (readerOk r)) (Verdict.Refused 1) (cond (shortOf h u c) (Verdict.Refused 2) (judge (r .setting) f))
+
+-- The answer and the state of a frame that is Counted, after gap g.
+abbrev pub countedOf : Gap → Taken
+countedOf g = record { answer = counted g; state = g .state }
