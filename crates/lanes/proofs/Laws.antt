@@ -1,15 +1,15 @@
 -- Handing out, one after another: what two steps leave is what both at once would, and there is room for the second once there is for both.
 use mathlib.Core.Path.{_≡_, refl, sym, ap, ap₂, _∙_}
-use Prim.Native.Nat.{ℕ, zero, suc, _+_, _-_, _*_, _≤_, _<_}
+use mathlib.Core.List.{List, [], _∷_, _++_, append-assoc, append-nil}
+use Prim.Native.Nat.{ℕ, _+_, _*_, _≤_}
 use native.Mathlib.Nat.{zero-add, add-zero, add-assoc}
 use native.Mathlib.Omega.{arith}
-use mathlib.Core.List.{List, [], _∷_, _++_, append-assoc, append-nil}
 use lib.ListN.{length, take, drop, length-append}
 use lib.Seq.{length-take-le}
 use Rattle.rules.specs.declared.Info.{Info}
 use Rattle.rules.specs.Octets.{be}
 use Rattle.rules.specs.Areas.{laid, joined}
-use Rattle.rules.specs.Reading.{Made, nothing, holds, drops, fills, hands, idles, both, recordOf, recordsFrom}
+use Rattle.rules.specs.Reading.{Made, nothing, hands, idles, both, recordOf, recordsFrom}
 use Rattle.rules.proofs.Octets.{length-be}
 use Rattle.rules.proofs.Areas.{joined-append, laid-nil, laid-laid, length-laid}
 use Rattle.lanes.specs.declared.Tally.{Tally}
