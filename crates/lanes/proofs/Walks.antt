@@ -104,4 +104,4 @@ module _ {longest : ℕ} {z : List ℕ} {from : ℕ} {i : Info} {t : Tally} {u r
     turn-room = room-first a (walk longest (drop (at + n) z)) (rw (turn .split) at (begun-room room (w .begun)))
 
     pub turn-on : {t₂ : Tally} {u₂ r₂ : List ℕ} → Handed i t₁ u₁ r₁ a t₂ u₂ r₂ → Walking longest z from i t u r (at + n) t₂ u₂ r₂
-    turn-on next = record { inside = omega (arith, turn .inside, w .inside); begun = begun-on room (w .begun) (turn .split) next }
+    turn-on next = record { inside = omega arith; begun = begun-on room (w .begun) (turn .split) next }
