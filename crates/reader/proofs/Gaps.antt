@@ -225,3 +225,31 @@ module _ (r : Reader) (c k m : ℕ) (e : m ≡ 256 ^ channel (r .setting) c .oct
 -- The channel of a lane.
 pub lane-channel : (r : Reader) (l : ℕ) → readerOk r ≡ true → l < r .setting .numbered → lane (r .setting) l .channel < r .setting .listed
 lane-channel r l ok h = good-reader r ok .setting .lanes l h .channel
+
+-- ---- what a gap drops
+
+lost-small : (p : Lane → Bool) (ls : List Lane) (hs : List ℕ) → ((i : ℕ) → i < length ls → getD hs i 0 ≤ 8192) → lost p ls hs ≤ 8192 * length ls
+unfolding lost
+lost-small p [] hs h = omega arith
+lost-small p (l ∷ ls) [] h = omega arith
+lost-small p (l ∷ ls) (x ∷ hs) h =
+    let a : cond (p l) x 0 ≤ 8192 = by-cases (p l) in
+    let b = lost-small p ls hs (λ i k. h (suc i) (omega arith)) in
+    omega arith
+  where
+    by-cases : (b : Bool) → cond b x 0 ≤ 8192
+    by-cases true = h 0 (zero-lt-suc (length ls))
+    by-cases false = omega arith
+
+gapBy-small : (r : Reader) (c m : ℕ) → lost (its c) (lanesOf (r .setting)) (r .held) ≤ 65536 → gapBy r c m .dropped ≤ 65536
+unfolding gapBy
+gapBy-small r c zero h = omega arith
+gapBy-small r c (suc m) h = h
+
+pub gap-small : (r : Reader) (c k : ℕ) → GoodReader r → gap r c k .dropped ≤ 65536
+unfolding gap
+gap-small r c k g =
+    let n = length-take (r .setting .numbered) (r .setting .lanes) in
+    let few = g .setting .numbered in
+    let b = lost-small (its c) (lanesOf (r .setting)) (r .held) (λ i h. omega (arith, g .held i (omega arith), g .setting .lanes i (omega arith) .kind .most)) in
+    gapBy-small _ c _ (omega arith)
