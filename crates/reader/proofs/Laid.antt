@@ -5,7 +5,7 @@ use native.Mathlib.Nat.{add-zero}
 use native.Mathlib.Omega.{arith}
 use mathlib.Core.List.{List, _++_}
 use lib.ListN.{length, take, drop, length-take, length-drop}
-use lib.Seq.{length-take-le}
+use lib.Seq.{length-take-le, take-all}
 use Rattle.rules.specs.declared.Kind.{Kind}
 use Rattle.rules.specs.declared.Place.{Place}
 use Rattle.rules.specs.declared.Info.{Info}
@@ -127,3 +127,26 @@ module _ (g : Gap) (l : ℕ) (f h u c : List ℕ) (o : OnLane g l f h u c) where
       let small = lane-below (lane s l .kind) (lane s l .longest) (bits 3 0 3 field) (take (heldBy (g .state) l) (take n (drop (8192 * l) h))) (pointsTo (bits 3 8 16 field)) (take (zone s its) (drop 3 field)) (kind-of .enough) in
       step-laid g l k n (made n) h u c led d′ u′ c′ e room (omega (arith, kind-of .most)) st t et
       ∙ ap₂ (λ (i : ℕ) (m : Made). laidOut g l i m h u c) ek (made-here n e)
+
+  -- The same, with zone, data field and the records' fields by other names.
+  pub asked-here : (n z : ℕ) (d : List ℕ) → n ≡ 8192 → z ≡ zone s its → d ≡ field
+      → (3 + z ≤ length d) × (z ≤ 4086) × Lent (lane s l .kind) (lane s l .longest) (heldBy (g .state) l) (pointsTo (bits 3 8 16 d)) (take z (drop 3 d)) (take n (drop (8192 * l) h)) u c
+  asked-here n z d e ez ed = rw (ez, ed) (field-long, here .small, lent-here n e)
+
+  abbrev made-of : ℕ → ℕ → List ℕ → Made
+  made-of n z d =
+      laneStep (lane s l .kind) (lane s l .longest) (bits 3 0 3 d) (take (heldBy (g .state) l) (take n (drop (8192 * l) h)))
+      (pointsTo (bits 3 8 16 d)) (take z (drop 3 d))
+
+  pub few-dropped : (n z : ℕ) (d : List ℕ) (v : ℕ) → n ≡ 8192 → z ≡ zone s its → d ≡ field → v ≡ made-of n z d .dropped → v ≤ 12288
+  few-dropped n z d v e ez ed ev = rw (ev, ez, ed) (made-dropped n e)
+
+  pub laid-here : (n z : ℕ) (d : List ℕ) (i : Info) (k : ℕ) (led : Led) (d′ u′ c′ : List ℕ) (t : Taken) → n ≡ 8192 → z ≡ zone s its → d ≡ field
+      → i ≡ infoFor (lane s l) its l k → k ≡ countIn its f
+      → Stepped i (made-of n z d) (take n (drop (8192 * l) h)) u c led d′ u′ c′ → t ≡ takenOf g l led
+      → record { taken = t; heldArea = take (8192 * l) h ++ (d′ ++ drop n (drop (8192 * l) h)); unitArea = u′; recordArea = c′ } ≡ readOn g l its f h u c
+  laid-here n z d i k led d′ u′ c′ t e ez ed ei ek st et = read-laid n k led d′ u′ c′ t e ek (rw (sym ei, sym ez, sym ed) st) et
+
+  -- The data field, as a slice's rest.
+  pub field-is : take (length f - (7 + its .octets + s .insert)) field ≡ field
+  field-is = take-all (length f - (7 + its .octets + s .insert)) field (omega (arith, length-drop (7 + its .octets + s .insert) f))

@@ -2,3 +2,4 @@ pub mod Judging
 pub mod Places
 pub mod Gaps
 pub mod Laid
+pub mod Verdicts
