@@ -7,7 +7,8 @@ fn two_packets(insert: &[u8], ocf: &[u8], flag: bool, check: bool) {
     let l = runs::packet_lane();
     let s = runs::one_lane(c, l, insert.len(), check);
     let w = runs::set_up(s);
-    let batch = b"\x00\x01\xC0\x00\x00\x03\xA1\xA2\xA3\xA4\x00\x01\xC0\x01\x00\x0B\xB1\xB2\xB3\xB4\xB5\xB6\xB7\xB8\xB9\xBA\xBB\xBC";
+    let batch =
+        b"\x00\x01\xC0\x00\x00\x03\xA1\xA2\xA3\xA4\x00\x01\xC0\x01\x00\x0B\xB1\xB2\xB3\xB4\xB5\xB6\xB7\xB8\xB9\xBA\xBB\xBC";
     runs::calls(w, 0, batch, insert, ocf, 2);
 }
 
@@ -24,7 +25,14 @@ fn one_octet(l: Lane, batch: &[u8], n: usize) {
     let c = runs::channel(7, true);
     let s = runs::one_lane(c, l, 8, true);
     let w = runs::set_up(s);
-    runs::calls(w, 0, batch, b"\xD1\xD2\xD3\xD4\xD5\xD6\xD7\xD8", b"\x0C\x0D\x0E\x0F", n);
+    runs::calls(
+        w,
+        0,
+        batch,
+        b"\xD1\xD2\xD3\xD4\xD5\xD6\xD7\xD8",
+        b"\x0C\x0D\x0E\x0F",
+        n,
+    );
 }
 
 fn one_octet_each() {
@@ -40,7 +48,8 @@ fn refused() {
     let l = runs::packet_lane();
     let s = runs::one_lane(c, l, 4, false);
     let w = runs::set_up(s);
-    let batch = b"\x00\x01\xC0\x00\x00\x03\xA1\xA2\xA3\xA4\x00\x01\xC0\x01\x00\x0B\xB1\xB2\xB3\xB4\xB5\xB6\xB7\xB8\xB9\xBA\xBB\xBC";
+    let batch =
+        b"\x00\x01\xC0\x00\x00\x03\xA1\xA2\xA3\xA4\x00\x01\xC0\x01\x00\x0B\xB1\xB2\xB3\xB4\xB5\xB6\xB7\xB8\xB9\xBA\xBB\xBC";
     let a = runs::call(w, 0, batch, b"\xD1\xD2\xD3", b"\x0C\x0D\x0E\x0F");
     let b = runs::call(a, 0, batch, b"\xD1\xD2\xD3\xD4", b"\x0C\x0D\x0E");
     let d = runs::call(b, 0, batch, b"\x0C\x0D\x0E\x0F", b"");
