@@ -138,6 +138,16 @@ pub fn call(w: Writer, l: usize, batch: &[u8], insert: &[u8], ocf: &[u8]) -> Wri
     t
 }
 
+// A call with an area of 4,100 octets 55, for long frames.
+pub fn long_call(w: Writer, l: usize, batch: &[u8], insert: &[u8], ocf: &[u8]) -> Writer {
+    let mut area = [0x55u8; 4100];
+    let sent = writer::write(w, l, batch, insert, ocf, &mut area);
+    let o = sent.outcome;
+    outcome_line(o, &area);
+    let t = sent.state;
+    t
+}
+
 // As many calls with one batch, one after another.
 pub fn calls(w: Writer, l: usize, batch: &[u8], insert: &[u8], ocf: &[u8], n: usize) -> Writer {
     let mut t = w;

@@ -1,4 +1,4 @@
-// Frames with and without insert zone, OCF and frame check; zones of one octet; refusals 13 and 15.
+// Frames with and without insert zone, OCF and frame check; zones of one octet; the longest frame; refusals 1, 2, 13 and 15.
 // The stored output is the second program's, which is written from document 01 alone, for the calls in the file `calls`.
 use rules::Lane;
 
@@ -65,10 +65,38 @@ fn no_zone() {
     runs::set_up(s);
 }
 
+// F = 4,096 and I = 64, the greatest.
+fn longest() {
+    let c = runs::channel(7, true);
+    let l = runs::access_lane();
+    let mut s = runs::one_lane(c, l, 64, true);
+    s.length = 4096;
+    let w = runs::set_up(s);
+    let insert = [0x2Du8; 64];
+    runs::long_call(w, 0, b"\x61\x62\x63\x64\x65", &insert, b"\x0C\x0D\x0E\x0F");
+}
+
+// Frames of 41 octets for an area of 40; then a count of 256 in one octet.
+fn not_valid() {
+    let c = runs::channel(1, false);
+    let l = runs::packet_lane();
+    let mut s = runs::one_lane(c, l, 0, false);
+    s.length = 41;
+    let w = runs::set_up(s);
+    let batch =
+        b"\x00\x01\xC0\x00\x00\x03\xA1\xA2\xA3\xA4\x00\x01\xC0\x01\x00\x0B\xB1\xB2\xB3\xB4\xB5\xB6\xB7\xB8\xB9\xBA\xBB\xBC";
+    let a = runs::call(w, 0, batch, b"", b"");
+    let b = runs::call(a, 1, batch, b"", b"");
+    let d = runs::with_count(b, 256);
+    runs::call(d, 0, batch, b"", b"");
+}
+
 fn main() {
     each_end(b"");
     each_end(b"\xD1\xD2\xD3\xD4");
     one_octet_each();
     refused();
     no_zone();
+    longest();
+    not_valid();
 }
