@@ -11,7 +11,7 @@ use lib.Pow.{pow-add}
 use borrow.Rule.Slice.PartMut.{putMid}
 use Rattle.rules.specs.Octets.{be, num}
 use Rattle.rules.specs.Areas.{laid}
-use Rattle.rules.proofs.Octets.{length-be, Octets, num-below}
+use Rattle.rules.proofs.Octets.{length-be, octets-each, num-below}
 
 -- ---- copy: the first i octets are the source's
 
@@ -141,13 +141,9 @@ modulus-all n m i h a b e =
 
 -- ---- exact: eight octets fit
 
-octets : (xs : List ℕ) → ((i : ℕ) → getD xs i 0 < 256) → Octets xs
-octets [] h = tt
-octets (x ∷ xs) h = (h 0, octets xs (λ i. h (suc i)))
-
 pub exact-number : (s : List ℕ) (v : ℕ) → length s ≤ 8 → ((i : ℕ) → getD s i 0 < 256) → v ≡ num s % 2 ^ 64 → v ≡ num s
 exact-number s v h o e =
-    let b : num s < 256 ^ length s = num-below s (octets s o) in
+    let b : num s < 256 ^ length s = num-below s (octets-each s o) in
     let k : 256 ^ length s ≤ 256 ^ 8 = small (length s) 8 h in
     e ∙ mod-eq-of-lt (omega arith)
 

@@ -18,7 +18,7 @@ use Rattle.rules.specs.Tests.{_=?_}
 use Rattle.rules.specs.Settings.{noLane, channel, lane, expect, heldBy, readerOk}
 use Rattle.rules.specs.Reading.{missing, expected, emptied, lost, lanesOf, gapBy, gap}
 use Rattle.rules.specs.Octets.{num}
-use Rattle.rules.proofs.Octets.{Octets, num-below}
+use Rattle.rules.proofs.Octets.{octets-each, octets-take, octets-drop, num-below}
 use Rattle.rules.proofs.Valid.{Good, GoodReader, good-reader}
 
 -- ---- counts of n octets
@@ -31,24 +31,10 @@ modulus-is n m h e =
 pub modulus-small : (n : ℕ) → n ≤ 7 → 256 ^ n ≤ 2 ^ 56
 modulus-small n h = pow-le-pow-right (zero-lt-suc 255) h
 
-octets : (xs : List ℕ) → ((i : ℕ) → getD xs i 0 < 256) → Octets xs
-octets [] h = tt
-octets (x ∷ xs) h = (h 0, octets xs (λ i. h (suc i)))
-
-octets-take : (n : ℕ) (xs : List ℕ) → Octets xs → Octets (take n xs)
-octets-take zero xs o = tt
-octets-take (suc n) [] o = tt
-octets-take (suc n) (x ∷ xs) o = (o .0, octets-take n xs (o .1))
-
-octets-drop : (n : ℕ) (xs : List ℕ) → Octets xs → Octets (drop n xs)
-octets-drop zero xs o = o
-octets-drop (suc n) [] o = tt
-octets-drop (suc n) (x ∷ xs) o = octets-drop n xs (o .1)
-
 -- What n octets of a frame spell is below 256^n.
 pub count-small : (f : List ℕ) (a n v : ℕ) → ((i : ℕ) → getD f i 0 < 256) → v ≡ num (take n (drop a f)) → v < 256 ^ n
 count-small f a n v o e =
-    let b = num-below (take n (drop a f)) (octets-take n (drop a f) (octets-drop a f (octets f o))) in
+    let b = num-below (take n (drop a f)) (octets-take n (drop a f) (octets-drop a f (octets-each f o))) in
     let k = length-take n (drop a f) in
     let h : 256 ^ length (take n (drop a f)) ≤ 256 ^ n = pow-le-pow-right (zero-lt-suc 255) (omega arith) in
     omega arith

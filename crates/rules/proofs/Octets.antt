@@ -50,6 +50,20 @@ abbrev pub Octets : List ℕ → Type 0
 Octets [] = Unit {0}
 Octets (x ∷ xs) = (x < 256) × Octets xs
 
+pub octets-each : (xs : List ℕ) → ((i : ℕ) → getD xs i 0 < 256) → Octets xs
+octets-each [] h = tt
+octets-each (x ∷ xs) h = (h 0, octets-each xs (λ i. h (suc i)))
+
+pub octets-take : (n : ℕ) (xs : List ℕ) → Octets xs → Octets (take n xs)
+octets-take zero xs o = tt
+octets-take (suc n) [] o = tt
+octets-take (suc n) (x ∷ xs) o = (o .0, octets-take n xs (o .1))
+
+pub octets-drop : (n : ℕ) (xs : List ℕ) → Octets xs → Octets (drop n xs)
+octets-drop zero xs o = o
+octets-drop (suc n) [] o = tt
+octets-drop (suc n) (x ∷ xs) o = octets-drop n xs (o .1)
+
 pub num-below : (xs : List ℕ) → Octets xs → num xs < 256 ^ length xs
 unfolding num
 num-below [] o = rw pow-zero (zero-lt-suc 0)

@@ -1,3 +1,4 @@
+-- `reader::data_wrong` meets its contract: each test on the way is one of the rule's three.
 use mathlib.Core.Path.{_≡_, sym, ap, _∙_}
 use native.Mathlib.Omega.{arith}
 use borrow.Author.Tests.{eq-eqb, ne-eqb, lt-ltb, le-ltb}
@@ -6,30 +7,22 @@ use Rattle.reader.specs.Judging.{dataWrongOf}
 use borrow.Author.Needs.{needs}
 use Rattle.reader.proofs.data_wrong.Statement.{statement}
 use Rattle.reader.proofs.data_wrong.Tie as tie
-use Rattle.reader.proofs.data_wrong.Reads as reads
-use Rattle.reader.proofs.data_wrong.Lts as lts
-use Rattle.packets.proofs.rule_fits.Reads as rule-fits-reads
 
--- src/lib.rt:78:9
 rule-fits-requires : tie.Need-rule-fits-requires
 rule-fits-requires c κs = search needs
 
--- src/lib.rt:81:13
 returns : tie.Need-returns
 unfolding dataWrongOf
 returns c = rw (sym (c .before .before .before .before .rule-fits .ensures) ∙ c .before .before .before .if1 .taken, ne-eqb _ _ (c .if2 .taken))
 
--- src/lib.rt:84:13
 returns-2 : tie.Need-returns-2
 unfolding dataWrongOf
 returns-2 c = rw (sym (c .before .before .before .before .before .before .rule-fits .ensures) ∙ c .before .before .before .before .before .if1 .taken, eq-eqb _ _ (c .before .before .if2 .left), lt-ltb _ _ (c .if3 .taken))
 
--- src/lib.rt:86:9
 returns-3 : tie.Need-returns-3
 unfolding dataWrongOf
 returns-3 c = rw (sym (c .before .before .before .before .before .before .before .rule-fits .ensures) ∙ c .before .before .before .before .before .before .if1 .taken, eq-eqb _ _ (c .before .before .before .if2 .left), le-ltb _ _ (c .before .if3 .left))
 
--- src/lib.rt:74:1
 returns-4 : tie.Need-returns-4
 unfolding dataWrongOf
 returns-4 c = rw (sym (c .before .rule-fits .ensures) ∙ c .if1 .left)

@@ -1,3 +1,4 @@
+-- `reader::emptied_of` meets its contract: the loop keeps that the lanes below i have dropped theirs and the others are as they were.
 use lib.ListN.{length-map}
 use Prim.Native.Nat.{_-_, _<_}
 use lib.ListN.{length}
@@ -10,8 +11,6 @@ use Rattle.rules.specs.Tests.{_=?_}
 use Rattle.reader.proofs.Gaps.{Emptying, emptying-none, its, drops, keeps, emptied-now}
 use Rattle.reader.proofs.emptied_of.Statement.{statement}
 use Rattle.reader.proofs.emptied_of.Tie as tie
-use Rattle.reader.proofs.emptied_of.Reads as reads
-use Rattle.reader.proofs.emptied_of.Lts as lts
 
 abbrev Inv-loop : tie.InvT-loop
 Inv-loop c s n t₀ i₀ t i = Emptying (its c) (lanesOf s) t₀ t i
@@ -19,35 +18,27 @@ Inv-loop c s n t₀ i₀ t i = Emptying (its c) (lanesOf s) t₀ t i
 abbrev μ-loop : tie.MeasureT-loop
 μ-loop c s n t₀ i₀ t i = n - i
 
--- src/lib.rt:218:5
 loop-holds : tie.Need-loop-holds Inv-loop μ-loop
 loop-holds c = emptying-none _ _ _
 
--- src/lib.rt:219:17
 mul-a : tie.Need-mul-a Inv-loop μ-loop
 mul-a c = search needs
 
--- src/lib.rt:219:17
 element-copy-out-a : tie.Need-element-copy-out-a Inv-loop μ-loop
 element-copy-out-a c = search needs
 
--- src/lib.rt:221:13
 mul-t : tie.Need-mul-t Inv-loop μ-loop
 mul-t c = search needs
 
--- src/lib.rt:221:13
 array-write-t : tie.Need-array-write-t Inv-loop μ-loop
 array-write-t c = search needs
 
--- src/lib.rt:223:9
 add-i : tie.Need-add-i Inv-loop μ-loop
 add-i c = search needs
 
--- src/lib.rt:218:5
 loop-less : tie.Need-loop-less Inv-loop μ-loop
 loop-less c = search needs
 
--- src/lib.rt:218:5
 loop-again : tie.Need-loop-again Inv-loop μ-loop
 loop-again c = 
     let l = c .before .before .before .before in
@@ -58,7 +49,6 @@ loop-again c =
     ⊎-elim (λ w. drops (a .args .t1) (a .args .c) (a .pre) g _ _ _ _ j at (w .0 .taken) (w .1) (l .loop .inv))
     (λ w. keeps (a .args .t1) (a .args .c) (a .pre) g _ _ _ _ j at (w .0 .left) (w .1) (l .loop .inv)) (c .if1 .came)
 
--- src/lib.rt:211:1
 returns : tie.Need-returns Inv-loop μ-loop
 returns c = 
     let a = c .before .before in

@@ -1,3 +1,4 @@
+-- `reader::field_refusal` meets its contract: each test on the way is one of the rule's rows.
 use mathlib.Core.Path.{_≡_, sym, ap, _∙_}
 use native.Mathlib.Omega.{arith}
 use borrow.Author.Tests.{eq-eqb, ne-eqb, lt-ltb, le-ltb}
@@ -5,34 +6,26 @@ use Rattle.reader.specs.Judging.{fieldRefusal}
 use borrow.Author.Needs.{needs}
 use Rattle.reader.proofs.field_refusal.Statement.{statement}
 use Rattle.reader.proofs.field_refusal.Tie as tie
-use Rattle.reader.proofs.field_refusal.Reads as reads
-use Rattle.reader.proofs.field_refusal.Lts as lts
 
--- src/lib.rt:39:20
 sub-if1 : tie.Need-sub-if1
 sub-if1 c = search needs
 
--- src/lib.rt:40:9
 returns : tie.Need-returns
 unfolding fieldRefusal
 returns c = rw (ne-eqb _ _ (c .if1 .taken))
 
--- src/lib.rt:43:9
 returns-2 : tie.Need-returns-2
 unfolding fieldRefusal
 returns-2 c = rw (eq-eqb _ _ (c .before .before .if1 .left), ne-eqb _ _ (c .if2 .taken))
 
--- src/lib.rt:47:13
 returns-3 : tie.Need-returns-3
 unfolding fieldRefusal
 returns-3 c = rw (eq-eqb _ _ (c .before .before .before .before .before .before .if1 .left), eq-eqb _ _ (c .before .before .before .before .if2 .left), eq-eqb _ _ (c .before .before .if3 .taken), eq-eqb _ _ (c .if4 .taken))
 
--- src/lib.rt:35:1
 returns-4 : tie.Need-returns-4
 unfolding fieldRefusal
 returns-4 c = rw (eq-eqb _ _ (c .before .before .before .before .before .before .if1 .left), eq-eqb _ _ (c .before .before .before .before .if2 .left), eq-eqb _ _ (c .before .before .if3 .taken), ne-eqb _ _ (c .if4 .left))
 
--- src/lib.rt:35:1
 returns-5 : tie.Need-returns-5
 unfolding fieldRefusal
 returns-5 c = rw (eq-eqb _ _ (c .before .before .before .before .if1 .left), eq-eqb _ _ (c .before .before .if2 .left), ne-eqb _ _ (c .if3 .left))

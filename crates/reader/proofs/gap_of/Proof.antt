@@ -1,3 +1,4 @@
+-- `reader::gap_of` meets its contract: by whether frames are missing, as the rule is.
 use Prim.Native.Nat.{ℕ, _+_, _-_, _<_, _≤_}
 use mathlib.Core.Path.{_≡_, refl, sym, ap, _∙_}
 use native.Mathlib.Omega.{arith}
@@ -8,66 +9,46 @@ use Rattle.reader.proofs.Gaps.{takes, modulus-is, modulus-small, gap-no
 use borrow.Author.Needs.{needs}
 use Rattle.reader.proofs.gap_of.Statement.{statement}
 use Rattle.reader.proofs.gap_of.Tie as tie
-use Rattle.reader.proofs.gap_of.Reads as reads
-use Rattle.reader.proofs.gap_of.Lts as lts
-use Rattle.octets.proofs.modulus.Reads as modulus-reads
-use Rattle.reader.proofs.emptied_of.Reads as emptied-of-reads
-use Rattle.reader.proofs.lost_of.Reads as lost-of-reads
-use Rattle.reader.proofs.missing_of.Reads as missing-of-reads
 
--- src/lib.rt:252:14
 mul-ch : tie.Need-mul-ch
 mul-ch c = let a = c .before in let t = takes (a .args .t1) (a .args .c) (a .pre .0) (a .pre .1) in let q = t .eight in search needs
 
--- src/lib.rt:252:14
 element-copy-out-ch : tie.Need-element-copy-out-ch
 element-copy-out-ch c = let a = c .before in let t = takes (a .args .t1) (a .args .c) (a .pre .0) (a .pre .1) in t .eight
 
--- src/lib.rt:254:13
 mul-e : tie.Need-mul-e
 mul-e c = let a = c .before .before in let t = takes (a .args .t1) (a .args .c) (a .pre .0) (a .pre .1) in let q = t .eight in search needs
 
--- src/lib.rt:254:13
 element-copy-out-e : tie.Need-element-copy-out-e
 element-copy-out-e c = let a = c .before .before in let t = takes (a .args .t1) (a .args .c) (a .pre .0) (a .pre .1) in t .eight
 
--- src/lib.rt:255:9
 missing-of-requires : tie.Need-missing-of-requires
 missing-of-requires c κs = let a = c .before .before .before in let t = takes (a .args .t1) (a .args .c) (a .pre .0) (a .pre .1) in (t .seven, t .count, a .pre .2)
 
--- src/lib.rt:256:9
 modulus-requires : tie.Need-modulus-requires
 modulus-requires c κs = search needs
 
--- src/lib.rt:258:50
 add-t24 : tie.Need-add-t24
 add-t24 c = let a = c .before .before .before .before .before in let t = takes (a .args .t1) (a .args .c) (a .pre .0) (a .pre .1) in let b = a .pre .2 in let d = modulus-small _ (t .seven) in search needs
 
--- src/lib.rt:258:49
 rem-t25 : tie.Need-rem-t25
 rem-t25 c = let a = c .before .before .before .before .before in let t = takes (a .args .t1) (a .args .c) (a .pre .0) (a .pre .1) in let e = modulus-is _ _ (t .seven) (c .modulus .ensures) in let h = pow256-pos (channel (a .args .t1 .setting) (a .args .c) .octets) in omega arith
 
--- src/lib.rt:258:5
 mul-t16 : tie.Need-mul-t16
 mul-t16 c = let a = c .before .before .before .before .before in let t = takes (a .args .t1) (a .args .c) (a .pre .0) (a .pre .1) in let q = t .eight in search needs
 
--- src/lib.rt:258:5
 element-set-from-t : tie.Need-element-set-from-t
 element-set-from-t c = let a = c .before .before .before .before .before in let t = takes (a .args .t1) (a .args .c) (a .pre .0) (a .pre .1) in t .eight
 
--- src/lib.rt:260:9
 returns : tie.Need-returns
 returns c = let a = c .before .before .before .before .before .before in let t = takes (a .args .t1) (a .args .c) (a .pre .0) (a .pre .1) in gap-none (a .args .t1) (a .args .c) (a .args .k) _ (modulus-is _ _ (t .seven) (c .before .modulus .ensures)) (sym (c .before .before .missing-of .ensures) ∙ c .if1 .taken)
 
--- src/lib.rt:263:9
 lost-of-requires : tie.Need-lost-of-requires
 lost-of-requires c κs = let a = c .before .before .before .before .before .before .before in let t = takes (a .args .t1) (a .args .c) (a .pre .0) (a .pre .1) in (t .few, t .held)
 
--- src/lib.rt:264:9
 emptied-of-requires : tie.Need-emptied-of-requires
 emptied-of-requires c κs = let a = c .before .before .before .before .before .before .before .before in let t = takes (a .args .t1) (a .args .c) (a .pre .0) (a .pre .1) in t .few
 
--- src/lib.rt:247:1
 returns-2 : tie.Need-returns-2
 returns-2 c = 
     let a = c .before .before .before .before .before .before .before .before .before in

@@ -1,3 +1,4 @@
+-- `reader::judge_channel` meets its contract: by whether a channel was found.
 use mathlib.Core.Path.{_≡_, sym, ap, _∙_}
 use native.Mathlib.Omega.{arith}
 use borrow.Author.Tests.{eq-eqb, ne-eqb}
@@ -14,20 +15,13 @@ use Rattle.reader.proofs.Places.{channel-found}
 use borrow.Author.Needs.{needs}
 use Rattle.reader.proofs.judge_channel.Statement.{statement}
 use Rattle.reader.proofs.judge_channel.Tie as tie
-use Rattle.reader.proofs.judge_channel.Reads as reads
-use Rattle.reader.proofs.judge_channel.Lts as lts
-use Rattle.reader.proofs.judge_listed.Reads as judge-listed-reads
-use Rattle.setting.proofs.channel_at.Reads as channel-at-reads
 
--- src/lib.rt:155:9
 channel-at-requires : tie.Need-channel-at-requires
 channel-at-requires c κs = good _ (c .before .pre .0) .listed
 
--- src/lib.rt:158:16
 enum-told : tie.Need-enum-told
 enum-told c = search needs
 
--- src/lib.rt:159:17
 returns : tie.Need-returns
 unfolding judgeChannel headOf
 returns c = 
@@ -37,18 +31,15 @@ returns c =
     let e : channelAt (a .s) (vc (a .frame .now)) (bypass (a .frame .now)) ≡ Nowhere = rw (sym v, sym b) (sym (c .before .before .before .before .channel-at .ensures) ∙ c .before .before .enum-told .given .1) in
     sym (ap (judgeChannel (a .s) (a .frame .now)) e ∙ rw (sym v, ne-eqb _ _ (c .if1 .taken)))
 
--- src/lib.rt:163:19
 enum-known-p : tie.Need-enum-known-p
 enum-known-p c = search needs
 
--- src/lib.rt:163:25
 judge-listed-requires : tie.Need-judge-listed-requires
 unfolding headOf
 judge-listed-requires c κs = 
     let a = c .before .before .before .before .before .args in
     (c .before .before .before .before .before .pre .0, channel-found (a .s) (a .h .vc) (a .h .bypass) _ (sym (c .before .before .before .channel-at .ensures) ∙ c .before .p .given .1), c .before .before .before .before .before .pre .1, c .before .before .before .before .before .pre .2)
 
--- src/lib.rt:151:1
 returns-2 : tie.Need-returns-2
 unfolding judgeChannel headOf
 returns-2 c = 
@@ -58,7 +49,6 @@ returns-2 c =
     let e : channelAt (a .s) (vc (a .frame .now)) (bypass (a .frame .now)) ≡ Nowhere = rw (sym v, sym b) (sym (c .before .before .before .before .channel-at .ensures) ∙ c .before .before .enum-told .given .1) in
     sym (ap (judgeChannel (a .s) (a .frame .now)) e ∙ rw (sym v, eq-eqb _ _ (c .if1 .left)))
 
--- src/lib.rt:151:1
 returns-3 : tie.Need-returns-3
 unfolding judgeChannel headOf
 returns-3 c = 

@@ -1,3 +1,4 @@
+-- `reader::judge_data` meets its contract: the data field is the frame's rest behind the insert zone.
 use mathlib.Core.Path.{_≡_, sym, ap, _∙_}
 use native.Mathlib.Omega.{arith}
 use borrow.Author.Tests.{eq-eqb, ne-eqb}
@@ -18,11 +19,6 @@ use Rattle.reader.proofs.Places.{fits, lane-eight}
 use borrow.Author.Needs.{needs}
 use Rattle.reader.proofs.judge_data.Statement.{statement}
 use Rattle.reader.proofs.judge_data.Tie as tie
-use Rattle.reader.proofs.judge_data.Reads as reads
-use Rattle.reader.proofs.judge_data.Lts as lts
-use Rattle.header.proofs.data_of.Reads as data-of-reads
-use Rattle.reader.proofs.data_wrong.Reads as data-wrong-reads
-use Rattle.setting.proofs.zone_of.Reads as zone-of-reads
 
 wrong : (s : Rattle.rules.specs.declared.Setting.Setting) (c l : ℕ) (f : List ℕ) (z : ℕ) (d : Data) (w : Bool) → z ≡ zone s (channel s c)
     → d ≡ dataOf (take (length f - (7 + (channel s c) .octets + s .insert)) (drop (7 + (channel s c) .octets + s .insert) f))
@@ -33,62 +29,48 @@ wrong s c l f z d w p q r =
     let t : take (length f - n) (drop n f) ≡ drop n f = take-all (length f - n) (drop n f) (omega (arith, length-drop n f)) in
     r ∙ rw (p, q, t)
 
--- src/lib.rt:96:13
 mul-a : tie.Need-mul-a
 mul-a c = omega (arith, lane-eight _ _ (c .before .pre .0) (c .before .pre .2))
 
--- src/lib.rt:96:13
 element-copy-out-a : tie.Need-element-copy-out-a
 element-copy-out-a c = lane-eight _ _ (c .before .pre .0) (c .before .pre .2)
 
--- src/lib.rt:97:14
 mul-ch : tie.Need-mul-ch
 mul-ch c = omega (arith, fits _ _ (c .before .before .pre .0) (c .before .before .pre .1) .eight)
 
--- src/lib.rt:97:14
 element-copy-out-ch : tie.Need-element-copy-out-ch
 element-copy-out-ch c = fits _ _ (c .before .before .pre .0) (c .before .before .pre .1) .eight
 
--- src/lib.rt:98:9
 zone-of-requires : tie.Need-zone-of-requires
 zone-of-requires c κs = search needs
 
--- src/lib.rt:99:14
 add-at : tie.Need-add-at
 add-at c = let q = fits _ _ (c .before .before .before .before .before .pre .0) (c .before .before .before .before .before .pre .1) in omega (arith, q .seven)
 
--- src/lib.rt:99:14
 add-at-2 : tie.Need-add-at-2
 add-at-2 c = let q = fits _ _ (c .before .before .before .before .before .pre .0) (c .before .before .before .before .before .pre .1) in omega (arith, q .seven, q .insert)
 
--- src/lib.rt:100:29
 sub-data-of : tie.Need-sub-data-of
 sub-data-of c = let q = fits _ _ (c .before .before .before .before .before .pre .0) (c .before .before .before .before .before .pre .1) in omega (arith, q .inside, c .before .before .before .before .before .pre .3)
 
--- src/lib.rt:100:29
 part-data-of-start : tie.Need-part-data-of-start
 part-data-of-start c = let q = fits _ _ (c .before .before .before .before .before .pre .0) (c .before .before .before .before .before .pre .1) in omega (arith, q .inside, c .before .before .before .before .before .pre .3)
 
--- src/lib.rt:100:29
 part-data-of-end : tie.Need-part-data-of-end
 part-data-of-end c = search needs
 
--- src/lib.rt:100:9
 data-of-requires : tie.Need-data-of-requires
 data-of-requires c κs = search needs
 
--- src/lib.rt:101:9
 data-wrong-requires : tie.Need-data-wrong-requires
 data-wrong-requires c κs = search needs
 
--- src/lib.rt:103:9
 returns : tie.Need-returns
 unfolding judgeData
 returns c = 
     let a = c .before .before .before .before .before .before .before .before .before .args in
     rw (sym (wrong (a .t1) (a .c) (a .l) (a .frame .now) _ _ _ (c .before .before .before .before .before .zone-of .ensures) (c .before .before .data-of .ensures) (c .before .data-wrong .ensures)) ∙ c .if1 .taken)
 
--- src/lib.rt:92:1
 returns-2 : tie.Need-returns-2
 unfolding judgeData
 returns-2 c = 

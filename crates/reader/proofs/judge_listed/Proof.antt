@@ -1,3 +1,4 @@
+-- `reader::judge_listed` meets its contract: the channel's count length and OCF are tested in this order.
 use mathlib.Core.Path.{_≡_, sym, ap, _∙_}
 use native.Mathlib.Omega.{arith}
 use borrow.Author.Tests.{eq-eqb, ne-eqb}
@@ -11,31 +12,22 @@ use Rattle.reader.proofs.Places.{fits}
 use borrow.Author.Needs.{needs}
 use Rattle.reader.proofs.judge_listed.Statement.{statement}
 use Rattle.reader.proofs.judge_listed.Tie as tie
-use Rattle.reader.proofs.judge_listed.Reads as reads
-use Rattle.reader.proofs.judge_listed.Lts as lts
-use Rattle.reader.proofs.flag_of.Reads as flag-of-reads
-use Rattle.reader.proofs.judge_map.Reads as judge-map-reads
 
--- src/lib.rt:113:14
 mul-ch : tie.Need-mul-ch
 mul-ch c = omega (arith, fits _ _ (c .before .pre .0) (c .before .pre .1) .eight)
 
--- src/lib.rt:113:14
 element-copy-out-ch : tie.Need-element-copy-out-ch
 element-copy-out-ch c = fits _ _ (c .before .pre .0) (c .before .pre .1) .eight
 
--- src/lib.rt:115:9
 returns : tie.Need-returns
 unfolding judgeListed headOf
 returns c = 
     let k = ap (λ (x : Head). x .octets) (c .before .before .before .before .before .pre .3) in
     rw (sym k, ne-eqb _ _ (c .if1 .taken))
 
--- src/lib.rt:117:9
 flag-of-requires : tie.Need-flag-of-requires
 flag-of-requires c κs = search needs
 
--- src/lib.rt:119:9
 returns-2 : tie.Need-returns-2
 unfolding judgeListed headOf
 returns-2 c = 
@@ -43,11 +35,9 @@ returns-2 c =
     let o = ap (λ (x : Head). x .ocf) (c .before .before .before .before .before .before .before .before .pre .3) in
     rw (sym k, eq-eqb _ _ (c .before .before .before .if1 .left), sym o, sym (c .before .before .flag-of .ensures), ne-eqb _ _ (c .if2 .taken))
 
--- src/lib.rt:121:5
 judge-map-requires : tie.Need-judge-map-requires
 judge-map-requires c κs = search needs
 
--- src/lib.rt:109:1
 returns-3 : tie.Need-returns-3
 unfolding judgeListed headOf
 returns-3 c = 

@@ -1,3 +1,4 @@
+-- `reader::judge_map` meets its contract: by whether a lane was found, then by the command bit.
 use mathlib.Core.Path.{_≡_, sym, ap, _∙_}
 use native.Mathlib.Omega.{arith}
 use borrow.Author.Tests.{eq-eqb, ne-eqb}
@@ -14,24 +15,16 @@ use Rattle.reader.proofs.Places.{lane-found}
 use borrow.Author.Needs.{needs}
 use Rattle.reader.proofs.judge_map.Statement.{statement}
 use Rattle.reader.proofs.judge_map.Tie as tie
-use Rattle.reader.proofs.judge_map.Reads as reads
-use Rattle.reader.proofs.judge_map.Lts as lts
-use Rattle.reader.proofs.judge_data.Reads as judge-data-reads
-use Rattle.setting.proofs.lane_at.Reads as lane-at-reads
 
--- src/lib.rt:138:9
 lane-at-requires : tie.Need-lane-at-requires
 lane-at-requires c κs = good _ (c .before .pre .0) .numbered
 
--- src/lib.rt:140:27
 enum-told : tie.Need-enum-told
 enum-told c = search needs
 
--- src/lib.rt:141:19
 enum-known-p : tie.Need-enum-known-p
 enum-known-p c = search needs
 
--- src/lib.rt:143:17
 returns : tie.Need-returns
 unfolding judgeMap headOf
 returns c = 
@@ -40,14 +33,12 @@ returns c =
     let k = ap (λ (x : Head). x .command) (c .before .before .before .before .before .before .before .pre .3) in
     rw (sym (ap (laneAt (a .s) (a .c)) m), sym (c .before .before .before .before .before .lane-at .ensures), c .before .before .before .p .given .1, sym k, eq-eqb _ _ (c .if1 .taken))
 
--- src/lib.rt:145:13
 judge-data-requires : tie.Need-judge-data-requires
 unfolding headOf
 judge-data-requires c κs = 
     let a = c .before .before .before .before .before .before .before .args in
     (c .before .before .before .before .before .before .before .pre .0, c .before .before .before .before .before .before .before .pre .1, lane-found (a .s) (a .c) (a .h .map) _ (sym (c .before .before .before .before .before .lane-at .ensures) ∙ c .before .before .before .p .given .1), c .before .before .before .before .before .before .before .pre .2)
 
--- src/lib.rt:134:1
 returns-2 : tie.Need-returns-2
 unfolding judgeMap headOf
 returns-2 c = 
@@ -55,7 +46,6 @@ returns-2 c =
     let m = ap (λ (x : Head). x .map) (c .before .before .before .before .pre .3) in
     rw (sym (ap (laneAt (a .s) (a .c)) m), sym (c .before .before .lane-at .ensures), c .enum-told .given .1)
 
--- src/lib.rt:134:1
 returns-3 : tie.Need-returns-3
 unfolding judgeMap headOf
 returns-3 c = 

@@ -1,3 +1,4 @@
+-- `reader::lost_of` meets its contract: the loop keeps what the lanes below i have dropped.
 use lib.ListN.{length-map}
 use Prim.Native.Nat.{_-_, _+_, _*_, _<_, _≤_}
 use lib.ListN.{length, drop}
@@ -10,8 +11,6 @@ use Rattle.rules.specs.Tests.{_=?_}
 use Rattle.reader.proofs.Gaps.{Losing, losing-none, loses, spares, lost-now}
 use Rattle.reader.proofs.lost_of.Statement.{statement}
 use Rattle.reader.proofs.lost_of.Tie as tie
-use Rattle.reader.proofs.lost_of.Reads as reads
-use Rattle.reader.proofs.lost_of.Lts as lts
 
 abbrev Inv-loop : tie.InvT-loop
 Inv-loop c s held n lost₀ i₀ lost i = Losing s c held lost i
@@ -19,27 +18,21 @@ Inv-loop c s held n lost₀ i₀ lost i = Losing s c held lost i
 abbrev μ-loop : tie.MeasureT-loop
 μ-loop c s held n lost₀ i₀ lost i = n - i
 
--- src/lib.rt:236:5
 loop-holds : tie.Need-loop-holds Inv-loop μ-loop
 loop-holds c = losing-none _ _ _
 
--- src/lib.rt:237:17
 mul-a : tie.Need-mul-a Inv-loop μ-loop
 mul-a c = search needs
 
--- src/lib.rt:237:17
 element-copy-out-a : tie.Need-element-copy-out-a Inv-loop μ-loop
 element-copy-out-a c = search needs
 
--- src/lib.rt:239:21
 mul-lost : tie.Need-mul-lost Inv-loop μ-loop
 mul-lost c = search needs
 
--- src/lib.rt:239:21
 array-read-lost : tie.Need-array-read-lost Inv-loop μ-loop
 array-read-lost c = search needs
 
--- src/lib.rt:239:13
 add-lost : tie.Need-add-lost Inv-loop μ-loop
 add-lost c = 
     let l = c .before .before .before .before in
@@ -47,15 +40,12 @@ add-lost c =
     let k = l .loop .inv .small in
     search needs
 
--- src/lib.rt:241:9
 add-i : tie.Need-add-i Inv-loop μ-loop
 add-i c = search needs
 
--- src/lib.rt:236:5
 loop-less : tie.Need-loop-less Inv-loop μ-loop
 loop-less c = search needs
 
--- src/lib.rt:236:5
 loop-again : tie.Need-loop-again Inv-loop μ-loop
 loop-again c = 
     let l = c .before .before .before .before in
@@ -66,7 +56,6 @@ loop-again c =
     ⊎-elim (λ w. loses (a .args .t1) (a .args .c) (a .pre .0) g _ _ _ _ j at (a .pre .1 _ at) (w .0 .taken) (w .1) (l .loop .inv))
     (λ w. spares (a .args .t1) (a .args .c) (a .pre .0) g _ _ _ _ j at (w .0 .left) (w .1) (l .loop .inv)) (c .if1 .came)
 
--- src/lib.rt:229:1
 returns : tie.Need-returns Inv-loop μ-loop
 returns c = 
     let a = c .before .before in

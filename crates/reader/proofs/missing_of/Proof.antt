@@ -1,3 +1,4 @@
+-- `reader::missing_of` meets its contract: counts are below 256^n, so nothing wraps at 2^64.
 use Prim.Native.Nat.{ℕ, _%_, _^_, _+_, _-_, _≤_}
 use mathlib.Core.Path.{_≡_, refl, sym, ap, ap₂, _∙_}
 use mathlib.Core.Bool.{cond, Bool}
@@ -8,15 +9,10 @@ use Rattle.reader.proofs.Gaps.{modulus-is, modulus-small}
 use borrow.Author.Needs.{needs}
 use Rattle.reader.proofs.missing_of.Statement.{statement}
 use Rattle.reader.proofs.missing_of.Tie as tie
-use Rattle.reader.proofs.missing_of.Reads as reads
-use Rattle.reader.proofs.missing_of.Lts as lts
-use Rattle.octets.proofs.modulus.Reads as modulus-reads
 
--- src/lib.rt:204:13
 modulus-requires : tie.Need-modulus-requires
 modulus-requires c κs = search needs
 
--- src/lib.rt:205:17
 add-result : tie.Need-add-result
 add-result c = 
     let a = c .before .before in
@@ -25,7 +21,6 @@ add-result c =
     let k = a .pre .2 in
     omega arith
 
--- src/lib.rt:205:17
 sub-result : tie.Need-sub-result
 sub-result c = 
     let a = c .before .before .before in
@@ -33,7 +28,6 @@ sub-result c =
     let k = a .pre .1 in
     omega arith
 
--- src/lib.rt:205:16
 rem-result : tie.Need-rem-result
 rem-result c = 
     let a = c .before .before .before in
@@ -41,7 +35,6 @@ rem-result c =
     let h = pow256-pos (a .args .n) in
     omega arith
 
--- src/lib.rt:205:9
 returns : tie.Need-returns
 unfolding missing
 returns c = 
@@ -49,7 +42,6 @@ returns c =
     ap (λ (m : ℕ). (a .args .k + m - a .args .e .count) % m) (modulus-is (a .args .n) (c .before .modulus .result) (a .pre .0) (c .before .modulus .ensures))
     ∙ ap (λ (b : Bool). cond b ((a .args .k + 256 ^ (a .args .n) - a .args .e .count) % 256 ^ (a .args .n)) 0) (sym (c .before .before .if1 .taken))
 
--- src/lib.rt:199:1
 returns-2 : tie.Need-returns-2
 unfolding missing
 returns-2 c = ap (λ (b : Bool). cond b ((c .before .args .k + 256 ^ (c .before .args .n) - c .before .args .e .count) % 256 ^ (c .before .args .n)) 0) (sym (c .if1 .left))

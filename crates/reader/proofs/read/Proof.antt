@@ -1,3 +1,4 @@
+-- `reader::read` meets its contract: each case of the verdict makes what the rule makes of it.
 use mathlib.Core.Path.{_≡_, refl, sym, ap, _∙_}
 use Rattle.rules.specs.declared.Taken.{Taken}
 use Rattle.rules.specs.Calls.{Got, onVerdict}
@@ -5,82 +6,58 @@ use Rattle.reader.proofs.Verdicts.{verdict-is, read-as, counts, lanes, 
 use borrow.Author.Needs.{needs}
 use Rattle.reader.proofs.read.Statement.{statement}
 use Rattle.reader.proofs.read.Tie as tie
-use Rattle.reader.proofs.read.Reads as reads
-use Rattle.reader.proofs.read.Lts as lts
-use Rattle.reader.proofs.count_on.Reads as count-on-reads
-use Rattle.reader.proofs.lane_gap.Reads as lane-gap-reads
-use Rattle.reader.proofs.read_on.Reads as read-on-reads
-use Rattle.reader.proofs.untouched.Reads as untouched-reads
-use Rattle.reader.proofs.verdict_of.Reads as verdict-of-reads
 
--- src/lib.rt:475:9
 verdict-of-requires : tie.Need-verdict-of-requires
 verdict-of-requires c κs = search needs
 
--- src/lib.rt:477:26
 enum-known-v : tie.Need-enum-known-v
 enum-known-v c = search needs
 
--- src/lib.rt:479:13
 untouched-requires : tie.Need-untouched-requires
 untouched-requires c κs = search needs
 
--- src/lib.rt:482:17
 enum-told : tie.Need-enum-told
 enum-told c = search needs
 
--- src/lib.rt:483:13
 untouched-requires-2 : tie.Need-untouched-requires-2
 untouched-requires-2 c κs = search needs
 
--- src/lib.rt:485:26
 enum-known-v-2 : tie.Need-enum-known-v-2
 enum-known-v-2 c = search needs
 
--- src/lib.rt:485:32
 count-on-requires : tie.Need-count-on-requires
 count-on-requires c κs = let a = c .before .before .before .before .before .before .before .before .args in let e = verdict-is (a .r) (a .frame .now) (a .held .now) (a .units .now) (a .records .now) _ _ (c .before .before .before .verdict-of .ensures) (c .before .v2 .given .1) in counts (a .r) (a .frame .now) (a .held .now) (a .units .now) (a .records .now) _ e
 
--- src/lib.rt:486:23
 enum-known-v-3 : tie.Need-enum-known-v-3
 enum-known-v-3 c = search needs
 
--- src/lib.rt:487:17
 lane-gap-requires : tie.Need-lane-gap-requires
 lane-gap-requires c κs = let a = c .before .before .before .before .before .before .before .before .args in let e = verdict-is (a .r) (a .frame .now) (a .held .now) (a .units .now) (a .records .now) _ _ (c .before .before .before .verdict-of .ensures) (c .before .v3 .given .1) in lanes (a .r) (a .frame .now) (a .held .now) (a .units .now) (a .records .now) _ e
 
--- src/lib.rt:488:13
 read-on-requires : tie.Need-read-on-requires
 read-on-requires c κs = let a = c .before .before .before .before .before .before .before .before .before .before .before .before .args in let e = verdict-is (a .r) (a .frame .now) (a .held .now) (a .units .now) (a .records .now) _ _ (c .before .before .before .before .before .before .before .verdict-of .ensures) (c .before .before .before .before .before .v3 .given .1) in on-lane (a .r) (a .frame .now) (a .held .now) (a .units .now) (a .records .now) _ _ e (c .before .before .before .lane-gap .ensures)
 
--- src/lib.rt:466:1
 returns : tie.Need-returns
 unfolding onVerdict
 returns c = let a = c .before .before .before .before .before .before .before .before .before .args in let e = verdict-is (a .r) (a .frame .now) (a .held .now) (a .units .now) (a .records .now) _ _ (c .before .before .before .before .verdict-of .ensures) (c .before .before .v .given .1) in ap (λ (t : Taken). record { taken = t; heldArea = a .held .now; unitArea = a .units .now; recordArea = a .records .now }) (c .untouched .ensures) ∙ read-as (a .r) (a .frame .now) (a .held .now) (a .units .now) (a .records .now) _ e
 
--- src/lib.rt:466:1
 returns-2 : tie.Need-returns-2
 unfolding onVerdict
 returns-2 c = let a = c .before .before .before .before .before .before .before .before .args in let e = verdict-is (a .r) (a .frame .now) (a .held .now) (a .units .now) (a .records .now) _ _ (c .before .before .before .verdict-of .ensures) (c .before .enum-told .given .1) in ap (λ (t : Taken). record { taken = t; heldArea = a .held .now; unitArea = a .units .now; recordArea = a .records .now }) (c .untouched2 .ensures) ∙ read-as (a .r) (a .frame .now) (a .held .now) (a .units .now) (a .records .now) _ e
 
--- src/lib.rt:466:1
 returns-3 : tie.Need-returns-3
 unfolding onVerdict
 returns-3 c = let a = c .before .before .before .before .before .before .before .before .before .args in let e = verdict-is (a .r) (a .frame .now) (a .held .now) (a .units .now) (a .records .now) _ _ (c .before .before .before .before .verdict-of .ensures) (c .before .before .v2 .given .1) in ap (λ (t : Taken). record { taken = t; heldArea = a .held .now; unitArea = a .units .now; recordArea = a .records .now }) (c .count-on .ensures) ∙ read-as (a .r) (a .frame .now) (a .held .now) (a .units .now) (a .records .now) _ e
 
--- src/lib.rt:466:1
 same-length : tie.Need-same-length
 same-length c = search needs
 
--- src/lib.rt:466:1
 same-length-2 : tie.Need-same-length-2
 same-length-2 c = search needs
 
--- src/lib.rt:466:1
 same-length-3 : tie.Need-same-length-3
 same-length-3 c = search needs
 
--- src/lib.rt:466:1
 returns-4 : tie.Need-returns-4
 returns-4 c = let a = c .before .before .before .before .before .before .before .before .before .before .before .before .before .before .before .before .before .before .before .args in let e = verdict-is (a .r) (a .frame .now) (a .held .now) (a .units .now) (a .records .now) _ _ (c .before .before .before .before .before .before .before .before .before .before .before .before .before .before .verdict-of .ensures) (c .before .before .before .before .before .before .before .before .before .before .before .before .v3 .given .1) in read-on-lane (a .r) (a .frame .now) (a .held .now) (a .units .now) (a .records .now) _ _ e (c .before .before .before .before .before .before .before .before .before .before .lane-gap .ensures) _ (c .before .before .before .before .before .before .read-on .ensures)
 
