@@ -69,7 +69,7 @@ module _ (p : Lane → Bool) (ls : List Lane) where
             ∙ sym (append-snoc (take i t) 0 (emptied p (drop (suc i) ls) (drop (suc i) t)))
             ∙ ap₂ (λ (x y : List ℕ). x ++ emptied p (drop (suc i) ls) y) (sym (take-suc-set t i 0 k)) (sym (drop-set-lt (suc i) t i 0 (omega arith)))
             ∙ ap (λ (n : ℕ). take n (set t i 0) ++ emptied p (drop n ls) (drop n (set t i 0))) (sym (add-one i));
-        long = length-set t i 0 ∙ w .long
+        long = length-set t i 0 ∙ w .long;
       }
 
   pub emptying-keeps : (hs t : List ℕ) (i : ℕ) → i < length ls → i < length t → p (getD ls i noLane) ≡ false → Emptying hs t i → Emptying hs t (i + 1)
@@ -80,7 +80,7 @@ module _ (p : Lane → Bool) (ls : List Lane) where
             ∙ sym (append-snoc (take i t) (getD t i 0) (emptied p (drop (suc i) ls) (drop (suc i) t)))
             ∙ ap (λ (x : List ℕ). x ++ emptied p (drop (suc i) ls) (drop (suc i) t)) (sym (take-suc t i 0 k))
             ∙ ap (λ (n : ℕ). take n t ++ emptied p (drop n ls) (drop n t)) (sym (add-one i));
-        long = w .long
+        long = w .long;
       }
 
   pub emptying-all : (hs t : List ℕ) (i : ℕ) → length ls ≤ i → Emptying hs t i → t ≡ emptied p ls hs
@@ -143,7 +143,7 @@ module _ (s : Setting) (c : ℕ) (few : s .numbered ≤ 8) (slots : length (s .l
   spares hs n n′ i k h e en w =
       record {
         whole = lost-one (its c) (lanesOf s) hs i n (below i h) (omega arith) (w .whole) ∙ rw (no i h e, en, add-zero n);
-        small = let j = w .small in omega arith
+        small = let j = w .small in omega arith;
       }
 
   over : (i : ℕ) → s .numbered ≤ i → length (lanesOf s) ≤ i
@@ -172,7 +172,7 @@ takes r c ok h =
       seven = g .setting .channels c h .seven;
       count = g .counts c h;
       few = g .setting .numbered;
-      held = λ l k. omega (arith, g .held l k, g .setting .lanes l k .kind .most)
+      held = λ l k. omega (arith, g .held l k, g .setting .lanes l k .kind .most);
     }
 
 module _ (r : Reader) (c k m : ℕ) (e : m ≡ 256 ^ channel (r .setting) c .octets) where
@@ -189,10 +189,10 @@ module _ (r : Reader) (c k m : ℕ) (e : m ≡ 256 ^ channel (r .setting) c .oct
 
   pub gap-some : (gone ≡ 0 → ⊥)
       → record {
-          state = record { setting = r .setting; expects = next; held = emptied (its c) (lanesOf (r .setting)) (r .held) };
-          missing = gone;
-          dropped = lost (its c) (lanesOf (r .setting)) (r .held)
-        } ≡ gap r c k
+        state = record { setting = r .setting; expects = next; held = emptied (its c) (lanesOf (r .setting)) (r .held) };
+        missing = gone;
+        dropped = lost (its c) (lanesOf (r .setting)) (r .held);
+      } ≡ gap r c k
   unfolding gap expected
   gap-some h = rw e (by-cases gone h)
     where
@@ -201,10 +201,10 @@ module _ (r : Reader) (c k m : ℕ) (e : m ≡ 256 ^ channel (r .setting) c .oct
 
       by-cases : (n : ℕ) → (n ≡ 0 → ⊥)
           → record {
-              state = record { setting = r .setting; expects = state .expects; held = emptied (its c) (lanesOf (r .setting)) (r .held) };
-              missing = n;
-              dropped = lost (its c) (lanesOf (r .setting)) (r .held)
-            } ≡ gapBy state c n
+            state = record { setting = r .setting; expects = state .expects; held = emptied (its c) (lanesOf (r .setting)) (r .held) };
+            missing = n;
+            dropped = lost (its c) (lanesOf (r .setting)) (r .held);
+          } ≡ gapBy state c n
       by-cases zero q = absurd (q refl)
       by-cases (suc n) q = unfold gapBy in refl
 

@@ -52,6 +52,7 @@ module _ (s : Setting) (f : List ℕ) where
     where
       zero-one : (n : ℕ) → n ≡ 1 → n ≡ 0 → ⊥
       zero-one n p q = suc-ne-zero 0 (sym p ∙ q)
+
       go : (a : Bool) → command f =? 1 ≡ a → (b : Bool) → command f =? 0 ≡ b → (d : Bool)
           → cond (b && d) (Refused 12) (cond a (Counted c) (Read l)) ≡ cond a (Counted c) (cond d (Refused 12) (Read l))
       go true x true y d = absurd (zero-one (command f) (eqb-true _ _ x) (eqb-true _ _ y))
@@ -62,29 +63,29 @@ module _ (s : Setting) (f : List ℕ) where
   -- 9 to 12, of the channel at place p.
   late-rows : (p : Place)
       → cond (vc f ≠? 63 && none p) (Refused 9)
-        (cond (at p (λ (c : ℕ). countLength f ≠? (channel s c) .octets)) (Refused 10)
-        (cond (at p (λ (c : ℕ). ocfFlag f ≠? flag ((channel s c) .ocf))) (Refused 11)
-        (cond (at p (λ (c : ℕ). at (laneAt s c (map f)) (λ (l : ℕ). command f =? 0 && dataWrong s c l f))) (Refused 12) (passed s f p))))
-        ≡ judgeChannel s f p
+      (cond (at p (λ (c : ℕ). countLength f ≠? (channel s c) .octets)) (Refused 10)
+      (cond (at p (λ (c : ℕ). ocfFlag f ≠? flag ((channel s c) .ocf))) (Refused 11)
+      (cond (at p (λ (c : ℕ). at (laneAt s c (map f)) (λ (l : ℕ). command f =? 0 && dataWrong s c l f))) (Refused 12) (passed s f p))))
+      ≡ judgeChannel s f p
   unfolding judgeChannel judgeListed passed
   late-rows Nowhere = ap (λ (t : Bool). cond t (Refused 9) Idle) (and-true (vc f ≠? 63))
   late-rows (At c) =
       ap
       (λ (t : Bool). cond t (Refused 9)
-        (cond (countLength f ≠? (channel s c) .octets) (Refused 10)
-        (cond (ocfFlag f ≠? flag ((channel s c) .ocf)) (Refused 11)
-        (cond (at (laneAt s c (map f)) (λ (l : ℕ). command f =? 0 && dataWrong s c l f)) (Refused 12) (onChannel f c (laneAt s c (map f)))))))
+      (cond (countLength f ≠? (channel s c) .octets) (Refused 10)
+      (cond (ocfFlag f ≠? flag ((channel s c) .ocf)) (Refused 11)
+      (cond (at (laneAt s c (map f)) (λ (l : ℕ). command f =? 0 && dataWrong s c l f)) (Refused 12) (onChannel f c (laneAt s c (map f)))))))
       (and-false (vc f ≠? 63))
       ∙ ap (λ (v : Verdict). cond (countLength f ≠? (channel s c) .octets) (Refused 10) (cond (ocfFlag f ≠? flag ((channel s c) .ocf)) (Refused 11) v))
-        (last-row c (laneAt s c (map f)))
+      (last-row c (laneAt s c (map f)))
 
   -- 5 to 8, and on.
   head-rows : (v : Verdict)
       → cond (version f ≠? 0b1100) (Refused 5)
-        (cond (craft f ≠? s .craft || sourceBit f ≠? s .bit) (Refused 6)
-        (cond (endOfHeader f =? 1) (Refused 7)
-        (cond (lengthField f ≠? (s .length - 1) || spare f ≠? 0b00 || (command f =? 1 && bypass f =? 0)) (Refused 8) v)))
-        ≡ cond (headRefusal s (headOf f) =? 0) v (Refused (headRefusal s (headOf f)))
+      (cond (craft f ≠? s .craft || sourceBit f ≠? s .bit) (Refused 6)
+      (cond (endOfHeader f =? 1) (Refused 7)
+      (cond (lengthField f ≠? (s .length - 1) || spare f ≠? 0b00 || (command f =? 1 && bypass f =? 0)) (Refused 8) v)))
+      ≡ cond (headRefusal s (headOf f) =? 0) v (Refused (headRefusal s (headOf f)))
   unfolding headRefusal fieldRefusal headOf
   head-rows v =
       go (version f ≠? 0b1100) (craft f ≠? s .craft || sourceBit f ≠? s .bit) (endOfHeader f =? 1)
@@ -92,7 +93,7 @@ module _ (s : Setting) (f : List ℕ) where
     where
       go : (a b c d : Bool)
           → cond a (Refused 5) (cond b (Refused 6) (cond c (Refused 7) (cond d (Refused 8) v)))
-            ≡ cond (cond a 5 (cond b 6 (cond c 7 (cond d 8 0))) =? 0) v (Refused (cond a 5 (cond b 6 (cond c 7 (cond d 8 0)))))
+          ≡ cond (cond a 5 (cond b 6 (cond c 7 (cond d 8 0))) =? 0) v (Refused (cond a 5 (cond b 6 (cond c 7 (cond d 8 0)))))
       go true b c d = refl
       go false true c d = refl
       go false false true d = refl
@@ -109,11 +110,11 @@ module _ (s : Setting) (f : List ℕ) where
       let p : Place = channelAt s (vc f) (bypass f) in
       asked-is (refusalsAt s f p) (all-numbered p)
       ∙ ap
-        (λ (v : Verdict). cond (length f ≠? s .length) (Refused 3)
-          (cond (not (checkHolds s f)) (Refused 4)
-          (cond (version f ≠? 0b1100) (Refused 5)
-          (cond (craft f ≠? s .craft || sourceBit f ≠? s .bit) (Refused 6)
-          (cond (endOfHeader f =? 1) (Refused 7)
-          (cond (lengthField f ≠? (s .length - 1) || spare f ≠? 0b00 || (command f =? 1 && bypass f =? 0)) (Refused 8) v))))))
-        (late-rows p)
+      (λ (v : Verdict). cond (length f ≠? s .length) (Refused 3)
+      (cond (not (checkHolds s f)) (Refused 4)
+      (cond (version f ≠? 0b1100) (Refused 5)
+      (cond (craft f ≠? s .craft || sourceBit f ≠? s .bit) (Refused 6)
+      (cond (endOfHeader f =? 1) (Refused 7)
+      (cond (lengthField f ≠? (s .length - 1) || spare f ≠? 0b00 || (command f =? 1 && bypass f =? 0)) (Refused 8) v))))))
+      (late-rows p)
       ∙ ap (λ (v : Verdict). cond (length f ≠? s .length) (Refused 3) (cond (not (checkHolds s f)) (Refused 4) v)) (head-rows (judgeChannel s f p))

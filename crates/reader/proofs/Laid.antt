@@ -47,8 +47,8 @@ pub step-laid : (g : Gap) (l k n : ℕ) (m : Made) (h u c : List ℕ) (led : Led
 unfolding laidOut
 step-laid g l k n m h u c led d′ u′ c′ en room small s t et =
     let a : take (8192 * l) h ++ (d′ ++ drop n (drop (8192 * l) h)) ≡ laid h (8192 * l) (m .held) =
-        ap (λ (x : List ℕ). take (8192 * l) h ++ (x ++ drop n (drop (8192 * l) h))) (s .part)
-        ∙ laid-part h (8192 * l) n 0 (m .held) (omega arith) (omega arith) ∙ ap (λ (i : ℕ). laid h i (m .held)) (add-zero (8192 * l)) in
+    ap (λ (x : List ℕ). take (8192 * l) h ++ (x ++ drop n (drop (8192 * l) h))) (s .part)
+    ∙ laid-part h (8192 * l) n 0 (m .held) (omega arith) (omega arith) ∙ ap (λ (i : ℕ). laid h i (m .held)) (add-zero (8192 * l)) in
     rw (et, a, s .units, s .records, s .held, s .count, s .octets, s .idle, s .fill, s .dropped)
 
 -- ---- a frame that lane l reads after gap g
@@ -96,7 +96,7 @@ module _ (g : Gap) (l : ℕ) (f h u c : List ℕ) (o : OnLane g l f h u c) where
         most = kind-of .most;
         enough = kind-of .enough;
         zone = let a = zone-long in omega (arith, here .small);
-        inside = rw zone-long (o .reads .pointer)
+        inside = rw zone-long (o .reads .pointer);
       }
 
   abbrev made : ℕ → Made

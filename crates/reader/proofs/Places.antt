@@ -39,7 +39,7 @@ fits s c ok h =
       insert = g .insert;
       most = g .high;
       inside = omega (arith, k .room);
-      small = omega (arith, g .high)
+      small = omega (arith, g .high);
     }
 
 pub lane-eight : (s : Setting) (l : ℕ) → settingOk s ≡ true → l < s .numbered → l < 8

@@ -9,6 +9,7 @@ use borrow.Author.Tests.{eqb-true, ltb-false}
 use Rattle.rules.specs.declared.Gap.{Gap}
 use Rattle.rules.specs.declared.Reader.{Reader}
 use Rattle.rules.specs.declared.Setting.{Setting}
+use Rattle.rules.specs.declared.Taken.{Taken}
 use Rattle.rules.specs.declared.Verdict.{Verdict}
 use Rattle.rules.specs.Settings.{lane, channelOf, readerOk}
 use Rattle.rules.specs.Frames.{countIn}
@@ -21,6 +22,11 @@ use Rattle.rules.proofs.Judged.{Reads}
 use Rattle.rules.proofs.Calls.{Ordered, Ruled, verdict-facts}
 use Rattle.reader.specs.Reads.{verdictOf, OnLane}
 use Rattle.reader.proofs.Gaps.{gap-small}
+
+-- Areas that a read leaves as they were.
+pub untouched-areas : (h u c : List ℕ) {t t′ : Taken} → t ≡ t′
+    → _≡_ {A = Got} (record { taken = t; heldArea = h; unitArea = u; recordArea = c }) (record { taken = t′; heldArea = h; unitArea = u; recordArea = c })
+untouched-areas h u c e = ap (λ (x : Taken). record { taken = x; heldArea = h; unitArea = u; recordArea = c }) e
 
 module _ (r : Reader) (f h u c : List ℕ) where
   pub verdict-is : (v w : Verdict) → v ≡ verdictOf r f (length h) (length u) (length c) → v ≡ w → verdict r f h u c ≡ w
@@ -66,7 +72,7 @@ module _ (r : Reader) (f h u c : List ℕ) where
           reads = rw setting-same (o .judged);
           held = a .0;
           units = a .1;
-          records = a .2
+          records = a .2;
         }
 
     pub read-on-lane : (x : Got) → x ≡ readOn g l (channelOf (g .state .setting) l) f h u c → x ≡ read r f h u c

@@ -14,10 +14,23 @@ ghost use Rattle.header.specs.Heads.{headOf};
 ghost use Rattle.lanes.specs.Steps.{Lent, Stepped};
 ghost use Rattle.reader.specs.Reads.{infoFor, takenOf, countedOf, shortOf, verdictOf, OnLane};
 ghost use Rattle.reader.specs.Judging.{dataWrongOf, judgeData, judgeMap, judgeListed, judgeChannel, fieldRefusal, headRefusal};
-
-use header::{Data, Head};
+use header::Data;
+use header::Head;
 use lanes::Led;
-use rules::{Answer, Channel, Class, Expect, Gap, Info, Lane, Listener, Outcome, Place, Reader, Setting, Taken, Verdict};
+use rules::Answer;
+use rules::Channel;
+use rules::Class;
+use rules::Expect;
+use rules::Gap;
+use rules::Info;
+use rules::Lane;
+use rules::Listener;
+use rules::Outcome;
+use rules::Place;
+use rules::Reader;
+use rules::Setting;
+use rules::Taken;
+use rules::Verdict;
 
 // ---- judge: what the checks say of a frame
 
@@ -259,15 +272,26 @@ fn gap_of(r: Reader, c: usize, k: u64) -> Gap
     let missing = missing_of(n, e, k);
     let m = octets::modulus(n);
     let mut t = r;
-    t.expects[c] = Expect { known: true, count: (k + 1) % m };
+    t.expects[c] = Expect {
+        known: true,
+        count: (k + 1) % m,
+    };
     if missing == 0 {
-        return Gap { state: t, missing: 0, dropped: 0 };
+        return Gap {
+            state: t,
+            missing: 0,
+            dropped: 0,
+        };
     }
     let held = r.held;
     let dropped = lost_of(s, c, held);
     let left = emptied_of(s, c, held);
     t.held = left;
-    Gap { state: t, missing: missing, dropped: dropped }
+    Gap {
+        state: t,
+        missing: missing,
+        dropped: dropped,
+    }
 }
 
 // ---- what a lane makes of a frame
@@ -304,7 +328,18 @@ fn field_step(
     let place = packets::points_to(d.pointer);
     let kind = a.kind;
     let end = 3 + z;
-    lanes::lane_step(kind, a.longest, d.rule, place, &field[3..end], part, h, info, units, records)
+    lanes::lane_step(
+        kind,
+        a.longest,
+        d.rule,
+        place,
+        &field[3..end],
+        part,
+        h,
+        info,
+        units,
+        records,
+    )
 }
 
 // The answer and the state once lane l has made its step after gap g.
@@ -353,7 +388,16 @@ fn read_on(
     let at = 7 + ch.octets + s.insert;
     let from = 8192 * l;
     let to = from + 8192;
-    let led = field_step(a, z, &frame[at..], &mut held[from..to], h, info, units, records);
+    let led = field_step(
+        a,
+        z,
+        &frame[at..],
+        &mut held[from..to],
+        h,
+        info,
+        units,
+        records,
+    );
     taken_of(g, l, led)
 }
 
@@ -463,13 +507,7 @@ fn lane_gap(r: Reader, l: usize, frame: &[u8]) -> Gap
 }
 
 // Reads one frame into the areas lent, or refuses it and changes nothing.
-pub fn read(
-    r: Reader,
-    frame: &[u8],
-    held: &mut [u8],
-    units: &mut [u8],
-    records: &mut [u8],
-) -> Taken
+pub fn read(r: Reader, frame: &[u8], held: &mut [u8], units: &mut [u8], records: &mut [u8]) -> Taken
     ensures { λ t. ⌜ record { taken = t; heldArea = now (held .exit); unitArea = now (units .exit); recordArea = now (records .exit) } ≡ read r (now (frame .entry)) (now (held .entry)) (now (units .entry)) (now (records .entry)) ⌝ }
 {
     let v = verdict_of(r, frame, held.len(), units.len(), records.len());
@@ -489,4 +527,3 @@ pub fn read(
         }
     }
 }
-

@@ -40,7 +40,7 @@ cast-result c = search needs
 
 returns : tie.Need-returns
 unfolding checkHolds
-returns c = 
+returns c =
     let a = c .before .before .before .before .before .before .before .args in
     let n = a .s .length - 2 in
     let t : take (length (a .frame .now) - n) (drop n (a .frame .now)) ≡ drop n (a .frame .now) = take-all (length (a .frame .now) - n) (drop n (a .frame .now)) (omega (arith, length-drop n (a .frame .now))) in

@@ -28,7 +28,7 @@ exact-requires c κs = search needs
 
 returns : tie.Need-returns
 unfolding countIn
-returns c = 
+returns c =
     let a = c .before .before .before .before .args in
     let e : 7 + a .c .octets - 7 ≡ a .c .octets = omega arith in
     let v = c .exact .ensures ∙ ap (λ (n : ℕ). num (take n (drop 7 (a .frame .now)))) e in

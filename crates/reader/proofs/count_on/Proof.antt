@@ -13,19 +13,26 @@ use Rattle.reader.proofs.count_on.Statement.{statement}
 use Rattle.reader.proofs.count_on.Tie as tie
 
 mul-ch : tie.Need-mul-ch
-mul-ch c = let a = c .before .before in let t = takes (a .args .r) (a .args .c) (a .pre .0) (a .pre .1) in let q = t .eight in search needs
+mul-ch c =
+    let q = takes (c .before .before .args .r) (c .before .before .args .c) (c .before .before .pre .0) (c .before .before .pre .1) .eight in
+    search needs
 
 element-copy-out-ch : tie.Need-element-copy-out-ch
-element-copy-out-ch c = let a = c .before .before in let t = takes (a .args .r) (a .args .c) (a .pre .0) (a .pre .1) in t .eight
+element-copy-out-ch c = takes (c .before .before .args .r) (c .before .before .args .c) (c .before .before .pre .0) (c .before .before .pre .1) .eight
 
 count-in-requires : tie.Need-count-in-requires
-count-in-requires c κs = let a = c .before .before .before in let f = fits (a .args .r .setting) (a .args .c) (good-reader _ (a .pre .0) .ok) (a .pre .1) in (f .seven, omega (arith, a .pre .2, f .inside))
+count-in-requires c κs =
+    let a = c .before .before .before in
+    let w = fits (a .args .r .setting) (a .args .c) (good-reader _ (a .pre .0) .ok) (a .pre .1) in
+    (w .seven, omega (arith, a .pre .2, w .inside))
 
 gap-of-requires : tie.Need-gap-of-requires
-gap-of-requires c κs = let a = c .before .before .before .before in (a .pre .0, a .pre .1, c .count-in .ensures .1)
+gap-of-requires c κs = (c .before .before .before .before .pre .0, c .before .before .before .before .pre .1, c .count-in .ensures .1)
 
 returns : tie.Need-returns
-returns c = let a = c .before .before .before .before .before .before in ap countedOf (c .before .gap-of .ensures ∙ ap (gap (a .args .r) (a .args .c)) (c .before .before .count-in .ensures .0))
+returns c =
+    let a = c .before .before .before .before .before .before .args in
+    ap countedOf (c .before .gap-of .ensures ∙ ap (gap (a .r) (a .c)) (c .before .before .count-in .ensures .0))
 
 pub count-on-spec : {M : Type 1} → statement M
 count-on-spec =

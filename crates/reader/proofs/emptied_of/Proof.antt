@@ -40,7 +40,7 @@ loop-less : tie.Need-loop-less Inv-loop μ-loop
 loop-less c = search needs
 
 loop-again : tie.Need-loop-again Inv-loop μ-loop
-loop-again c = 
+loop-again c =
     let l = c .before .before .before .before in
     let a = l .before in
     let g : length (a .args .t1 .lanes) ≡ 8 = (simp length-map at (a .good .0 .1 .1 .1 .1 .1 .1 .1 .1 .1 .1 .0 .1 .0 .1)) in
@@ -50,7 +50,7 @@ loop-again c =
     (λ w. keeps (a .args .t1) (a .args .c) (a .pre) g _ _ _ _ j at (w .0 .left) (w .1) (l .loop .inv)) (c .if1 .came)
 
 returns : tie.Need-returns Inv-loop μ-loop
-returns c = 
+returns c =
     let a = c .before .before in
     let g : length (a .args .t1 .lanes) ≡ 8 = (simp length-map at (a .good .0 .1 .1 .1 .1 .1 .1 .1 .1 .1 .1 .0 .1 .0 .1)) in
     emptied-now (a .args .t1) (a .args .c) (a .pre) g _ _ _ (c .loop-test .left) (c .before .loop .inv)

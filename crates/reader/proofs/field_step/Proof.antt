@@ -30,7 +30,7 @@ part-lane-step-end c = search needs
 
 lane-step-requires : tie.Need-lane-step-requires
 unfolding dataOf
-lane-step-requires c κs = 
+lane-step-requires c κs =
     let a = c .before .before .before .before .before .before .before .before .before .before in
     let e : 3 + a .args .z - 3 ≡ a .args .z = omega arith in
     let p = c .before .before .before .before .points-to .ensures ∙ ap (λ (d : Data). pointsTo (d .pointer)) (c .before .before .before .before .before .data-of .ensures) in
@@ -47,7 +47,7 @@ same-length-3 c = search needs
 
 returns : tie.Need-returns
 unfolding dataOf
-returns c = 
+returns c =
     let a = c .before .before .before .before .before .before .before .before .before .before .before .before .before .before .before .before .before in
     let e : 3 + a .args .z - 3 ≡ a .args .z = omega arith in
     let d = c .before .before .before .before .before .before .before .before .before .before .before .before .data-of .ensures in

@@ -24,7 +24,7 @@ enum-told c = search needs
 
 returns : tie.Need-returns
 unfolding judgeChannel headOf
-returns c = 
+returns c =
     let a = c .before .before .before .before .before .before .args in
     let v = ap (λ (x : Head). x .vc) (c .before .before .before .before .before .before .pre .2) in
     let b = ap (λ (x : Head). x .bypass) (c .before .before .before .before .before .before .pre .2) in
@@ -36,13 +36,13 @@ enum-known-p c = search needs
 
 judge-listed-requires : tie.Need-judge-listed-requires
 unfolding headOf
-judge-listed-requires c κs = 
+judge-listed-requires c κs =
     let a = c .before .before .before .before .before .args in
     (c .before .before .before .before .before .pre .0, channel-found (a .s) (a .h .vc) (a .h .bypass) _ (sym (c .before .before .before .channel-at .ensures) ∙ c .before .p .given .1), c .before .before .before .before .before .pre .1, c .before .before .before .before .before .pre .2)
 
 returns-2 : tie.Need-returns-2
 unfolding judgeChannel headOf
-returns-2 c = 
+returns-2 c =
     let a = c .before .before .before .before .before .before .args in
     let v = ap (λ (x : Head). x .vc) (c .before .before .before .before .before .before .pre .2) in
     let b = ap (λ (x : Head). x .bypass) (c .before .before .before .before .before .before .pre .2) in
@@ -51,7 +51,7 @@ returns-2 c =
 
 returns-3 : tie.Need-returns-3
 unfolding judgeChannel headOf
-returns-3 c = 
+returns-3 c =
     let v = ap (λ (x : Head). x .vc) (c .before .before .before .before .before .before .pre .2) in
     let b = ap (λ (x : Head). x .bypass) (c .before .before .before .before .before .before .pre .2) in
     rw (sym v, sym b, sym (c .before .before .before .before .channel-at .ensures), c .before .before .p .given .1) (c .judge-listed .ensures)

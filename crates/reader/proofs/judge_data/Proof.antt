@@ -67,13 +67,13 @@ data-wrong-requires c κs = search needs
 
 returns : tie.Need-returns
 unfolding judgeData
-returns c = 
+returns c =
     let a = c .before .before .before .before .before .before .before .before .before .args in
     rw (sym (wrong (a .t1) (a .c) (a .l) (a .frame .now) _ _ _ (c .before .before .before .before .before .zone-of .ensures) (c .before .before .data-of .ensures) (c .before .data-wrong .ensures)) ∙ c .if1 .taken)
 
 returns-2 : tie.Need-returns-2
 unfolding judgeData
-returns-2 c = 
+returns-2 c =
     let a = c .before .before .before .before .before .before .before .before .before .args in
     rw (sym (wrong (a .t1) (a .c) (a .l) (a .frame .now) _ _ _ (c .before .before .before .before .before .zone-of .ensures) (c .before .before .data-of .ensures) (c .before .data-wrong .ensures)) ∙ c .if1 .left)
 

@@ -21,7 +21,7 @@ element-copy-out-ch c = fits _ _ (c .before .pre .0) (c .before .pre .1) .eight
 
 returns : tie.Need-returns
 unfolding judgeListed headOf
-returns c = 
+returns c =
     let k = ap (λ (x : Head). x .octets) (c .before .before .before .before .before .pre .3) in
     rw (sym k, ne-eqb _ _ (c .if1 .taken))
 
@@ -30,7 +30,7 @@ flag-of-requires c κs = search needs
 
 returns-2 : tie.Need-returns-2
 unfolding judgeListed headOf
-returns-2 c = 
+returns-2 c =
     let k = ap (λ (x : Head). x .octets) (c .before .before .before .before .before .before .before .before .pre .3) in
     let o = ap (λ (x : Head). x .ocf) (c .before .before .before .before .before .before .before .before .pre .3) in
     rw (sym k, eq-eqb _ _ (c .before .before .before .if1 .left), sym o, sym (c .before .before .flag-of .ensures), ne-eqb _ _ (c .if2 .taken))
@@ -40,7 +40,7 @@ judge-map-requires c κs = search needs
 
 returns-3 : tie.Need-returns-3
 unfolding judgeListed headOf
-returns-3 c = 
+returns-3 c =
     let k = ap (λ (x : Head). x .octets) (c .before .before .before .before .before .before .before .before .before .pre .3) in
     let o = ap (λ (x : Head). x .ocf) (c .before .before .before .before .before .before .before .before .before .pre .3) in
     rw (sym k, eq-eqb _ _ (c .before .before .before .before .if1 .left), sym o, sym (c .before .before .before .flag-of .ensures), eq-eqb _ _ (c .before .if2 .left)) (c .judge-map .ensures)

@@ -27,7 +27,7 @@ enum-known-p c = search needs
 
 returns : tie.Need-returns
 unfolding judgeMap headOf
-returns c = 
+returns c =
     let a = c .before .before .before .before .before .before .before .args in
     let m = ap (λ (x : Head). x .map) (c .before .before .before .before .before .before .before .pre .3) in
     let k = ap (λ (x : Head). x .command) (c .before .before .before .before .before .before .before .pre .3) in
@@ -35,20 +35,20 @@ returns c =
 
 judge-data-requires : tie.Need-judge-data-requires
 unfolding headOf
-judge-data-requires c κs = 
+judge-data-requires c κs =
     let a = c .before .before .before .before .before .before .before .args in
     (c .before .before .before .before .before .before .before .pre .0, c .before .before .before .before .before .before .before .pre .1, lane-found (a .s) (a .c) (a .h .map) _ (sym (c .before .before .before .before .before .lane-at .ensures) ∙ c .before .before .before .p .given .1), c .before .before .before .before .before .before .before .pre .2)
 
 returns-2 : tie.Need-returns-2
 unfolding judgeMap headOf
-returns-2 c = 
+returns-2 c =
     let a = c .before .before .before .before .args in
     let m = ap (λ (x : Head). x .map) (c .before .before .before .before .pre .3) in
     rw (sym (ap (laneAt (a .s) (a .c)) m), sym (c .before .before .lane-at .ensures), c .enum-told .given .1)
 
 returns-3 : tie.Need-returns-3
 unfolding judgeMap headOf
-returns-3 c = 
+returns-3 c =
     let a = c .before .before .before .before .before .before .before .before .args in
     let m = ap (λ (x : Head). x .map) (c .before .before .before .before .before .before .before .before .pre .3) in
     let k = ap (λ (x : Head). x .command) (c .before .before .before .before .before .before .before .before .pre .3) in

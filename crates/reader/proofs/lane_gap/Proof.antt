@@ -12,25 +12,43 @@ use Rattle.reader.proofs.lane_gap.Statement.{statement}
 use Rattle.reader.proofs.lane_gap.Tie as tie
 
 mul-a : tie.Need-mul-a
-mul-a c = let a = c .before .before in let q = lane-eight (a .args .r .setting) (a .args .l) (good-reader _ (a .pre .0) .ok) (a .pre .1) in search needs
+mul-a c =
+    let q = lane-eight (c .before .before .args .r .setting) (c .before .before .args .l) (good-reader _ (c .before .before .pre .0) .ok) (c .before .before .pre .1) in
+    search needs
 
 element-copy-out-a : tie.Need-element-copy-out-a
-element-copy-out-a c = let a = c .before .before in let q = lane-eight (a .args .r .setting) (a .args .l) (good-reader _ (a .pre .0) .ok) (a .pre .1) in q
+element-copy-out-a c = lane-eight (c .before .before .args .r .setting) (c .before .before .args .l) (good-reader _ (c .before .before .pre .0) .ok) (c .before .before .pre .1)
 
 mul-ch : tie.Need-mul-ch
-mul-ch c = let a = c .before .before .before in let h = lane-channel (a .args .r) (a .args .l) (a .pre .0) (a .pre .1) in let t = takes (a .args .r) _ (a .pre .0) h in let q = t .eight in search needs
+mul-ch c =
+    let a = c .before .before .before in
+    let h = lane-channel (a .args .r) (a .args .l) (a .pre .0) (a .pre .1) in
+    let q = takes (a .args .r) _ (a .pre .0) h .eight in
+    search needs
 
 element-copy-out-ch : tie.Need-element-copy-out-ch
-element-copy-out-ch c = let a = c .before .before .before in let h = lane-channel (a .args .r) (a .args .l) (a .pre .0) (a .pre .1) in let t = takes (a .args .r) _ (a .pre .0) h in t .eight
+element-copy-out-ch c =
+    let a = c .before .before .before in
+    let h = lane-channel (a .args .r) (a .args .l) (a .pre .0) (a .pre .1) in
+    takes (a .args .r) _ (a .pre .0) h .eight
 
 count-in-requires : tie.Need-count-in-requires
-count-in-requires c κs = let a = c .before .before .before .before in let h = lane-channel (a .args .r) (a .args .l) (a .pre .0) (a .pre .1) in let t = takes (a .args .r) _ (a .pre .0) h in let f = fits (a .args .r .setting) _ (good-reader _ (a .pre .0) .ok) h in (f .seven, omega (arith, a .pre .2, f .inside))
+count-in-requires c κs =
+    let a = c .before .before .before .before in
+    let h = lane-channel (a .args .r) (a .args .l) (a .pre .0) (a .pre .1) in
+    let w = fits (a .args .r .setting) _ (good-reader _ (a .pre .0) .ok) h in
+    (w .seven, omega (arith, a .pre .2, w .inside))
 
 gap-of-requires : tie.Need-gap-of-requires
-gap-of-requires c κs = let a = c .before .before .before .before .before in let h = lane-channel (a .args .r) (a .args .l) (a .pre .0) (a .pre .1) in let t = takes (a .args .r) _ (a .pre .0) h in (a .pre .0, h, c .count-in .ensures .1)
+gap-of-requires c κs =
+    let a = c .before .before .before .before .before in
+    let h = lane-channel (a .args .r) (a .args .l) (a .pre .0) (a .pre .1) in
+    (a .pre .0, h, c .count-in .ensures .1)
 
 returns : tie.Need-returns
-returns c = let a = c .before .before .before .before .before .before in c .gap-of .ensures ∙ ap (gap (a .args .r) (lane (a .args .r .setting) (a .args .l) .channel)) (c .before .count-in .ensures .0)
+returns c =
+    let a = c .before .before .before .before .before .before .args in
+    c .gap-of .ensures ∙ ap (gap (a .r) (lane (a .r .setting) (a .l) .channel)) (c .before .count-in .ensures .0)
 
 pub lane-gap-spec : {M : Type 1} → statement M
 lane-gap-spec =

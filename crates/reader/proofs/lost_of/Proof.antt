@@ -34,7 +34,7 @@ array-read-lost : tie.Need-array-read-lost Inv-loop μ-loop
 array-read-lost c = search needs
 
 add-lost : tie.Need-add-lost Inv-loop μ-loop
-add-lost c = 
+add-lost c =
     let l = c .before .before .before .before in
     let b = l .before .pre .1 (l .loop .i) (c .before .before .before .loop-test .taken) in
     let k = l .loop .inv .small in
@@ -47,7 +47,7 @@ loop-less : tie.Need-loop-less Inv-loop μ-loop
 loop-less c = search needs
 
 loop-again : tie.Need-loop-again Inv-loop μ-loop
-loop-again c = 
+loop-again c =
     let l = c .before .before .before .before in
     let a = l .before in
     let g : length (a .args .t1 .lanes) ≡ 8 = (simp length-map at (a .good .0 .1 .1 .1 .1 .1 .1 .1 .1 .1 .1 .0 .1 .0 .1)) in
@@ -57,7 +57,7 @@ loop-again c =
     (λ w. spares (a .args .t1) (a .args .c) (a .pre .0) g _ _ _ _ j at (w .0 .left) (w .1) (l .loop .inv)) (c .if1 .came)
 
 returns : tie.Need-returns Inv-loop μ-loop
-returns c = 
+returns c =
     let a = c .before .before in
     let g : length (a .args .t1 .lanes) ≡ 8 = (simp length-map at (a .good .0 .1 .1 .1 .1 .1 .1 .1 .1 .1 .1 .0 .1 .0 .1)) in
     lost-now (a .args .t1) (a .args .c) (a .pre .0) g _ _ _ (c .loop-test .left) (c .before .loop .inv)

@@ -14,7 +14,7 @@ modulus-requires : tie.Need-modulus-requires
 modulus-requires c κs = search needs
 
 add-result : tie.Need-add-result
-add-result c = 
+add-result c =
     let a = c .before .before in
     let e = modulus-is (a .args .n) (c .modulus .result) (a .pre .0) (c .modulus .ensures) in
     let h = modulus-small (a .args .n) (a .pre .0) in
@@ -22,14 +22,14 @@ add-result c =
     omega arith
 
 sub-result : tie.Need-sub-result
-sub-result c = 
+sub-result c =
     let a = c .before .before .before in
     let e = modulus-is (a .args .n) (c .before .modulus .result) (a .pre .0) (c .before .modulus .ensures) in
     let k = a .pre .1 in
     omega arith
 
 rem-result : tie.Need-rem-result
-rem-result c = 
+rem-result c =
     let a = c .before .before .before in
     let e = modulus-is (a .args .n) (c .before .modulus .result) (a .pre .0) (c .before .modulus .ensures) in
     let h = pow256-pos (a .args .n) in
@@ -37,7 +37,7 @@ rem-result c =
 
 returns : tie.Need-returns
 unfolding missing
-returns c = 
+returns c =
     let a = c .before .before .before in
     ap (λ (m : ℕ). (a .args .k + m - a .args .e .count) % m) (modulus-is (a .args .n) (c .before .modulus .result) (a .pre .0) (c .before .modulus .ensures))
     ∙ ap (λ (b : Bool). cond b ((a .args .k + 256 ^ (a .args .n) - a .args .e .count) % 256 ^ (a .args .n)) 0) (sym (c .before .before .if1 .taken))

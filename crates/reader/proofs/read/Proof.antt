@@ -1,8 +1,7 @@
 -- `reader::read` meets its contract: each case of the verdict makes what the rule makes of it.
 use mathlib.Core.Path.{_≡_, refl, sym, ap, _∙_}
-use Rattle.rules.specs.declared.Taken.{Taken}
-use Rattle.rules.specs.Calls.{Got, onVerdict}
-use Rattle.reader.proofs.Verdicts.{verdict-is, read-as, counts, lanes, on-lane, read-on-lane}
+use Rattle.rules.specs.Calls.{onVerdict}
+use Rattle.reader.proofs.Verdicts.{verdict-is, read-as, untouched-areas, counts, lanes, on-lane, read-on-lane}
 use borrow.Author.Needs.{needs}
 use Rattle.reader.proofs.read.Statement.{statement}
 use Rattle.reader.proofs.read.Tie as tie
@@ -26,28 +25,46 @@ enum-known-v-2 : tie.Need-enum-known-v-2
 enum-known-v-2 c = search needs
 
 count-on-requires : tie.Need-count-on-requires
-count-on-requires c κs = let a = c .before .before .before .before .before .before .before .before .args in let e = verdict-is (a .r) (a .frame .now) (a .held .now) (a .units .now) (a .records .now) _ _ (c .before .before .before .verdict-of .ensures) (c .before .v2 .given .1) in counts (a .r) (a .frame .now) (a .held .now) (a .units .now) (a .records .now) _ e
+count-on-requires c κs =
+    let a = c .before .before .before .before .before .before .before .before .args in
+    let e = verdict-is (a .r) (a .frame .now) (a .held .now) (a .units .now) (a .records .now) _ _ (c .before .before .before .verdict-of .ensures) (c .before .v2 .given .1) in
+    counts (a .r) (a .frame .now) (a .held .now) (a .units .now) (a .records .now) _ e
 
 enum-known-v-3 : tie.Need-enum-known-v-3
 enum-known-v-3 c = search needs
 
 lane-gap-requires : tie.Need-lane-gap-requires
-lane-gap-requires c κs = let a = c .before .before .before .before .before .before .before .before .args in let e = verdict-is (a .r) (a .frame .now) (a .held .now) (a .units .now) (a .records .now) _ _ (c .before .before .before .verdict-of .ensures) (c .before .v3 .given .1) in lanes (a .r) (a .frame .now) (a .held .now) (a .units .now) (a .records .now) _ e
+lane-gap-requires c κs =
+    let a = c .before .before .before .before .before .before .before .before .args in
+    let e = verdict-is (a .r) (a .frame .now) (a .held .now) (a .units .now) (a .records .now) _ _ (c .before .before .before .verdict-of .ensures) (c .before .v3 .given .1) in
+    lanes (a .r) (a .frame .now) (a .held .now) (a .units .now) (a .records .now) _ e
 
 read-on-requires : tie.Need-read-on-requires
-read-on-requires c κs = let a = c .before .before .before .before .before .before .before .before .before .before .before .before .args in let e = verdict-is (a .r) (a .frame .now) (a .held .now) (a .units .now) (a .records .now) _ _ (c .before .before .before .before .before .before .before .verdict-of .ensures) (c .before .before .before .before .before .v3 .given .1) in on-lane (a .r) (a .frame .now) (a .held .now) (a .units .now) (a .records .now) _ _ e (c .before .before .before .lane-gap .ensures)
+read-on-requires c κs =
+    let a = c .before .before .before .before .before .before .before .before .before .before .before .before .args in
+    let e = verdict-is (a .r) (a .frame .now) (a .held .now) (a .units .now) (a .records .now) _ _ (c .before .before .before .before .before .before .before .verdict-of .ensures) (c .before .before .before .before .before .v3 .given .1) in
+    on-lane (a .r) (a .frame .now) (a .held .now) (a .units .now) (a .records .now) _ _ e (c .before .before .before .lane-gap .ensures)
 
 returns : tie.Need-returns
 unfolding onVerdict
-returns c = let a = c .before .before .before .before .before .before .before .before .before .args in let e = verdict-is (a .r) (a .frame .now) (a .held .now) (a .units .now) (a .records .now) _ _ (c .before .before .before .before .verdict-of .ensures) (c .before .before .v .given .1) in ap (λ (t : Taken). record { taken = t; heldArea = a .held .now; unitArea = a .units .now; recordArea = a .records .now }) (c .untouched .ensures) ∙ read-as (a .r) (a .frame .now) (a .held .now) (a .units .now) (a .records .now) _ e
+returns c =
+    let a = c .before .before .before .before .before .before .before .before .before .args in
+    let e = verdict-is (a .r) (a .frame .now) (a .held .now) (a .units .now) (a .records .now) _ _ (c .before .before .before .before .verdict-of .ensures) (c .before .before .v .given .1) in
+    untouched-areas (a .held .now) (a .units .now) (a .records .now) (c .untouched .ensures) ∙ read-as (a .r) (a .frame .now) (a .held .now) (a .units .now) (a .records .now) _ e
 
 returns-2 : tie.Need-returns-2
 unfolding onVerdict
-returns-2 c = let a = c .before .before .before .before .before .before .before .before .args in let e = verdict-is (a .r) (a .frame .now) (a .held .now) (a .units .now) (a .records .now) _ _ (c .before .before .before .verdict-of .ensures) (c .before .enum-told .given .1) in ap (λ (t : Taken). record { taken = t; heldArea = a .held .now; unitArea = a .units .now; recordArea = a .records .now }) (c .untouched2 .ensures) ∙ read-as (a .r) (a .frame .now) (a .held .now) (a .units .now) (a .records .now) _ e
+returns-2 c =
+    let a = c .before .before .before .before .before .before .before .before .args in
+    let e = verdict-is (a .r) (a .frame .now) (a .held .now) (a .units .now) (a .records .now) _ _ (c .before .before .before .verdict-of .ensures) (c .before .enum-told .given .1) in
+    untouched-areas (a .held .now) (a .units .now) (a .records .now) (c .untouched2 .ensures) ∙ read-as (a .r) (a .frame .now) (a .held .now) (a .units .now) (a .records .now) _ e
 
 returns-3 : tie.Need-returns-3
 unfolding onVerdict
-returns-3 c = let a = c .before .before .before .before .before .before .before .before .before .args in let e = verdict-is (a .r) (a .frame .now) (a .held .now) (a .units .now) (a .records .now) _ _ (c .before .before .before .before .verdict-of .ensures) (c .before .before .v2 .given .1) in ap (λ (t : Taken). record { taken = t; heldArea = a .held .now; unitArea = a .units .now; recordArea = a .records .now }) (c .count-on .ensures) ∙ read-as (a .r) (a .frame .now) (a .held .now) (a .units .now) (a .records .now) _ e
+returns-3 c =
+    let a = c .before .before .before .before .before .before .before .before .before .args in
+    let e = verdict-is (a .r) (a .frame .now) (a .held .now) (a .units .now) (a .records .now) _ _ (c .before .before .before .before .verdict-of .ensures) (c .before .before .v2 .given .1) in
+    untouched-areas (a .held .now) (a .units .now) (a .records .now) (c .count-on .ensures) ∙ read-as (a .r) (a .frame .now) (a .held .now) (a .units .now) (a .records .now) _ e
 
 same-length : tie.Need-same-length
 same-length c = search needs
@@ -59,7 +76,10 @@ same-length-3 : tie.Need-same-length-3
 same-length-3 c = search needs
 
 returns-4 : tie.Need-returns-4
-returns-4 c = let a = c .before .before .before .before .before .before .before .before .before .before .before .before .before .before .before .before .before .before .before .args in let e = verdict-is (a .r) (a .frame .now) (a .held .now) (a .units .now) (a .records .now) _ _ (c .before .before .before .before .before .before .before .before .before .before .before .before .before .before .verdict-of .ensures) (c .before .before .before .before .before .before .before .before .before .before .before .before .v3 .given .1) in read-on-lane (a .r) (a .frame .now) (a .held .now) (a .units .now) (a .records .now) _ _ e (c .before .before .before .before .before .before .before .before .before .before .lane-gap .ensures) _ (c .before .before .before .before .before .before .read-on .ensures)
+returns-4 c =
+    let a = c .before .before .before .before .before .before .before .before .before .before .before .before .before .before .before .before .before .before .before .args in
+    let e = verdict-is (a .r) (a .frame .now) (a .held .now) (a .units .now) (a .records .now) _ _ (c .before .before .before .before .before .before .before .before .before .before .before .before .before .before .verdict-of .ensures) (c .before .before .before .before .before .before .before .before .before .before .before .before .v3 .given .1) in
+    read-on-lane (a .r) (a .frame .now) (a .held .now) (a .units .now) (a .records .now) _ _ e (c .before .before .before .before .before .before .before .before .before .before .lane-gap .ensures) _ (c .before .before .before .before .before .before .read-on .ensures)
 
 pub read-spec : {M : Type 1} → statement M
 read-spec =
