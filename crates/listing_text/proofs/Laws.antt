@@ -128,3 +128,15 @@ put-line k a area from area₁ at₁ n area₂ at₂ area₃ at₃ area₄ at₄
     (put-then (f ++ decimal n ++ 32 ∷ []) m area from area₃ at₃ area₄ at₄ (omega arith)
     (put-then (f ++ decimal n) (32 ∷ []) area from area₂ at₂ area₃ at₃ (omega arith)
     (put-then f (decimal n) area from area₁ at₁ area₂ at₂ (omega arith) p q) r) s) t)
+
+pub length-line : (k : ℕ) (a : Answer) → length (line k a) ≤ 71
+unfolding line front text
+length-line k a =
+    let f : List ℕ = front k (a .class) in
+    let n : ℕ = amount (a .class) (a .units) in
+    let m : List ℕ = decimal (a .missing) in
+    let l₁ : length f ≤ 29 = length-front k (a .class) in
+    let l₂ : length (f ++ decimal n) ≤ 49 = omega (arith, length-append f (decimal n), length-decimal n) in
+    let l₃ : length (f ++ decimal n ++ 32 ∷ []) ≤ 50 = omega (arith, length-append (f ++ decimal n) (32 ∷ [])) in
+    let l₄ : length (f ++ decimal n ++ 32 ∷ [] ++ m) ≤ 70 = omega (arith, length-append (f ++ decimal n ++ 32 ∷ []) m, length-decimal (a .missing)) in
+    omega (arith, length-append (f ++ decimal n ++ 32 ∷ [] ++ m) (10 ∷ []))
