@@ -1,15 +1,15 @@
 -- Handing out, one after another: what two steps leave is what both at once would, and there is room for the second once there is for both.
 use mathlib.Core.Path.{_≡_, refl, sym, ap, ap₂, _∙_}
-use Prim.Native.Nat.{ℕ, zero, suc, _+_, _-_, _*_, _≤_, _<_}
+use mathlib.Core.List.{List, [], _∷_, _++_, append-assoc, append-nil}
+use Prim.Native.Nat.{ℕ, _+_, _*_, _≤_}
 use native.Mathlib.Nat.{zero-add, add-zero, add-assoc}
 use native.Mathlib.Omega.{arith}
-use mathlib.Core.List.{List, [], _∷_, _++_, append-assoc, append-nil}
 use lib.ListN.{length, take, drop, length-append}
 use lib.Seq.{length-take-le}
 use Rattle.rules.specs.declared.Info.{Info}
 use Rattle.rules.specs.Octets.{be}
 use Rattle.rules.specs.Areas.{laid, joined}
-use Rattle.rules.specs.Reading.{Made, nothing, holds, drops, fills, hands, idles, both, recordOf, recordsFrom}
+use Rattle.rules.specs.Reading.{Made, nothing, hands, idles, both, recordOf, recordsFrom}
 use Rattle.rules.proofs.Octets.{length-be}
 use Rattle.rules.proofs.Areas.{joined-append, laid-nil, laid-laid, length-laid}
 use Rattle.lanes.specs.declared.Tally.{Tally}
@@ -90,11 +90,11 @@ module _ {t : Tally} {u r : List ℕ} (a b : Made) (room : Room t u r (both a b)
       let j = joined-both (a .units) (b .units) in
       let n = length-append (a .units) (b .units) in
       record {
-        octets = omega (arith, room .octets);
-        records = omega (arith, room .records);
-        idle = omega (arith, room .idle);
-        fill = omega (arith, room .fill);
-        dropped = omega (arith, room .dropped);
+        octets = omega arith;
+        records = omega arith;
+        idle = omega arith;
+        fill = omega arith;
+        dropped = omega arith;
       }
 
   module _ {i : Info} {t₁ : Tally} {u₁ r₁ : List ℕ} (first : Handed i t u r a t₁ u₁ r₁) where
@@ -114,11 +114,11 @@ module _ {t : Tally} {u r : List ℕ} (a b : Made) (room : Room t u r (both a b)
         let j = joined-both (a .units) (b .units) in
         let n = length-append (a .units) (b .units) in
         record {
-          octets = omega (arith, room .octets, first .octets, units-stay);
-          records = omega (arith, room .records, first .count, records-stay);
-          idle = omega (arith, room .idle, first .idle);
-          fill = omega (arith, room .fill, first .fill);
-          dropped = omega (arith, room .dropped, first .dropped);
+          octets = omega (arith, units-stay);
+          records = omega (arith, records-stay);
+          idle = omega arith;
+          fill = omega arith;
+          dropped = omega arith;
         }
 
     pub handed-both : {t₂ : Tally} {u₂ r₂ : List ℕ} → Handed i t₁ u₁ r₁ b t₂ u₂ r₂ → Handed i t u r (both a b) t₂ u₂ r₂
@@ -127,7 +127,7 @@ module _ {t : Tally} {u r : List ℕ} (a b : Made) (room : Room t u r (both a b)
         let j = joined-both (a .units) (b .units) in
         let n = length-append (a .units) (b .units) in
         let k = length-records i (t .octets) (a .units) in
-        let at : 16 * t₁ .count ≡ 16 * t .count + length (recordsFrom i (t .octets) (a .units)) = omega (arith, first .count) in
+        let at : 16 * t₁ .count ≡ 16 * t .count + length (recordsFrom i (t .octets) (a .units)) = omega arith in
         record {
           unitArea =
               second .unitArea ∙ ap₂ (λ (x : List ℕ) (n : ℕ). laid x n (joined (b .units))) (first .unitArea) (first .octets)
@@ -138,11 +138,11 @@ module _ {t : Tally} {u r : List ℕ} (a b : Made) (room : Room t u r (both a b)
               ∙ laid-laid r (16 * t .count) (recordsFrom i (t .octets) (a .units)) (omega (arith, room-first .records)) (recordsFrom i (t₁ .octets) (b .units))
               ∙ ap (λ (n : ℕ). laid r (16 * t .count) (recordsFrom i (t .octets) (a .units) ++ recordsFrom i n (b .units))) (first .octets)
               ∙ ap (laid r (16 * t .count)) (sym (records-append i (t .octets) (a .units) (b .units)));
-          count = omega (arith, first .count, second .count);
-          octets = omega (arith, first .octets, second .octets);
-          idle = omega (arith, first .idle, second .idle);
-          fill = omega (arith, first .fill, second .fill);
-          dropped = omega (arith, first .dropped, second .dropped);
+          count = omega arith;
+          octets = omega arith;
+          idle = omega arith;
+          fill = omega arith;
+          dropped = omega arith;
         }
 
     pub went-after : {d : List ℕ} {l : Led} {u₂ r₂ d₂ : List ℕ} → Went i t₁ u₁ r₁ d b l u₂ r₂ d₂ → Went i t u r d (both a b) l u₂ r₂ d₂
@@ -240,7 +240,7 @@ pub two-fit : {t : Tally} {u r : List ℕ} (x y : List ℕ) → Room t u r (hand
 unfolding joined
 two-fit x y room =
     let n : length (x ++ y ++ []) ≡ length x + length y = ap length (append-nil (x ++ y)) ∙ length-append x y in
-    omega (arith, room .octets)
+    omega arith
 
 -- Nothing is held: the lane's part stays.
 pub part-stays : {i : Info} {t : Tally} {u r d : List ℕ} {m : Made} {t′ : Tally} {u′ r′ : List ℕ} → m .held ≡ [] → Handed i t u r m t′ u′ r′

@@ -1,25 +1,25 @@
 -- A lane's step by its parts: each part is ready once the whole is, and what they leave together is what the whole leaves.
-use mathlib.Core.Path.{_≡_, refl, sym, ap, ap₂, _∙_}
-use Prim.Native.Nat.{ℕ, _+_, _-_, _*_, _≤_, _<_}
+use mathlib.Core.Path.{_≡_, refl, ap, _∙_}
+use mathlib.Core.Bool.{Bool, true, false, false≢true}
+use mathlib.Core.List.{List, [], _++_}
+use Prim.Native.Nat.{ℕ, _≤_}
 use native.Mathlib.Nat.{zero-add}
 use native.Mathlib.Omega.{arith}
-use mathlib.Core.Bool.{Bool, true, false, false≢true}
-use mathlib.Core.List.{List, [], _∷_, _++_}
-use lib.ListN.{length, take, drop}
+use lib.ListN.{length, take}
 use lib.Seq.{length-take-le}
 use Rattle.rules.specs.declared.Kind.{Kind}
 use Rattle.rules.specs.declared.Place.{Place}
 use Rattle.rules.specs.declared.Measure.{Measure}
 use Rattle.rules.specs.declared.Fate.{Fate}
 use Rattle.rules.specs.declared.Info.{Info}
-use Rattle.rules.specs.Areas.{laid, joined}
+use Rattle.rules.specs.Areas.{laid}
 use Rattle.rules.specs.Packets.{measure}
-use Rattle.rules.specs.Reading.{Made, nothing, drops, both, become, leadFate, lead, unitFate, followFate, portion, laneStep, recordsFrom}
+use Rattle.rules.specs.Reading.{Made, nothing, drops, both, become, leadFate, lead, unitFate, followFate, portion, laneStep}
 use Rattle.rules.proofs.Areas.{laid-nil}
 use Rattle.rules.proofs.Lanes.{lead-cases, total, lane-total, lane-below, lane-few}
 use Rattle.lanes.specs.declared.Tally.{Tally}
 use Rattle.lanes.specs.declared.Led.{Led}
-use Rattle.lanes.specs.Steps.{Room, Handed, Ready, Went, Lent, Stepped}
+use Rattle.lanes.specs.Steps.{Handed, Ready, Went, Lent, Stepped}
 use Rattle.lanes.proofs.Laws.{room-first, room-second, went-after, held-length}
 
 -- ---- two parts
@@ -28,13 +28,13 @@ module _ {t : Tally} {u r d : List ℕ} {h : ℕ} {z : List ℕ} (a b : Made) (r
   pub ready-first : (z′ : List ℕ) → a .held ≡ [] → length z′ ≤ length z → Ready t u r d h z′ a
   ready-first z′ none less =
       let n : length (a .held) ≡ 0 = ap length none in
-      record { room = room-first a b (ready .room); held = omega arith; inside = ready .inside; few = omega (arith, ready .few) }
+      record { room = room-first a b (ready .room); held = omega arith; inside = ready .inside; few = omega arith }
 
   pub ready-second : {i : Info} {t₁ : Tally} {u₁ r₁ : List ℕ} (h′ : ℕ) (z′ : List ℕ) → h′ ≤ length d → length z′ ≤ length z
       → Handed i t u r a t₁ u₁ r₁ → Ready t₁ u₁ r₁ d h′ z′ b
   unfolding both
   ready-second h′ z′ inside less first =
-      record { room = room-second a b (ready .room) first; held = ready .held; inside = inside; few = omega (arith, ready .few) }
+      record { room = room-second a b (ready .room) first; held = ready .held; inside = inside; few = omega arith }
 
   -- The first leaves nothing held.
   pub went-both : {i : Info} {l₁ l₂ : Led} {u₁ r₁ d₁ u₂ r₂ d₂ : List ℕ} → a .held ≡ [] → Went i t u r d a l₁ u₁ r₁ d₁
@@ -77,7 +77,7 @@ pub lent-ready : {k : Kind} {longest h : ℕ} {p : Place} {z d u r : List ℕ} (
     → Ready empty u r d h z (laneStep k longest rule (take h d) p z)
 unfolding total
 lent-ready {k} {longest} {h} {p} {z} {d} {u} {r} rule lent =
-    let inside : h ≤ length d = omega (arith, lent .held, lent .most, lent .part) in
+    let inside : h ≤ length d = omega arith in
     let held : length (take h d) ≡ h = length-take-le h d inside in
     let all = lane-total k longest rule (take h d) p z in
     let few = lane-few k longest rule (take h d) p z in
@@ -85,15 +85,15 @@ lent-ready {k} {longest} {h} {p} {z} {d} {u} {r} rule lent =
     record {
       room =
           record {
-            octets = omega (arith, all, lent .units, lent .held, lent .most, lent .zone);
-            records = omega (arith, few, lent .records, lent .zone);
-            idle = omega (arith, all, lent .held, lent .most, lent .zone);
-            fill = omega (arith, all, lent .held, lent .most, lent .zone);
-            dropped = omega (arith, all, lent .held, lent .most, lent .zone);
+            octets = omega arith;
+            records = omega arith;
+            idle = omega arith;
+            fill = omega arith;
+            dropped = omega arith;
           };
-      held = omega (arith, below, lent .most, lent .part);
+      held = omega arith;
       inside = inside;
-      few = omega (arith, lent .part, lent .zone);
+      few = omega arith;
     }
 
 pub stepped : {i : Info} {m : Made} {u r d : List ℕ} {l : Led} {u′ r′ d′ : List ℕ} → Went i empty u r d m l u′ r′ d′ → Stepped i m d u r l d′ u′ r′

@@ -1,9 +1,9 @@
 -- The walk over a zone: at each place what it makes of the rest is what it makes of the packet there, and then of the octets after it.
 use mathlib.Core.Path.{_≡_, refl, sym, ap, ap₂, _∙_}
+use mathlib.Core.List.{List, [], _∷_}
 use Prim.Native.Nat.{ℕ, _+_, _-_, _≤_}
 use native.Mathlib.Nat.{not-suc-le-zero}
 use native.Mathlib.Omega.{arith}
-use mathlib.Core.List.{List, [], _∷_}
 use lib.ListN.{length, take, drop, length-drop}
 use lib.Seq.{take-all, drop-drop}
 use Rattle.rules.specs.declared.Next.{Next}
@@ -104,4 +104,4 @@ module _ {longest : ℕ} {z : List ℕ} {from : ℕ} {i : Info} {t : Tally} {u r
     turn-room = room-first a (walk longest (drop (at + n) z)) (rw (turn .split) at (begun-room room (w .begun)))
 
     pub turn-on : {t₂ : Tally} {u₂ r₂ : List ℕ} → Handed i t₁ u₁ r₁ a t₂ u₂ r₂ → Walking longest z from i t u r (at + n) t₂ u₂ r₂
-    turn-on next = record { inside = omega (arith, turn .inside, w .inside); begun = begun-on room (w .begun) (turn .split) next }
+    turn-on next = record { inside = omega arith; begun = begun-on room (w .begun) (turn .split) next }

@@ -1,6 +1,5 @@
 // What a lane makes of a zone and of the octets it holds, laid into lent areas. Everything appends: a tally goes in and comes out.
 ghost use mathlib.Core.Path.{_≡_};
-ghost use mathlib.Core.Bool.{true, false};
 ghost use mathlib.Core.List.{_++_};
 ghost use Prim.Native.Nat.{_+_, _≤_};
 ghost use lib.ListN.{length, getD, take, drop};
@@ -8,7 +7,7 @@ ghost use Rattle.rules.specs.Areas.{laid};
 ghost use Rattle.rules.specs.Packets.{measure};
 ghost use Rattle.rules.specs.Reading.{nothing, hands, become, lead, nextOf, walk, packetLane, portion, accessLane, laneStep, recordOf};
 ghost use Rattle.rules.proofs.Judged.{Inside};
-ghost use Rattle.lanes.specs.Steps.{Room, Handed, Begun, Left, Ready, Went, Lent, Stepped};
+ghost use Rattle.lanes.specs.Steps.{Room, Handed, Left, Ready, Went, Lent, Stepped};
 use rules::Fate;
 use rules::Info;
 use rules::Kind;

@@ -17,7 +17,7 @@ use Rattle.rules.specs.Writing.{zoneOf, ruleOf, inside}
 use Rattle.rules.specs.Reading.{Made, both, become, unitFate, followFate, portion, accessLane}
 use Rattle.rules.proofs.Tests.{split}
 use Rattle.link.specs.Due.{spans, ending}
-use Rattle.link.proofs.Spans.{yields, yield, heldFrom, either-none, held-past, held-here, first-within, first-after}
+use Rattle.link.proofs.Spans.{yields, yield, heldFrom, either, held-past, held-here, first-within, first-after}
 
 module _ (longest z : ℕ) (zp : 0 < z) (j k : ℕ) (jk : j ≤ k) (b : List ℕ) (bl : length b ≤ longest) (kb : k * z < length b) where
   abbrev o : ℕ
@@ -114,7 +114,7 @@ module _ (longest z : ℕ) (zp : 0 < z) (j k : ℕ) (jk : j ≤ k) (b : List ℕ
       ∙ one-of live (b ∷ []) []
       ∙ sym
       (ap₂ yields (first-within z zp k (λ (i : ℕ). j ≤? i) b [] 0 (omega arith) (omega arith) ∙ append-nil (cond live (b ∷ []) []))
-      (held-past z j 0 (o + z) b [] h ∙ nil ∙ sym (either-none live)))
+      (held-past z j 0 (o + z) b [] h ∙ nil ∙ sym (either live [])))
     where
       nil : heldFrom z j (0 + length b) (o + z - length b) [] ≡ []
       nil = unfold heldFrom in refl
@@ -128,12 +128,8 @@ module _ (longest z : ℕ) (zp : 0 < z) (j k : ℕ) (jk : j ≤ k) (b : List ℕ
       ∙ so-far false (take z (drop o b)) (take (o + z) b) (sym (take-add o z b))
       ∙ ap (λ (f : Fate). cond live (yield (become f (take (o + z) b))) (yields [] [])) (fate-goes h)
       ∙ one-of live [] (take (o + z) b)
-      ∙ ap (λ (us : List (List ℕ)). yields us (cond live (take (o + z) b) [])) (nothing-of live)
+      ∙ ap (λ (us : List (List ℕ)). yields us (cond live (take (o + z) b) [])) (either live [])
       ∙ sym (ap₂ yields (first-after z zp k (λ (i : ℕ). j ≤? i) b [] 0 tt (omega arith)) (held-here z j 0 (o + z) b [] h))
-    where
-      nothing-of : (t : Bool) → _≡_ {A = List (List ℕ)} (cond t [] []) []
-      nothing-of true = refl
-      nothing-of false = refl
 
   pub access-lane :
       yield (accessLane longest (ruleOf Access k =? 0b001) (heldFrom z j 0 o (b ∷ [])) (inside z (length b - 1 - o)) (zoneOf Access z b k))

@@ -4,8 +4,8 @@
 -- what it holds only at the next kept frame, so nothing is said of held octets while frames are gone.
 use mathlib.Core.Path.{_≡_, refl, sym, ap, ap₂, _∙_}
 use mathlib.Core.Logic.{_⊎_, inl, inr}
-use Prim.Native.Nat.{ℕ, suc, _+_, _-_, _*_, _%_, _^_, _≤_, _<_}
-use native.Mathlib.Nat.{le-refl, not-suc-le-zero, suc-ne-zero, zero-add, add-zero, mod-mod, mod-add-mod}
+use Prim.Native.Nat.{ℕ, suc, _+_, _*_, _%_, _^_, _≤_, _<_}
+use native.Mathlib.Nat.{le-refl, not-suc-le-zero, suc-ne-zero, zero-add}
 use native.Mathlib.Omega.{arith}
 use mathlib.Core.Bool.{Bool, true, false, cond, not, _||_, true≢false, false≢true}
 use mathlib.Core.List.{List, [], _∷_}
@@ -17,24 +17,12 @@ use Rattle.rules.specs.Frames.{pointsTo}
 use Rattle.rules.specs.Writing.{batchOk, unitsOf, frames, zoneOf, ruleOf, pointerOf, numberAfter, countAfter}
 use Rattle.rules.specs.Reading.{missing, expected, Made, laneStep}
 use Rattle.rules.proofs.Tests.{same, and-left, and-right}
-use Rattle.rules.proofs.Counts.{missing-unknown, missing-gone, expected-below}
+use Rattle.rules.proofs.Counts.{missing-unknown, missing-gone, expected-below, one-further, none-further}
 use Rattle.rules.proofs.Valid.{least}
 use Rattle.link.specs.Due.{spans, ending}
 use Rattle.link.specs.Demand.{fewGone}
 use Rattle.link.proofs.Spans.{Yield, yields, yield, heldFrom, held-none, ends-same}
 use Rattle.link.proofs.Batches.{units, lane-reads, lane-over}
-
--- ---- counts, over n: a count so many past another
-
-one-further : (n v g : ℕ) → countAfter n ((v + g) % 256 ^ n) ≡ (v + suc g) % 256 ^ n
-unfolding countAfter
-one-further n v g =
-    let q : v + g + 1 ≡ v + suc g = omega arith in
-    mod-add-mod (v + g) (256 ^ n) 1 ∙ ap (λ (x : ℕ). x % 256 ^ n) q
-
-none-further : (n v : ℕ) → (countAfter n v + 0) % 256 ^ n ≡ countAfter n v
-unfolding countAfter
-none-further n v = ap (λ (x : ℕ). x % 256 ^ n) (add-zero ((v + 1) % 256 ^ n)) ∙ mod-mod (v + 1) (256 ^ n)
 
 -- ---- a lane's view
 

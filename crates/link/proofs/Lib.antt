@@ -14,3 +14,4 @@ pub mod Steps
 pub mod Theorem
 pub mod Example
 pub mod Shown
+pub mod Bound

@@ -26,7 +26,7 @@ use Rattle.rules.proofs.Tests.{split}
 use Rattle.rules.proofs.Lanes.{walk-front}
 use Rattle.link.specs.Due.{spans, ending}
 use Rattle.link.proofs.Whole.{Whole, Wholes}
-use Rattle.link.proofs.Spans.{frame-from, Filled, Yield, yields, yield, heldFrom, either-none, held-past, held-here, first-before, first-within, first-after}
+use Rattle.link.proofs.Spans.{frame-from, Filled, Yield, yields, yield, heldFrom, either, held-past, held-here, first-before, first-within, first-after}
 
 pub wholes-filled : (longest : ℕ) (us : List (List ℕ)) → Wholes longest us → Filled us
 wholes-filled longest [] w = tt
@@ -351,7 +351,7 @@ module _ (longest z : ℕ) (zp : 0 < z) (j k : ℕ) (jk : j ≤ k) where
           → yield (packetLane longest (held a o (u ∷ us)) (inside z (startFrom (u ∷ us) o - o)) (zoneFrom o (u ∷ us))) ≡ yields (ends a (u ∷ us)) (held a (o + z) (u ∷ us))
       here zero e h =
           ap₂ (λ (x : List ℕ) (n : ℕ). yield (packetLane longest x (inside z n) (zoneFrom 0 (u ∷ us))))
-          (held-here z j a 0 u us h ∙ either-none (j ≤? (a / z))) (ap (λ (n : ℕ). n - 0) (start-zero (u ∷ us)))
+          (held-here z j a 0 u us h ∙ either (j ≤? (a / z)) []) (ap (λ (n : ℕ). n - 0) (start-zero (u ∷ us)))
           ∙ starts one u us a 0 w e refl
       here (suc o) e h =
           let p : startFrom (u ∷ us) (suc o) - suc o ≡ length u - suc o = ap (λ (n : ℕ). n - suc o) (start-on u us (suc o) (omega arith) ∙ ap (λ (n : ℕ). length u + startFrom us n) (sub-eq-zero-of-le (omega arith)) ∙ ap (λ (n : ℕ). length u + n) (start-zero us) ∙ add-zero (length u)) in

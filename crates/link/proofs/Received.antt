@@ -33,6 +33,7 @@ use Rattle.rules.proofs.Written.{FrameBack}
 use Rattle.link.specs.Link.{Lent, unitsBy, handed}
 use Rattle.link.specs.Due.{placeOf}
 use Rattle.link.specs.Demand.{enough}
+use Rattle.link.proofs.Spans.{either}
 use Rattle.link.proofs.Records.{handed-laid}
 
 -- ---- octets that are refused
@@ -89,11 +90,7 @@ emptied-at : (p : Lane → Bool) (ls : List Lane) (hs : List ℕ) (l : ℕ) → 
     → getD (emptied p ls hs) l 0 ≡ cond (p (getD ls l noLane)) 0 (getD hs l 0)
 unfolding emptied
 emptied-at p [] hs l h = absurd (not-suc-le-zero h)
-emptied-at p (x ∷ ls) [] l h = sym (zero-either (p (getD (x ∷ ls) l noLane)))
-  where
-    zero-either : (t : Bool) → _≡_ {A = ℕ} (cond t 0 0) 0
-    zero-either true = refl
-    zero-either false = refl
+emptied-at p (x ∷ ls) [] l h = sym (either (p (getD (x ∷ ls) l noLane)) 0)
 emptied-at p (x ∷ ls) (y ∷ hs) zero h = refl
 emptied-at p (x ∷ ls) (y ∷ hs) (suc l) h = emptied-at p ls hs l (le-of-suc-le-suc h)
 

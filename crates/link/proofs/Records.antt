@@ -15,15 +15,12 @@ use Rattle.rules.specs.Reading.{Made, recordOf, recordsFrom, infoOf}
 use Rattle.rules.specs.Calls.{laidOut}
 use Rattle.rules.proofs.Octets.{num-be-below}
 use Rattle.link.specs.Link.{unitBy, unitsBy, handed}
+use Rattle.link.proofs.Spans.{either}
 
 -- A list where a test passes, and none where it does not, may be made piece by piece.
-pub pick-append {ℓ} : {A : Type ℓ} (t : Bool) (xs ys : List A) → cond t xs [] ++ cond t ys [] ≡ cond t (xs ++ ys) []
+pick-append {ℓ} : {A : Type ℓ} (t : Bool) (xs ys : List A) → cond t xs [] ++ cond t ys [] ≡ cond t (xs ++ ys) []
 pick-append true xs ys = refl
 pick-append false xs ys = refl
-
-pick-nil {ℓ} : {A : Type ℓ} (t : Bool) → _≡_ {A = List A} (cond t [] []) []
-pick-nil true = refl
-pick-nil false = refl
 
 module _ (i : Info) (l : ℕ) where
   -- The record that stands first says where its unit is.
@@ -37,7 +34,7 @@ module _ (i : Info) (l : ℕ) where
   by-records : (us : List (List ℕ)) (start : ℕ) (pre post rest : List ℕ) → length pre ≡ start → start + length (joined us) < 256 ^ 4
       → unitsBy l (length us) (recordsFrom i start us ++ rest) (pre ++ (joined us ++ post)) ≡ cond (i .lane =? l) us []
   unfolding unitsBy recordsFrom joined recordOf be
-  by-records [] start pre post rest e h = sym (pick-nil (i .lane =? l))
+  by-records [] start pre post rest e h = sym (either (i .lane =? l) [])
   by-records (u ∷ us) start pre post rest e h =
       let n : length (u ++ joined us) ≡ length u + length (joined us) = length-append u (joined us) in
       let more : List ℕ = recordsFrom i (start + length u) us in

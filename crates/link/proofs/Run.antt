@@ -132,7 +132,7 @@ module _ (s : Setting) where
   -- ---- a kept frame
 
   module _ (good : Good s) (st : State) (x : Call) (r : Ready st) (c : Goes st x) (a : Lent) (lent : enough a ≡ true) where
-    pub lane-8 : x .lane < 8
+    lane-8 : x .lane < 8
     lane-8 = omega (arith, c .takes .numbered, good .numbered)
 
     abbrev answer : Got

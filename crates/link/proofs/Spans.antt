@@ -57,9 +57,10 @@ unfoldable pub heldFrom : ℕ → ℕ → ℕ → ℕ → List (List ℕ) → Li
 heldFrom z j a o [] = []
 heldFrom z j a o (u ∷ us) = cond (length u ≤? o) (heldFrom z j (a + length u) (o - length u) us) (cond (j ≤? (a / z)) (take o u) [])
 
-pub either-none : (t : Bool) → _≡_ {A = List ℕ} (cond t [] []) []
-either-none true = refl
-either-none false = refl
+-- Whichever way a test goes.
+pub either {ℓ} : {A : Type ℓ} (t : Bool) (x : A) → cond t x x ≡ x
+either true x = refl
+either false x = refl
 
 module _ (z j a o : ℕ) (u : List ℕ) (us : List (List ℕ)) where
   pub held-past : length u ≤ o → heldFrom z j a o (u ∷ us) ≡ heldFrom z j (a + length u) (o - length u) us
@@ -79,7 +80,7 @@ held-none z zp k a o (u ∷ us) e =
     (λ h. held-here z k a o u us h ∙ at o h e)
   where
     at : (o : ℕ) → o < length u → a + o ≡ k * z → cond (k ≤? (a / z)) (take o u) [] ≡ []
-    at zero h e = either-none (k ≤? (a / z))
+    at zero h e = either (k ≤? (a / z)) []
     at (suc o) h e = let q : a / z < k = frame-before z zp a k (omega arith) in rw (lt-leb _ _ q)
 
 -- Nothing is held after the end.

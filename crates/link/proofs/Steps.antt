@@ -17,6 +17,7 @@ use Rattle.rules.specs.Writing.{frames, zoneOf, ruleOf, pointerOf}
 use Rattle.rules.specs.Reading.{missing, expected, Made, laneStep}
 use Rattle.rules.proofs.Tests.{same}
 use Rattle.rules.proofs.Valid.{Good, good-channelOf, least}
+use Rattle.rules.proofs.Written.{zone-small}
 use Rattle.link.specs.Link.{Call, Frame, frameBy}
 use Rattle.link.specs.Due.{kept, placeOf, clean, dueIn}
 use Rattle.link.specs.Demand.{lending, keptOn}
@@ -32,8 +33,7 @@ module _ (s : Setting) (g : Good s) (l : ℕ) (lh : l < s .numbered) where
   zone-some = good-channelOf g l lh .room
 
   pub zone-few : zone s (channelOf s l) ≤ 4096
-  unfolding zone
-  zone-few = omega (arith, g .high)
+  zone-few = zone-small s g (channelOf s l)
 
   pub long : least ((lane s l) .kind) ≤ (lane s l) .longest
   long = g .lanes l lh .kind .enough

@@ -7,7 +7,7 @@ use native.Mathlib.Numerals.{add-one}
 use native.Mathlib.Omega.{arith}
 use mathlib.Core.Bool.{Bool, true, false, cond}
 use mathlib.Core.List.{List, [], _∷_, _++_, append-nil}
-use lib.ListN.{length, getD, take, drop, set, length-set, drop-of-length-le, take-append-drop}
+use lib.ListN.{length, getD, take, drop, set, length-set, length-take, drop-of-length-le, take-append-drop}
 use lib.Seq.{length-take-le, getD-take, drop-cons, take-suc, take-suc-set, drop-set-lt, append-snoc}
 use Rattle.rules.specs.declared.Lane.{Lane}
 use Rattle.rules.specs.declared.Setting.{Setting}
@@ -17,7 +17,8 @@ use Rattle.rules.specs.declared.Gap.{Gap}
 use Rattle.rules.specs.Tests.{_=?_}
 use Rattle.rules.specs.Settings.{noLane, channel, lane, expect, heldBy, readerOk}
 use Rattle.rules.specs.Reading.{missing, expected, emptied, lost, lanesOf, gapBy, gap}
-use Rattle.rules.proofs.Octets.{pow256-pos}
+use Rattle.rules.specs.Octets.{num}
+use Rattle.rules.proofs.Octets.{Octets, num-below}
 use Rattle.rules.proofs.Valid.{Good, GoodReader, good-reader}
 
 -- ---- counts of n octets
@@ -29,6 +30,28 @@ modulus-is n m h e =
 
 pub modulus-small : (n : ℕ) → n ≤ 7 → 256 ^ n ≤ 2 ^ 56
 modulus-small n h = pow-le-pow-right (zero-lt-suc 255) h
+
+octets : (xs : List ℕ) → ((i : ℕ) → getD xs i 0 < 256) → Octets xs
+octets [] h = tt
+octets (x ∷ xs) h = (h 0, octets xs (λ i. h (suc i)))
+
+octets-take : (n : ℕ) (xs : List ℕ) → Octets xs → Octets (take n xs)
+octets-take zero xs o = tt
+octets-take (suc n) [] o = tt
+octets-take (suc n) (x ∷ xs) o = (o .0, octets-take n xs (o .1))
+
+octets-drop : (n : ℕ) (xs : List ℕ) → Octets xs → Octets (drop n xs)
+octets-drop zero xs o = o
+octets-drop (suc n) [] o = tt
+octets-drop (suc n) (x ∷ xs) o = octets-drop n xs (o .1)
+
+-- What n octets of a frame spell is below 256^n.
+pub count-small : (f : List ℕ) (a n v : ℕ) → ((i : ℕ) → getD f i 0 < 256) → v ≡ num (take n (drop a f)) → v < 256 ^ n
+count-small f a n v o e =
+    let b = num-below (take n (drop a f)) (octets-take n (drop a f) (octets-drop a f (octets f o))) in
+    let k = length-take n (drop a f) in
+    let h : 256 ^ length (take n (drop a f)) ≤ 256 ^ n = pow-le-pow-right (zero-lt-suc 255) (omega arith) in
+    omega arith
 
 -- ---- a loop over the lanes
 
@@ -198,3 +221,35 @@ module _ (r : Reader) (c k m : ℕ) (e : m ≡ 256 ^ channel (r .setting) c .oct
             } ≡ gapBy state c n
       by-cases zero q = absurd (q refl)
       by-cases (suc n) q = unfold gapBy in refl
+
+-- The channel of a lane.
+pub lane-channel : (r : Reader) (l : ℕ) → readerOk r ≡ true → l < r .setting .numbered → lane (r .setting) l .channel < r .setting .listed
+lane-channel r l ok h = good-reader r ok .setting .lanes l h .channel
+
+-- ---- what a gap drops
+
+lost-small : (p : Lane → Bool) (ls : List Lane) (hs : List ℕ) → ((i : ℕ) → i < length ls → getD hs i 0 ≤ 8192) → lost p ls hs ≤ 8192 * length ls
+unfolding lost
+lost-small p [] hs h = omega arith
+lost-small p (l ∷ ls) [] h = omega arith
+lost-small p (l ∷ ls) (x ∷ hs) h =
+    let a : cond (p l) x 0 ≤ 8192 = by-cases (p l) in
+    let b = lost-small p ls hs (λ i k. h (suc i) (omega arith)) in
+    omega arith
+  where
+    by-cases : (b : Bool) → cond b x 0 ≤ 8192
+    by-cases true = h 0 (zero-lt-suc (length ls))
+    by-cases false = omega arith
+
+gapBy-small : (r : Reader) (c m : ℕ) → lost (its c) (lanesOf (r .setting)) (r .held) ≤ 65536 → gapBy r c m .dropped ≤ 65536
+unfolding gapBy
+gapBy-small r c zero h = omega arith
+gapBy-small r c (suc m) h = h
+
+pub gap-small : (r : Reader) (c k : ℕ) → GoodReader r → gap r c k .dropped ≤ 65536
+unfolding gap
+gap-small r c k g =
+    let n = length-take (r .setting .numbered) (r .setting .lanes) in
+    let few = g .setting .numbered in
+    let b = lost-small (its c) (lanesOf (r .setting)) (r .held) (λ i h. omega (arith, g .held i (omega arith), g .setting .lanes i (omega arith) .kind .most)) in
+    gapBy-small _ c _ (omega arith)

@@ -193,7 +193,7 @@ fn judge_frame(s: Setting, frame: &[u8]) -> Verdict
 // The count of a frame of this channel.
 fn count_in(c: Channel, frame: &[u8]) -> u64
     requires { ⌜ (c .octets ≤ 7) × (7 + c .octets ≤ length (now frame)) ⌝ }
-    ensures { λ r. ⌜ r ≡ countIn c (now (frame .entry)) ⌝ }
+    ensures { λ r. ⌜ (r ≡ countIn c (now (frame .entry))) × (r < 256 ^ c .octets) ⌝ }
 {
     let end = 7 + c.octets;
     octets::exact(&frame[7..end])

@@ -1,7 +1,7 @@
 -- Facts about counts, once over n: counts are taken modulo 256^n.
 use mathlib.Core.Path.{_≡_, refl, sym, ap, _∙_}
 use Prim.Native.Nat.{ℕ, zero, suc, _+_, _-_, _*_, _%_, _^_, _≤_, _<_}
-use native.Mathlib.Nat.{mod-lt, mod-eq-of-lt, mod-self, mod-add-mod, add-mod-right}
+use native.Mathlib.Nat.{add-zero, mod-lt, mod-eq-of-lt, mod-self, mod-mod, mod-add-mod, add-mod-right}
 use native.Mathlib.Omega.{arith}
 use mathlib.Core.Bool.{Bool, true, false, cond}
 use Rattle.rules.specs.declared.Expect.{Expect}
@@ -48,7 +48,7 @@ missing-gone n v g hv hg = past (256 ^ n) v g (pow256-pos n) hv hg
 -- None is missing exactly when the count is the expected one.
 pub missing-none : (n v : ℕ) → v < 256 ^ n → missing n (expects v) v ≡ 0
 missing-none n v hv =
-    let e : (v + 0) % 256 ^ n ≡ v = ap (λ (x : ℕ). x % 256 ^ n) (native.Mathlib.Nat.add-zero v) ∙ mod-eq-of-lt hv in
+    let e : (v + 0) % 256 ^ n ≡ v = ap (λ (x : ℕ). x % 256 ^ n) (add-zero v) ∙ mod-eq-of-lt hv in
     ap (missing n (expects v)) (sym e) ∙ missing-gone n v 0 hv (pow256-pos n)
 
 pub none-missing : (n v k : ℕ) → v < 256 ^ n → k < 256 ^ n → missing n (expects v) k ≡ 0 → k ≡ v
@@ -86,3 +86,15 @@ wrap-around n =
 pub no-wrap : (n k : ℕ) → k + 1 < 256 ^ n → countAfter n k ≡ k + 1
 unfolding countAfter
 no-wrap n k h = mod-eq-of-lt h
+
+-- After the count g past v comes the one g + 1 past it.
+pub one-further : (n v g : ℕ) → countAfter n ((v + g) % 256 ^ n) ≡ (v + suc g) % 256 ^ n
+unfolding countAfter
+one-further n v g =
+    let q : v + g + 1 ≡ v + suc g = omega arith in
+    mod-add-mod (v + g) (256 ^ n) 1 ∙ ap (λ (x : ℕ). x % 256 ^ n) q
+
+-- A count after another is below 256^n, so that none past it is itself.
+pub none-further : (n v : ℕ) → (countAfter n v + 0) % 256 ^ n ≡ countAfter n v
+unfolding countAfter
+none-further n v = ap (λ (x : ℕ). x % 256 ^ n) (add-zero ((v + 1) % 256 ^ n)) ∙ mod-mod (v + 1) (256 ^ n)

@@ -14,7 +14,7 @@ unit-fate-requires : tie.Need-unit-fate-requires
 unit-fate-requires c κs = search needs
 
 settle-requires : tie.Need-settle-requires
-settle-requires c κs = 
+settle-requires c κs =
     let e = begin-is (c .before .before .before .before .before .before .before .before .before .before .pre) _ _ (c .before .before .before .before .before .if1 .taken) (c .before .before .before .unit-fate .ensures) in
     ready-second _ _ (rw e at (c .before .before .before .before .before .before .before .before .before .before .pre)) 0 (c .before .before .before .before .before .before .before .before .before .before .args .next .now) (omega arith) (omega arith)
     (only-counted {i = c .before .before .before .before .before .before .before .before .before .before .args .info} refl refl refl (omega arith) (omega arith) refl)
@@ -29,7 +29,7 @@ same-length-3 : tie.Need-same-length-3
 same-length-3 c = search needs
 
 returns : tie.Need-returns
-returns c = 
+returns c =
     let e = begin-is (c .before .before .before .before .before .before .before .before .before .before .before .before .before .before .before .before .before .pre) _ _ (c .before .before .before .before .before .before .before .before .before .before .before .before .if1 .taken) (c .before .before .before .before .before .before .before .before .before .before .unit-fate .ensures) in
     rw e (went-after _ _ (rw e at (c .before .before .before .before .before .before .before .before .before .before .before .before .before .before .before .before .before .pre .room)) (only-counted refl refl refl (omega arith) (omega arith) refl) (c .before .before .before .before .before .before .settle .ensures))
 

@@ -64,7 +64,7 @@ enum-known-next-2 : tie.Need-enum-known-next-2 Inv-loop μ-loop
 enum-known-next-2 c = search needs
 
 add-t : tie.Need-add-t Inv-loop μ-loop
-add-t c = 
+add-t c =
     let room = turn-room (c .before .before .before .before .before .before .before .loop .inv) (c .before .before .before .before .before .before .before .before .before .before .before .pre .1) (skipped (c .before .before .before .before .before .before .before .loop .inv) (c .before .before .before .before .next-at .ensures) (c .before .before .next2 .given .1)) in
     search needs
 
@@ -75,7 +75,7 @@ loop-less-2 : tie.Need-loop-less-2 Inv-loop μ-loop
 loop-less-2 c = let turn = skipped (c .before .before .before .before .before .before .before .loop .inv) (c .before .before .before .before .next-at .ensures) (c .before .before .next2 .given .1) in omega arith
 
 loop-again-2 : tie.Need-loop-again-2 Inv-loop μ-loop
-loop-again-2 c = 
+loop-again-2 c =
     turn-on (c .before .before .before .before .before .before .before .loop .inv) (c .before .before .before .before .before .before .before .before .before .before .before .pre .1) (skipped (c .before .before .before .before .before .before .before .loop .inv) (c .before .before .before .before .next-at .ensures) (c .before .before .next2 .given .1))
     (only-counted refl refl refl (omega arith) (omega arith) (omega arith))
 

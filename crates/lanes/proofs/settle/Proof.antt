@@ -41,7 +41,7 @@ add-s : tie.Need-add-s
 add-s c = search needs
 
 returns-2 : tie.Need-returns-2
-returns-2 c = 
+returns-2 c =
     let n = follow-length (c .before .before .before .before .before .before .before .pre) in
     rw (c .before .enum-told2 .given .1) (part-stays refl (only-counted refl refl refl (omega arith) (omega arith) (omega arith)))
 
@@ -49,7 +49,7 @@ enum-told-3 : tie.Need-enum-told-3
 enum-told-3 c = search needs
 
 lay-requires : tie.Need-lay-requires
-lay-requires c κs = 
+lay-requires c κs =
     let n = follow-length (c .before .before .before .before .before .before .before .pre) in
     let held = rw (c .before .enum-told3 .given .1) at (c .before .before .before .before .before .before .before .pre .held) in
     omega arith
@@ -58,7 +58,7 @@ same-length-4 : tie.Need-same-length-4
 same-length-4 c = search needs
 
 returns-3 : tie.Need-returns-3
-returns-3 c = 
+returns-3 c =
     rw (c .before .before .before .before .enum-told3 .given .1)
     (record {
       handed = only-counted refl refl refl (omega arith) (omega arith) (omega arith);
@@ -73,7 +73,7 @@ add-s-2 : tie.Need-add-s-2
 add-s-2 c = search needs
 
 returns-4 : tie.Need-returns-4
-returns-4 c = 
+returns-4 c =
     let n = follow-length (c .before .before .before .before .before .before .before .pre) in
     rw (c .before .enum-told4 .given .1) (part-stays refl (only-counted refl refl refl (omega arith) (omega arith) (omega arith)))
 

@@ -1,3 +1,5 @@
+use Prim.Native.Nat.{_<_}
+use Rattle.reader.proofs.Gaps.{count-small}
 use Prim.Native.Nat.{ℕ, _+_, _-_}
 use mathlib.Core.Path.{_≡_, ap, _∙_}
 use lib.ListN.{take, drop}
@@ -37,7 +39,8 @@ unfolding countIn
 returns c = 
     let a = c .before .before .before .before .args in
     let e : 7 + a .c .octets - 7 ≡ a .c .octets = omega arith in
-    c .exact .ensures ∙ ap (λ (n : ℕ). num (take n (drop 7 (a .frame .now)))) e
+    let v = c .exact .ensures ∙ ap (λ (n : ℕ). num (take n (drop 7 (a .frame .now)))) e in
+    (v, count-small (a .frame .now) 7 (a .c .octets) _ (λ i. omega (arith, c .before .before .before .shared-slice-known .given i)) v)
 
 pub count-in-spec : {M : Type 1} → statement M
 count-in-spec =

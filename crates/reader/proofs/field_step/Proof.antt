@@ -1,3 +1,10 @@
+use Prim.Native.Nat.{ℕ, _+_, _-_, _<_, _≤_}
+use mathlib.Core.Path.{_≡_, refl, sym, ap, _∙_}
+use native.Mathlib.Omega.{arith}
+use Rattle.rules.specs.Frames.{pointsTo}
+use Rattle.header.specs.declared.Data.{Data}
+use Rattle.header.specs.Heads.{dataOf}
+use Rattle.reader.proofs.Laid.{lent-same, stepped-same}
 use borrow.Author.Needs.{needs}
 use Rattle.reader.proofs.field_step.Statement.{statement}
 use Rattle.reader.proofs.field_step.Tie as tie
@@ -33,7 +40,12 @@ part-lane-step-end c = search needs
 
 -- src/lib.rt:307:5
 lane-step-requires : tie.Need-lane-step-requires
-lane-step-requires c κs = ?
+unfolding dataOf
+lane-step-requires c κs = 
+    let a = c .before .before .before .before .before .before .before .before .before .before in
+    let e : 3 + a .args .z - 3 ≡ a .args .z = omega arith in
+    let p = c .before .before .before .before .points-to .ensures ∙ ap (λ (d : Data). pointsTo (d .pointer)) (c .before .before .before .before .before .data-of .ensures) in
+    lent-same _ _ _ _ _ _ _ (a .args .field .now) _ _ _ p e (a .pre .2)
 
 -- src/lib.rt:290:1
 same-length : tie.Need-same-length
@@ -49,7 +61,13 @@ same-length-3 c = search needs
 
 -- src/lib.rt:290:1
 returns : tie.Need-returns
-returns c = ?
+unfolding dataOf
+returns c = 
+    let a = c .before .before .before .before .before .before .before .before .before .before .before .before .before .before .before .before .before in
+    let e : 3 + a .args .z - 3 ≡ a .args .z = omega arith in
+    let d = c .before .before .before .before .before .before .before .before .before .before .before .before .data-of .ensures in
+    let p = c .before .before .before .before .before .before .before .before .before .before .before .points-to .ensures ∙ ap (λ (d : Data). pointsTo (d .pointer)) d in
+    stepped-same (a .args .info) (a .args .a .kind) (a .args .a .longest) (a .args .h) _ _ _ _ _ _ (a .args .field .now) (a .args .part .now) _ _ _ _ _ _ (ap (λ (d : Data). d .rule) d) p e (c .before .before .before .before .before .before .lane-step .ensures)
 
 pub field-step-spec : {M : Type 1} → statement M
 field-step-spec =

@@ -1,3 +1,7 @@
+use mathlib.Core.Path.{_≡_, refl, sym, ap, _∙_}
+use Rattle.rules.specs.declared.Taken.{Taken}
+use Rattle.rules.specs.Calls.{Got, onVerdict}
+use Rattle.reader.proofs.Verdicts.{verdict-is, read-as, counts, lanes, on-lane, read-on-lane}
 use borrow.Author.Needs.{needs}
 use Rattle.reader.proofs.read.Statement.{statement}
 use Rattle.reader.proofs.read.Tie as tie
@@ -35,7 +39,7 @@ enum-known-v-2 c = search needs
 
 -- src/lib.rt:485:32
 count-on-requires : tie.Need-count-on-requires
-count-on-requires c κs = ?
+count-on-requires c κs = let a = c .before .before .before .before .before .before .before .before .args in let e = verdict-is (a .r) (a .frame .now) (a .held .now) (a .units .now) (a .records .now) _ _ (c .before .before .before .verdict-of .ensures) (c .before .v2 .given .1) in counts (a .r) (a .frame .now) (a .held .now) (a .units .now) (a .records .now) _ e
 
 -- src/lib.rt:486:23
 enum-known-v-3 : tie.Need-enum-known-v-3
@@ -43,23 +47,26 @@ enum-known-v-3 c = search needs
 
 -- src/lib.rt:487:17
 lane-gap-requires : tie.Need-lane-gap-requires
-lane-gap-requires c κs = ?
+lane-gap-requires c κs = let a = c .before .before .before .before .before .before .before .before .args in let e = verdict-is (a .r) (a .frame .now) (a .held .now) (a .units .now) (a .records .now) _ _ (c .before .before .before .verdict-of .ensures) (c .before .v3 .given .1) in lanes (a .r) (a .frame .now) (a .held .now) (a .units .now) (a .records .now) _ e
 
 -- src/lib.rt:488:13
 read-on-requires : tie.Need-read-on-requires
-read-on-requires c κs = ?
+read-on-requires c κs = let a = c .before .before .before .before .before .before .before .before .before .before .before .before .args in let e = verdict-is (a .r) (a .frame .now) (a .held .now) (a .units .now) (a .records .now) _ _ (c .before .before .before .before .before .before .before .verdict-of .ensures) (c .before .before .before .before .before .v3 .given .1) in on-lane (a .r) (a .frame .now) (a .held .now) (a .units .now) (a .records .now) _ _ e (c .before .before .before .lane-gap .ensures)
 
 -- src/lib.rt:466:1
 returns : tie.Need-returns
-returns c = ?
+unfolding onVerdict
+returns c = let a = c .before .before .before .before .before .before .before .before .before .args in let e = verdict-is (a .r) (a .frame .now) (a .held .now) (a .units .now) (a .records .now) _ _ (c .before .before .before .before .verdict-of .ensures) (c .before .before .v .given .1) in ap (λ (t : Taken). record { taken = t; heldArea = a .held .now; unitArea = a .units .now; recordArea = a .records .now }) (c .untouched .ensures) ∙ read-as (a .r) (a .frame .now) (a .held .now) (a .units .now) (a .records .now) _ e
 
 -- src/lib.rt:466:1
 returns-2 : tie.Need-returns-2
-returns-2 c = ?
+unfolding onVerdict
+returns-2 c = let a = c .before .before .before .before .before .before .before .before .args in let e = verdict-is (a .r) (a .frame .now) (a .held .now) (a .units .now) (a .records .now) _ _ (c .before .before .before .verdict-of .ensures) (c .before .enum-told .given .1) in ap (λ (t : Taken). record { taken = t; heldArea = a .held .now; unitArea = a .units .now; recordArea = a .records .now }) (c .untouched2 .ensures) ∙ read-as (a .r) (a .frame .now) (a .held .now) (a .units .now) (a .records .now) _ e
 
 -- src/lib.rt:466:1
 returns-3 : tie.Need-returns-3
-returns-3 c = ?
+unfolding onVerdict
+returns-3 c = let a = c .before .before .before .before .before .before .before .before .before .args in let e = verdict-is (a .r) (a .frame .now) (a .held .now) (a .units .now) (a .records .now) _ _ (c .before .before .before .before .verdict-of .ensures) (c .before .before .v2 .given .1) in ap (λ (t : Taken). record { taken = t; heldArea = a .held .now; unitArea = a .units .now; recordArea = a .records .now }) (c .count-on .ensures) ∙ read-as (a .r) (a .frame .now) (a .held .now) (a .units .now) (a .records .now) _ e
 
 -- src/lib.rt:466:1
 same-length : tie.Need-same-length
@@ -75,7 +82,7 @@ same-length-3 c = search needs
 
 -- src/lib.rt:466:1
 returns-4 : tie.Need-returns-4
-returns-4 c = ?
+returns-4 c = let a = c .before .before .before .before .before .before .before .before .before .before .before .before .before .before .before .before .before .before .before .args in let e = verdict-is (a .r) (a .frame .now) (a .held .now) (a .units .now) (a .records .now) _ _ (c .before .before .before .before .before .before .before .before .before .before .before .before .before .before .verdict-of .ensures) (c .before .before .before .before .before .before .before .before .before .before .before .before .v3 .given .1) in read-on-lane (a .r) (a .frame .now) (a .held .now) (a .units .now) (a .records .now) _ _ e (c .before .before .before .before .before .before .before .before .before .before .lane-gap .ensures) _ (c .before .before .before .before .before .before .read-on .ensures)
 
 pub read-spec : {M : Type 1} → statement M
 read-spec =

@@ -1,3 +1,5 @@
+use mathlib.Core.Path.{_≡_, sym, _∙_}
+use Rattle.rules.specs.Calls.{setUpReader}
 use borrow.Author.Needs.{needs}
 use Rattle.reader.proofs.set_up.Statement.{statement}
 use Rattle.reader.proofs.set_up.Tie as tie
@@ -17,7 +19,8 @@ fresh-reader-requires c κs = search needs
 
 -- src/lib.rt:369:9
 returns : tie.Need-returns
-returns c = ?
+unfolding setUpReader
+returns c = rw (sym (c .before .before .setting-ok .ensures) ∙ c .before .if1 .taken, c .fresh-reader .ensures)
 
 -- src/lib.rt:374:9
 no-reader-requires : tie.Need-no-reader-requires
@@ -25,7 +28,8 @@ no-reader-requires c κs = search needs
 
 -- src/lib.rt:363:1
 returns-2 : tie.Need-returns-2
-returns-2 c = ?
+unfolding setUpReader
+returns-2 c = rw (sym (c .before .before .setting-ok .ensures) ∙ c .before .if1 .left, c .no-reader .ensures)
 
 pub set-up-spec : {M : Type 1} → statement M
 set-up-spec =

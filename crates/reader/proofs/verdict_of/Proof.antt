@@ -1,3 +1,5 @@
+use mathlib.Core.Path.{_≡_, sym, _∙_}
+use Rattle.rules.proofs.Valid.{good-reader}
 use borrow.Author.Needs.{needs}
 use Rattle.reader.proofs.verdict_of.Statement.{statement}
 use Rattle.reader.proofs.verdict_of.Tie as tie
@@ -17,19 +19,19 @@ areas-short-requires c κs = search needs
 
 -- src/lib.rt:402:13
 returns : tie.Need-returns
-returns c = ?
+returns c = rw (sym (c .before .before .before .reader-ok .ensures) ∙ c .before .before .if1 .taken, sym (c .before .areas-short .ensures) ∙ c .if2 .taken)
 
 -- src/lib.rt:405:9
 judge-frame-requires : tie.Need-judge-frame-requires
-judge-frame-requires c κs = ?
+judge-frame-requires c κs = good-reader _ (sym (c .before .before .before .before .reader-ok .ensures) ∙ c .before .before .before .if1 .taken) .ok
 
 -- src/lib.rt:405:9
 returns-2 : tie.Need-returns-2
-returns-2 c = ?
+returns-2 c = rw (sym (c .before .before .before .before .before .reader-ok .ensures) ∙ c .before .before .before .before .if1 .taken, sym (c .before .before .before .areas-short .ensures) ∙ c .before .before .if2 .left, c .judge-frame .ensures)
 
 -- src/lib.rt:395:1
 returns-3 : tie.Need-returns-3
-returns-3 c = ?
+returns-3 c = rw (sym (c .before .reader-ok .ensures) ∙ c .if1 .left)
 
 pub verdict-of-spec : {M : Type 1} → statement M
 verdict-of-spec =
