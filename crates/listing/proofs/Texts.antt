@@ -42,8 +42,8 @@ listed k o t h u c area area₁ at area₂ end room e p q =
     let a : Answer = o .taken .answer in
     let f : length (opening k) ≤ 27 = length-opening k in
     let w : Put (opening k ++ line k a) area 0 area₂ end =
-      put-then (opening k) (line k a) area 0 area₁ at area₂ end (omega arith) p
-      (subst (λ (x : Answer). Put (line k x) area₁ at area₂ end) (ap (λ (g : Got). g .taken .answer) e) q)
+    put-then (opening k) (line k a) area 0 area₁ at area₂ end (omega arith) p
+    (subst (λ (x : Answer). Put (line k x) area₁ at area₂ end) (ap (λ (g : Got). g .taken .answer) e) q)
     in
     record {
       state = ap (λ (g : Got). g .taken .state) e;

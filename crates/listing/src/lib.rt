@@ -1,18 +1,23 @@
 // The listing program: frames of the worked setting from standard input, a line for each to standard output.
 //
-// Proved of every frame (`list_frame`): the octets put for printing are the title, before the first line, and the rules'
-// `line` of the answer that the rules' `read` gives; state and areas are what that read leaves; and none is put for an
-// empty input. Shown by runs: that these octets, in this order, are what is read and printed, for no contract can speak of
-// what a call of the system reads or writes.
+// Proved: the octets put for printing of frame k are the title, before the first line alone, and the rules' `line` of the
+// answer that the rules' `read` gives, and none are put where there is no frame (`list_frame`, `list_next`). Before each
+// frame, the state and the areas are those from which the rules' `listing` of the worked setting goes on after as many whole
+// frames, whatever follows (`Reached`), from its beginning on. Shown by runs: that the frames are those of standard input
+// and that the octets put are printed, for no contract can speak of what a call of the system reads or writes; and that a
+// short last frame, or the input's end, ends the run.
 ghost use mathlib.Core.Path.{_≡_};
 ghost use Prim.Native.Nat.{_+_, _≤_};
 ghost use lib.ListN.{length};
 ghost use Rattle.rules.specs.Worked.{worked, packetLane};
 ghost use Rattle.rules.specs.Calls.{read};
 ghost use Rattle.listing_text.specs.Puts.{Put};
-ghost use Rattle.listing.specs.Runs.{opening, Listed};
-
-use rules::{Channel, Kind, Lane, Reader, Setting};
+ghost use Rattle.listing.specs.Runs.{opening, Listed, Reached, GoesOn};
+use rules::Channel;
+use rules::Kind;
+use rules::Lane;
+use rules::Reader;
+use rules::Setting;
 
 // The state after a frame, and where its text ends.
 struct Printed {
@@ -30,12 +35,34 @@ struct Turn {
 pub fn worked_setting() -> Setting
     ensures { λ r. ⌜ r ≡ worked packetLane ⌝ }
 {
-    let none = Channel { vc: 0, service: 0, octets: 0, ocf: false };
+    let none = Channel {
+        vc: 0,
+        service: 0,
+        octets: 0,
+        ocf: false,
+    };
     let mut channels = [none; 8];
-    channels[0] = Channel { vc: 3, service: 0, octets: 1, ocf: false };
-    let no_lane = Lane { channel: 0, map: 0, kind: Kind::Packets, longest: 0, upid: 0 };
+    channels[0] = Channel {
+        vc: 3,
+        service: 0,
+        octets: 1,
+        ocf: false,
+    };
+    let no_lane = Lane {
+        channel: 0,
+        map: 0,
+        kind: Kind::Packets,
+        longest: 0,
+        upid: 0,
+    };
     let mut lanes = [no_lane; 8];
-    lanes[0] = Lane { channel: 0, map: 5, kind: Kind::Packets, longest: 64, upid: 0 };
+    lanes[0] = Lane {
+        channel: 0,
+        map: 5,
+        kind: Kind::Packets,
+        longest: 64,
+        upid: 0,
+    };
     Setting {
         length: 32,
         craft: 42,
@@ -78,14 +105,14 @@ fn list_frame(
     let s = t.state;
     let at = put_opening(area, k);
     let end = listing_text::put_line(area, at, k, a);
-    Printed {
-        state: s,
-        end: end,
-    }
+    Printed { state: s, end: end }
 }
 
-// Reads and prints frame k, if there is one.
-fn list_next(k: u64, r: Reader, held: &mut [u8], units: &mut [u8], records: &mut [u8]) -> Turn {
+// Reads and prints frame k, if there is one. After a whole frame the listing goes on from what is handed back.
+fn list_next(k: u64, r: Reader, held: &mut [u8], units: &mut [u8], records: &mut [u8]) -> Turn
+    requires { ⌜ Reached k r (now held) (now units) (now records) ⌝ }
+    ensures { λ t. ⌜ GoesOn (t .more) (Reached (k + 1) (t .state) (now (held .exit)) (now (units .exit)) (now (records .exit))) ⌝ }
+{
     let mut frame = [0u8; 32];
     let n = io::read_full(0, &mut frame);
     if n == 0 {
@@ -117,8 +144,8 @@ pub fn run() {
     while k < 18446744073709551615 {
         let t = list_next(k, state, &mut held, &mut units, &mut records);
         if t.more {
-            let s = t.state;
-            state = s;
+            let after = t.state;
+            state = after;
             k += 1;
         } else {
             break;

@@ -5,8 +5,8 @@ ghost use Prim.Native.Nat.{_+_, _≤_};
 ghost use lib.ListN.{length};
 ghost use Rattle.rules.specs.Listing.{text, digits, decimal, word, amount, line};
 ghost use Rattle.listing_text.specs.Puts.{Put, front};
-
-use rules::{Answer, Class};
+use rules::Answer;
+use rules::Class;
 
 // Puts one octet into `area` at octet `from`.
 fn put_octet(area: &mut [u8], from: usize, x: u8) -> usize

@@ -1,6 +1,8 @@
--- A frame that was read is not empty, and its text has room.
+-- A frame that was read is not empty, its text has room, and after a whole one the listing goes on.
 use native.Mathlib.Omega.{arith}
-use mathlib.Core.Path.{sym}
+use mathlib.Core.Path.{sym, _∙_}
+use borrow.Author.Tests.{eqb-true}
+use Rattle.listing.proofs.Carried.{carried, goes-if, goes-none}
 use lib.Seq.{length-take-le}
 use borrow.Author.Needs.{needs}
 use Rattle.listing.proofs.list_next.Statement.{statement}
@@ -18,7 +20,7 @@ read-full-requires : tie.Need-read-full-requires
 read-full-requires c κs = search needs
 
 returns : tie.Need-returns
-returns c = search needs
+returns c = goes-none _
 
 array-share-prefix-frame : tie.Need-array-share-prefix-frame
 array-share-prefix-frame c = search needs
@@ -51,7 +53,9 @@ same-length-3 : tie.Need-same-length-3
 same-length-3 c = search needs
 
 returns-2 : tie.Need-returns-2
-returns-2 c = search needs
+returns-2 c =
+    let a = c .before .before .before .before .before .before .before .before .before .before .before .before .before .before .before .before .before .before .before .before .before .before .before .args in
+    goes-if _ _ (λ e. carried (a .k) (a .r) (a .held .now) (a .units .now) (a .records .now) _ _ _ _ _ _ _ _ (c .before .before .before .before .before .before .before .before .before .before .before .before .before .before .before .before .before .before .before .before .before .before .before .pre) (sym (c .before .before .before .before .before .before .before .before .before .before .before .before .before .before .before .before .before .before .read-full .ensures .1) ∙ eqb-true _ _ e) (c .before .before .before .before .before .before .before .before .before .before .list-frame .ensures))
 
 pub list-next-spec : {M : Type 1} → statement M
 list-next-spec =
