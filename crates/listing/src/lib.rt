@@ -1,0 +1,154 @@
+// The listing program: frames of the worked setting from standard input, a line for each to standard output.
+//
+// Proved: the octets put for printing of frame k are the title, before the first line alone, and the rules' `line` of the
+// answer that the rules' `read` gives, and none are put where there is no frame (`list_frame`, `list_next`). Before each
+// frame, the state and the areas are those from which the rules' `listing` of the worked setting goes on after as many whole
+// frames, whatever follows (`Reached`), from its beginning on. Shown by runs: that the frames are those of standard input
+// and that the octets put are printed, for no contract can speak of what a call of the system reads or writes; and that a
+// short last frame, or the input's end, ends the run.
+ghost use mathlib.Core.Path.{_≡_};
+ghost use Prim.Native.Nat.{_+_, _≤_};
+ghost use lib.ListN.{length};
+ghost use Rattle.rules.specs.Worked.{worked, packetLane};
+ghost use Rattle.rules.specs.Calls.{read};
+ghost use Rattle.listing_text.specs.Puts.{Put};
+ghost use Rattle.listing.specs.Runs.{opening, Listed, Reached, GoesOn};
+use rules::Channel;
+use rules::Kind;
+use rules::Lane;
+use rules::Reader;
+use rules::Setting;
+
+// The state after a frame, and where its text ends.
+struct Printed {
+    state: Reader,
+    end: usize,
+}
+
+// The state after a frame, and whether the input may go on.
+struct Turn {
+    state: Reader,
+    more: bool,
+}
+
+// The worked setting with its packet lane.
+pub fn worked_setting() -> Setting
+    ensures { λ r. ⌜ r ≡ worked packetLane ⌝ }
+{
+    let none = Channel {
+        vc: 0,
+        service: 0,
+        octets: 0,
+        ocf: false,
+    };
+    let mut channels = [none; 8];
+    channels[0] = Channel {
+        vc: 3,
+        service: 0,
+        octets: 1,
+        ocf: false,
+    };
+    let no_lane = Lane {
+        channel: 0,
+        map: 0,
+        kind: Kind::Packets,
+        longest: 0,
+        upid: 0,
+    };
+    let mut lanes = [no_lane; 8];
+    lanes[0] = Lane {
+        channel: 0,
+        map: 5,
+        kind: Kind::Packets,
+        longest: 64,
+        upid: 0,
+    };
+    Setting {
+        length: 32,
+        craft: 42,
+        bit: 0,
+        insert: 0,
+        check: false,
+        listed: 1,
+        channels: channels,
+        numbered: 1,
+        lanes: lanes,
+    }
+}
+
+// Puts what is printed before line k: the title before the first, else nothing.
+fn put_opening(area: &mut [u8], k: u64) -> usize
+    requires { ⌜ 27 ≤ length (now area) ⌝ }
+    ensures { λ r. ⌜ Put (opening k) (now (area .entry)) 0 (now (area .exit)) r ⌝ }
+{
+    if k == 0 {
+        return listing_text::put_title(area, 0);
+    }
+    0
+}
+
+// Reads frame k, and puts what is printed for it into `area`. An empty input has no frame.
+fn list_frame(
+    k: u64,
+    r: Reader,
+    frame: &[u8],
+    held: &mut [u8],
+    units: &mut [u8],
+    records: &mut [u8],
+    area: &mut [u8],
+) -> Printed
+    requires { ⌜ (1 ≤ length (now frame)) × (98 ≤ length (now area)) ⌝ }
+    ensures { λ p. ⌜ Listed k (read r (now (frame .entry)) (now (held .entry)) (now (units .entry)) (now (records .entry))) (now (area .entry)) (p .state) (now (held .exit)) (now (units .exit)) (now (records .exit)) (now (area .exit)) (p .end) ⌝ }
+{
+    let t = reader::read(r, frame, held, units, records);
+    let a = t.answer;
+    let s = t.state;
+    let at = put_opening(area, k);
+    let end = listing_text::put_line(area, at, k, a);
+    Printed { state: s, end: end }
+}
+
+// Reads and prints frame k, if there is one. After a whole frame the listing goes on from what is handed back.
+fn list_next(k: u64, r: Reader, held: &mut [u8], units: &mut [u8], records: &mut [u8]) -> Turn
+    requires { ⌜ Reached k r (now held) (now units) (now records) ⌝ }
+    ensures { λ t. ⌜ GoesOn (t .more) (Reached (k + 1) (t .state) (now (held .exit)) (now (units .exit)) (now (records .exit))) ⌝ }
+{
+    let mut frame = [0u8; 32];
+    let n = io::read_full(0, &mut frame);
+    if n == 0 {
+        return Turn {
+            state: r,
+            more: false,
+        };
+    }
+    let mut area = [0u8; 98];
+    let p = list_frame(k, r, &frame[..n], held, units, records, &mut area);
+    let end = p.end;
+    io::write_all(1, &area[..end]);
+    let s = p.state;
+    Turn {
+        state: s,
+        more: n == 32,
+    }
+}
+
+// Lists standard input to its end. A proved loop has to end: this one counts its frames, to a number that no run reaches.
+pub fn run() {
+    let mut held = [0u8; 65536];
+    let mut units = [0u8; 12288];
+    let mut records = [0u8; 9600];
+    let setting = worked_setting();
+    let l = reader::set_up(setting);
+    let mut state = l.state;
+    let mut k: u64 = 0;
+    while k < 18446744073709551615 {
+        let t = list_next(k, state, &mut held, &mut units, &mut records);
+        if t.more {
+            let after = t.state;
+            state = after;
+            k += 1;
+        } else {
+            break;
+        }
+    }
+}

@@ -1,0 +1,42 @@
+-- The first two fields and the spaces behind them, one after another.
+use native.Mathlib.Omega.{arith}
+use Rattle.listing_text.proofs.Laws.{length-decimal, length-word, put-front}
+use borrow.Author.Needs.{needs}
+use Rattle.listing_text.proofs.put_front.Statement.{statement}
+use Rattle.listing_text.proofs.put_front.Tie as tie
+use Rattle.listing_text.proofs.put_front.Reads as reads
+use Rattle.listing_text.proofs.put_front.Lts as lts
+use Rattle.listing_text.proofs.put_decimal.Reads as put-decimal-reads
+use Rattle.listing_text.proofs.put_octet.Reads as put-octet-reads
+use Rattle.listing_text.proofs.put_word.Reads as put-word-reads
+
+put-decimal-requires : tie.Need-put-decimal-requires
+put-decimal-requires c κs = search needs
+
+put-octet-requires : tie.Need-put-octet-requires
+put-octet-requires c κs = omega (arith, length-decimal (c .before .before .before .before .before .before .args .k), c .before .before .before .put-decimal .ensures .ends)
+
+put-word-requires : tie.Need-put-word-requires
+put-word-requires c κs = omega (arith, length-decimal (c .before .before .before .before .before .before .before .before .before .before .args .k), c .before .before .before .before .before .before .before .put-decimal .ensures .ends, c .before .before .before .put-octet .ensures .ends)
+
+put-octet-requires-2 : tie.Need-put-octet-requires-2
+put-octet-requires-2 c κs = omega (arith, length-decimal (c .before .before .before .before .before .before .before .before .before .before .before .before .before .before .args .k), length-word (c .before .before .before .before .before .before .before .before .before .before .before .before .before .before .args .class), c .before .before .before .before .before .before .before .before .before .before .before .put-decimal .ensures .ends, c .before .before .before .before .before .before .before .put-octet .ensures .ends, c .before .before .before .put-word .ensures .ends)
+
+same-length : tie.Need-same-length
+same-length c = search needs
+
+returns : tie.Need-returns
+returns c =
+    let a = c .before .before .before .before .before .before .before .before .before .before .before .before .before .before .before .before .before .args in
+    put-front (a .k) (a .class) (a .area .now) (a .from) _ _ _ _ _ _ _ _ (c .before .before .before .before .before .before .before .before .before .before .before .before .before .before .before .before .before .pre) (c .before .before .before .before .before .before .before .before .before .before .before .before .before .before .put-decimal .ensures) (c .before .before .before .before .before .before .before .before .before .before .put-octet .ensures) (c .before .before .before .before .before .before .put-word .ensures) (c .before .before .put-octet2 .ensures)
+
+pub put-front-spec : {M : Type 1} → statement M
+put-front-spec =
+    tie.close
+    (tie.spec
+    put-decimal-requires
+    put-octet-requires
+    put-word-requires
+    put-octet-requires-2
+    same-length
+    returns)
