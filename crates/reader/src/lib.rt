@@ -502,8 +502,8 @@ fn lane_gap(r: Reader, l: usize, frame: &[u8]) -> Gap
     let a = s.lanes[l];
     let c = a.channel;
     let ch = s.channels[c];
-    let k = count_in(ch, frame);
-    gap_of(r, c, k)
+    let count = count_in(ch, frame);
+    gap_of(r, c, count)
 }
 
 // Reads one frame into the areas lent, or refuses it and changes nothing.
