@@ -23,7 +23,7 @@ use Rattle.rules.proofs.Areas.{laid-part}
 use Rattle.rules.proofs.Valid.{GoodKind}
 use Rattle.rules.proofs.Judged.{Inside}
 use Rattle.rules.proofs.Lanes.{lane-total, lane-below, total}
-use Rattle.lanes.specs.declared.Led.{Led}
+use Rattle.handing.specs.declared.Led.{Led}
 use Rattle.lanes.specs.Steps.{Lent, Stepped}
 use Rattle.reader.specs.Reads.{takenOf, infoFor, OnLane}
 use Rattle.judge.proofs.Places.{Fits, fits, lane-eight}

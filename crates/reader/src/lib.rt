@@ -10,7 +10,7 @@ ghost use Rattle.rules.specs.Reading.{gap, laneStep};
 ghost use Rattle.rules.specs.Calls.{readOn, read, setUpReader, bare};
 ghost use Rattle.lanes.specs.Steps.{Lent, Stepped};
 ghost use Rattle.reader.specs.Reads.{infoFor, takenOf, countedOf, shortOf, verdictOf, OnLane};
-use lanes::Led;
+use handing::Led;
 use rules::Answer;
 use rules::Channel;
 use rules::Class;

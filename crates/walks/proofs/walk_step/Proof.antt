@@ -4,10 +4,10 @@ use native.Mathlib.Omega.{arith}
 use lib.ListN.{length-drop}
 use borrow.Author.Needs.{needs}
 use Rattle.rules.specs.Areas.{laid}
-use Rattle.lanes.proofs.Laws.{begun-room, begun-went, only-counted, part-stays}
-use Rattle.lanes.proofs.Walks.{rest-lent}
-use Rattle.lanes.proofs.walk_step.Statement.{statement}
-use Rattle.lanes.proofs.walk_step.Tie as tie
+use Rattle.handing.proofs.Laws.{begun-room, begun-went, only-counted, part-stays}
+use Rattle.walks.proofs.Walks.{rest-lent}
+use Rattle.walks.proofs.walk_step.Statement.{statement}
+use Rattle.walks.proofs.walk_step.Tie as tie
 
 read-on-requires : tie.Need-read-on-requires
 read-on-requires c κs = search needs

@@ -1,8 +1,8 @@
 -- The rule's decision on the rule's measure.
 use mathlib.Core.Path.{_∙_}
 use borrow.Author.Needs.{needs}
-use Rattle.lanes.proofs.next_at.Statement.{statement}
-use Rattle.lanes.proofs.next_at.Tie as tie
+use Rattle.walks.proofs.next_at.Statement.{statement}
+use Rattle.walks.proofs.next_at.Tie as tie
 
 measure-at-requires : tie.Need-measure-at-requires
 measure-at-requires c κs = search needs

@@ -7,10 +7,10 @@ use native.Mathlib.Omega.{arith}
 use lib.ListN.{length}
 use borrow.Author.Needs.{needs}
 use Rattle.rules.specs.Reading.{walk}
-use Rattle.lanes.proofs.Walks.{Walking, starts, finished, given, skipped, kept, lost, turn-room, turn-on}
-use Rattle.lanes.proofs.Laws.{begun-units, begun-records, only-counted}
-use Rattle.lanes.proofs.read_on.Statement.{statement}
-use Rattle.lanes.proofs.read_on.Tie as tie
+use Rattle.walks.proofs.Walks.{Walking, starts, finished, given, skipped, kept, lost, turn-room, turn-on}
+use Rattle.handing.proofs.Laws.{begun-units, begun-records, only-counted}
+use Rattle.walks.proofs.read_on.Statement.{statement}
+use Rattle.walks.proofs.read_on.Tie as tie
 
 abbrev Inv-loop : tie.InvT-loop
 Inv-loop longest zone from info units₀ records₀ at₀ t₀ units records at t = Walking longest zone from info t₀ units₀ records₀ at t units records

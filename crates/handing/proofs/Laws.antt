@@ -12,9 +12,9 @@ use Rattle.rules.specs.Areas.{laid, joined}
 use Rattle.rules.specs.Reading.{Made, nothing, hands, idles, both, recordOf, recordsFrom}
 use Rattle.rules.proofs.Octets.{length-be}
 use Rattle.rules.proofs.Areas.{joined-append, laid-nil, laid-laid, length-laid}
-use Rattle.lanes.specs.declared.Tally.{Tally}
-use Rattle.lanes.specs.declared.Led.{Led}
-use Rattle.lanes.specs.Steps.{Room, Handed, Begun, Ready, Went}
+use Rattle.handing.specs.declared.Tally.{Tally}
+use Rattle.handing.specs.declared.Led.{Led}
+use Rattle.handing.specs.Hands.{Room, Handed, Begun, Ready, Went}
 
 -- ---- records
 
