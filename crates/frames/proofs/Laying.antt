@@ -18,8 +18,8 @@ use Rattle.rules.proofs.Tests.{split}
 use Rattle.rules.proofs.Octets.{length-be}
 use Rattle.rules.proofs.Areas.{laid-front, laid-laid, laid-next}
 use Rattle.rules.proofs.Written.{length-zoneOf}
-use Rattle.writer.specs.declared.Line.{Line}
-use Rattle.writer.specs.Lines.{lineFrame}
+use Rattle.frames.specs.declared.Line.{Line}
+use Rattle.frames.specs.Ready.{lineFrame}
 
 -- ---- the primary header and the insert zone
 

@@ -7,8 +7,8 @@ use lib.ListN.{length, replicate}
 use Rattle.rules.specs.Areas.{laid}
 use Rattle.rules.proofs.Areas.{laid-laid}
 use borrow.Author.Needs.{needs}
-use Rattle.writer.proofs.put_zone.Statement.{statement}
-use Rattle.writer.proofs.put_zone.Tie as tie
+use Rattle.frames.proofs.put_zone.Statement.{statement}
+use Rattle.frames.proofs.put_zone.Tie as tie
 
 lay-requires : tie.Need-lay-requires
 lay-requires c κs = search needs

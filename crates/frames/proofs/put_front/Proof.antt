@@ -4,10 +4,10 @@ use Prim.Native.Nat.{ℕ, _+_}
 use mathlib.Core.List.{List}
 use Rattle.rules.specs.Octets.{be}
 use Rattle.rules.specs.Areas.{laid}
-use Rattle.writer.proofs.Laying.{front-laid}
+use Rattle.frames.proofs.Laying.{front-laid}
 use borrow.Author.Needs.{needs}
-use Rattle.writer.proofs.put_front.Statement.{statement}
-use Rattle.writer.proofs.put_front.Tie as tie
+use Rattle.frames.proofs.put_front.Statement.{statement}
+use Rattle.frames.proofs.put_front.Tie as tie
 
 header-of-requires : tie.Need-header-of-requires
 header-of-requires c κs = search needs

@@ -9,10 +9,10 @@ use lib.Seq.{length-take-le}
 use Rattle.rules.specs.Octets.{be, checkOf}
 use Rattle.rules.specs.Areas.{laid}
 use Rattle.rules.proofs.Areas.{length-laid}
-use Rattle.writer.proofs.Laying.{end-laid}
+use Rattle.frames.proofs.Laying.{end-laid}
 use borrow.Author.Needs.{needs}
-use Rattle.writer.proofs.put_end.Statement.{statement}
-use Rattle.writer.proofs.put_end.Tie as tie
+use Rattle.frames.proofs.put_end.Statement.{statement}
+use Rattle.frames.proofs.put_end.Tie as tie
 
 lay-requires : tie.Need-lay-requires
 lay-requires c κs = search needs

@@ -9,10 +9,10 @@ use Rattle.rules.specs.Octets.{be, checkOf}
 use Rattle.rules.specs.Areas.{laid}
 use Rattle.rules.specs.Frames.{primary, dataHeader}
 use Rattle.rules.specs.Writing.{zoneOf, ruleOf, pointerOf}
-use Rattle.writer.proofs.Laying.{frame-laid, frame-is, primary-length, data-length}
+use Rattle.frames.proofs.Laying.{frame-laid, frame-is, primary-length, data-length}
 use borrow.Author.Needs.{needs}
-use Rattle.writer.proofs.put_frame.Statement.{statement}
-use Rattle.writer.proofs.put_frame.Tie as tie
+use Rattle.frames.proofs.put_frame.Statement.{statement}
+use Rattle.frames.proofs.put_frame.Tie as tie
 
 put-front-requires : tie.Need-put-front-requires
 put-front-requires c κs = search needs

@@ -9,10 +9,10 @@ use Rattle.rules.specs.Areas.{laid}
 use Rattle.rules.specs.Frames.{pointerTo}
 use Rattle.rules.specs.Writing.{ruleOf, pointerOf, inside, offsetOf}
 use Rattle.rules.proofs.Written.{pointer-small}
-use Rattle.writer.proofs.Laying.{piece-is, data-laid}
+use Rattle.frames.proofs.Laying.{piece-is, data-laid}
 use borrow.Author.Needs.{needs}
-use Rattle.writer.proofs.put_data.Statement.{statement}
-use Rattle.writer.proofs.put_data.Tie as tie
+use Rattle.frames.proofs.put_data.Statement.{statement}
+use Rattle.frames.proofs.put_data.Tie as tie
 
 rule-of-requires : tie.Need-rule-of-requires
 rule-of-requires c κs = search needs
