@@ -7,6 +7,7 @@ mod packet;
 mod programs;
 mod random;
 mod reader;
+mod samples;
 mod setting;
 mod text;
 mod writer;
@@ -20,6 +21,7 @@ use std::process::ExitCode;
 const USAGE: &str = "usage: second unpack SETTING RECORDING PREFIX
        second pack SETTING LANE=FILE ..
        second calls
+       second sample SEED FOLDER
        second random SEED COUNT
        second demand3 SEED COUNT";
 
@@ -40,6 +42,7 @@ fn run(arguments: &[String]) -> Result<(), String> {
         ("unpack", _) => programs::unpack(rest),
         ("pack", _) => programs::pack(rest),
         ("calls", []) => calls::run(io::stdin().lock(), &mut BufWriter::new(io::stdout().lock())),
+        ("sample", [seed, folder]) => samples::write_sample(text::decimal(seed)?, folder),
         ("random", [seed, count]) => {
             let script = random::script(text::decimal(seed)?, text::decimal(count)?);
             let mut out = io::stdout().lock();

@@ -12,8 +12,11 @@ use crate::writer::{Lent, Writer, LONGEST_BATCH};
 fn load_setting(path: &str) -> Result<Setting, String> {
     let mut octets = Vec::new();
     File::open(path)
-        .and_then(|file| file.take(LONGEST_SETTING_FILE).read_to_end(&mut octets))
+        .and_then(|file| file.take(LONGEST_SETTING_FILE + 1).read_to_end(&mut octets))
         .map_err(|error| format!("{path}: {error}"))?;
+    if octets.len() as u64 > LONGEST_SETTING_FILE {
+        return Err(format!("{path}: more than {LONGEST_SETTING_FILE} octets"));
+    }
     setting_from_file(&octets).map_err(|wrong| format!("{path}: {wrong}"))
 }
 
@@ -33,8 +36,8 @@ struct LaneTotals {
 #[derive(Clone, Default)]
 struct ChannelTotals {
     frames: u64,
-    /// One frame can miss almost 2^56, so many of them need a wide sum.
-    missing: u128,
+    /// One frame can miss almost 2^56; the sum stops at 2^64 - 1.
+    missing: u64,
 }
 
 #[derive(Default)]
@@ -69,7 +72,7 @@ impl Totals {
         self.dropped += answer.dropped;
         if let Some(channel) = answer.channel {
             self.channels[channel].frames += 1;
-            self.channels[channel].missing += u128::from(answer.missing);
+            self.channels[channel].missing = self.channels[channel].missing.saturating_add(answer.missing);
         }
         if let Some(lane) = answer.lane {
             self.lanes[lane].frames += 1;
@@ -255,14 +258,13 @@ pub fn pack(arguments: &[String]) -> Result<(), String> {
     let insert = fixed_octets(&plan.insert_file, setting.insert as usize)?;
     let ocf = fixed_octets(&plan.ocf_file, 4)?;
     let mut writer = Writer::fresh(&setting).map_err(|_| "the setting is not valid")?;
-    let mut out = BufWriter::new(io::stdout().lock());
-    let outcome = plan
-        .lane_files
-        .iter()
-        .try_for_each(|(lane, path)| pack_file(&mut writer, *lane, path, &insert, &ocf, &mut out));
-    // What was written before a refusal stays written.
-    out.flush().map_err(said)?;
-    outcome
+    let mut frames = Vec::new();
+    for (lane, path) in &plan.lane_files {
+        pack_file(&mut writer, *lane, path, &insert, &ocf, &mut frames)?;
+    }
+    // Nothing is written where anything is refused.
+    let mut out = io::stdout().lock();
+    out.write_all(&frames).and_then(|()| out.flush()).map_err(said)
 }
 
 fn pack_file(
@@ -271,7 +273,7 @@ fn pack_file(
     path: &str,
     insert: &[u8],
     ocf: &[u8],
-    out: &mut impl Write,
+    out: &mut Vec<u8>,
 ) -> Result<(), String> {
     let file = fs::read(path).map_err(|error| format!("{path}: {error}"))?;
     let listed = usize::try_from(lane).ok().and_then(|place| writer.setting.lanes.get(place));
@@ -282,7 +284,7 @@ fn pack_file(
         loop {
             let lent = Lent { lane, batch, insert, ocf };
             writer.write(&lent, &mut frame).map_err(|number| format!("{path}: a batch is refused {number}"))?;
-            out.write_all(&frame).map_err(said)?;
+            out.extend(&frame);
             if writer.next[lane as usize] == 0 {
                 break;
             }

@@ -21,21 +21,17 @@ pub struct SettingLines {
 pub const SETTING_WORDS: [&str; 8] =
     ["frame", "spacecraft", "source", "destination", "insert", "check", "channel", "lane"];
 
-/// The words of a line: without its comment, apart by spaces or tabs.
+/// The words of a line: without its comment, apart by spaces, tabs or carriage returns.
 pub fn words(line: &str) -> Vec<&str> {
     let said = line.split('#').next().unwrap_or("");
-    said.split([' ', '\t']).filter(|word| !word.is_empty()).collect()
+    said.split([' ', '\t', '\r']).filter(|word| !word.is_empty()).collect()
 }
 
 /// A whole setting file. The setting that comes back is valid.
 pub fn setting_from_file(octets: &[u8]) -> Result<Setting, String> {
     let text = String::from_utf8_lossy(octets);
     let mut lines = SettingLines::default();
-    for (place, line) in text.split_inclusive('\n').enumerate() {
-        let line = match line.strip_suffix('\n') {
-            Some(ended) => ended.strip_suffix('\r').unwrap_or(ended),
-            None => line,
-        };
+    for (place, line) in text.split('\n').enumerate() {
         lines.take(&words(line)).map_err(|expected| format!("line {}: expected {expected}", place + 1))?;
     }
     lines.finish()

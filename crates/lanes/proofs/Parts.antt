@@ -17,10 +17,11 @@ use Rattle.rules.specs.Packets.{measure}
 use Rattle.rules.specs.Reading.{Made, nothing, drops, both, become, leadFate, lead, unitFate, followFate, portion, laneStep}
 use Rattle.rules.proofs.Areas.{laid-nil}
 use Rattle.rules.proofs.Lanes.{lead-cases, total, lane-total, lane-below, lane-few}
-use Rattle.lanes.specs.declared.Tally.{Tally}
-use Rattle.lanes.specs.declared.Led.{Led}
-use Rattle.lanes.specs.Steps.{Handed, Ready, Went, Lent, Stepped}
-use Rattle.lanes.proofs.Laws.{room-first, room-second, went-after, held-length}
+use Rattle.handing.specs.declared.Tally.{Tally}
+use Rattle.handing.specs.declared.Led.{Led}
+use Rattle.handing.specs.Hands.{Handed, Ready, Went}
+use Rattle.lanes.specs.Steps.{Lent, Stepped}
+use Rattle.handing.proofs.Laws.{room-first, room-second, went-after, held-length}
 
 -- ---- two parts
 

@@ -23,10 +23,10 @@ use Rattle.rules.proofs.Areas.{laid-part}
 use Rattle.rules.proofs.Valid.{GoodKind}
 use Rattle.rules.proofs.Judged.{Inside}
 use Rattle.rules.proofs.Lanes.{lane-total, lane-below, total}
-use Rattle.lanes.specs.declared.Led.{Led}
+use Rattle.handing.specs.declared.Led.{Led}
 use Rattle.lanes.specs.Steps.{Lent, Stepped}
 use Rattle.reader.specs.Reads.{takenOf, infoFor, OnLane}
-use Rattle.reader.proofs.Places.{Fits, fits, lane-eight}
+use Rattle.judge.proofs.Places.{Fits, fits, lane-eight}
 
 -- The same zone, by another way of cutting it out.
 pub lent-same : (k : Kind) (longest h : ℕ) (p p′ : Place) (z n : ℕ) (f d u c : List ℕ) → p′ ≡ p → n ≡ z

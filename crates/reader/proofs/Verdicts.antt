@@ -21,7 +21,7 @@ use Rattle.rules.proofs.States.{reader-ok, gap-setting, good-gap}
 use Rattle.rules.proofs.Judged.{Reads}
 use Rattle.rules.proofs.Calls.{Ordered, Ruled, verdict-facts}
 use Rattle.reader.specs.Reads.{verdictOf, OnLane}
-use Rattle.reader.proofs.Gaps.{gap-small}
+use Rattle.gaps.proofs.Gaps.{gap-small}
 
 -- Areas that a read leaves as they were.
 pub untouched-areas : (h u c : List ℕ) {t t′ : Taken} → t ≡ t′

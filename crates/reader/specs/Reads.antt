@@ -18,7 +18,7 @@ use Rattle.rules.specs.Refusals.{judge}
 use Rattle.rules.specs.Calls.{counted}
 use Rattle.rules.proofs.Valid.{GoodReader}
 use Rattle.rules.proofs.Judged.{Reads}
-use Rattle.lanes.specs.declared.Led.{Led}
+use Rattle.handing.specs.declared.Led.{Led}
 
 -- The paper's record fields of lane l, lane a on channel ch, and a count.
 abbrev pub infoFor : Lane → Channel → ℕ → ℕ → Info

@@ -1,298 +1,28 @@
 // The reader: set-up, and one call a frame.
 ghost use mathlib.Core.Path.{_≡_};
-ghost use mathlib.Core.Bool.{true, false};
-ghost use Prim.Native.Nat.{ℕ, _+_, _-_, _*_, _^_, _≤_, _<_};
-ghost use lib.ListN.{length, getD, take, drop};
-ghost use Rattle.rules.specs.Tests.{_=?_};
-ghost use Rattle.rules.specs.Settings.{settingOk, readerOk, channel, lane, channelOf};
-ghost use Rattle.rules.specs.Octets.{flag, bits};
-ghost use Rattle.rules.specs.Frames.{vc, map, bypass, countIn, checkHolds, pointsTo};
-ghost use Rattle.rules.specs.Reading.{missing, emptied, lost, lanesOf, gap, laneStep};
-ghost use Rattle.rules.specs.Refusals.{channelAt, laneAt, judge};
-ghost use Rattle.rules.specs.Calls.{readOn, onVerdict, verdict, read, setUpReader, bare};
-ghost use Rattle.header.specs.Heads.{headOf};
+ghost use mathlib.Core.Bool.{true};
+ghost use Prim.Native.Nat.{_+_, _≤_, _<_};
+ghost use lib.ListN.{length, take, drop};
+ghost use Rattle.rules.specs.Settings.{readerOk, channel, lane, channelOf};
+ghost use Rattle.rules.specs.Octets.{bits};
+ghost use Rattle.rules.specs.Frames.{countIn, pointsTo};
+ghost use Rattle.rules.specs.Reading.{gap, laneStep};
+ghost use Rattle.rules.specs.Calls.{readOn, read, setUpReader, bare};
 ghost use Rattle.lanes.specs.Steps.{Lent, Stepped};
 ghost use Rattle.reader.specs.Reads.{infoFor, takenOf, countedOf, shortOf, verdictOf, OnLane};
-ghost use Rattle.reader.specs.Judging.{dataWrongOf, judgeData, judgeMap, judgeListed, judgeChannel, fieldRefusal, headRefusal};
-use header::Data;
-use header::Head;
-use lanes::Led;
+use handing::Led;
 use rules::Answer;
 use rules::Channel;
 use rules::Class;
-use rules::Expect;
 use rules::Gap;
 use rules::Info;
 use rules::Lane;
 use rules::Listener;
 use rules::Outcome;
-use rules::Place;
 use rules::Reader;
 use rules::Setting;
 use rules::Taken;
 use rules::Verdict;
-
-// ---- judge: what the checks say of a frame
-
-// Whether the frame check holds.
-fn check_holds(s: Setting, frame: &[u8]) -> bool
-    requires { ⌜ (2 ≤ s .length) × (length (now frame) ≡ s .length) ⌝ }
-    ensures { λ r. ⌜ r ≡ checkHolds s (now (frame .entry)) ⌝ }
-{
-    if s.check {
-        let at = s.length - 2;
-        let v = fecf::check_of(&frame[..at]);
-        let w = octets::exact(&frame[at..]);
-        return v as u64 == w;
-    }
-    true
-}
-
-// Refusal 8, or 0.
-fn field_refusal(s: Setting, h: Head) -> u8
-    requires { ⌜ 1 ≤ s .length ⌝ }
-    ensures { λ r. ⌜ r ≡ fieldRefusal s h ⌝ }
-{
-    if h.length != s.length - 1 {
-        return 8;
-    }
-    if h.spare != 0b00 {
-        return 8;
-    }
-    if h.command == 1 {
-        if h.bypass == 0 {
-            return 8;
-        }
-    }
-    0
-}
-
-// Refusals 5 to 8, or 0.
-fn head_refusal(s: Setting, h: Head) -> u8
-    requires { ⌜ 1 ≤ s .length ⌝ }
-    ensures { λ r. ⌜ r ≡ headRefusal s h ⌝ }
-{
-    if h.version != 0b1100 {
-        return 5;
-    }
-    if h.craft != s.craft {
-        return 6;
-    }
-    if h.bit != s.bit {
-        return 6;
-    }
-    if h.ending == 1 {
-        return 7;
-    }
-    field_refusal(s, h)
-}
-
-// Whether rule, UPID or pointer is not that of lane a, on a channel with this zone.
-fn data_wrong(a: Lane, z: usize, d: Data) -> bool
-    ensures { λ r. ⌜ r ≡ dataWrongOf a z d ⌝ }
-{
-    let kind = a.kind;
-    let fits = packets::rule_fits(kind, d.rule);
-    if fits {
-        if d.upid != a.upid {
-            return true;
-        }
-        if d.pointer < z {
-            return false;
-        }
-        return d.pointer != 0xFFFF;
-    }
-    true
-}
-
-// A frame of channel c whose map is in lane l.
-fn judge_data(s: Setting, c: usize, l: usize, frame: &[u8]) -> Verdict
-    requires { ⌜ (settingOk s ≡ true) × (c < s .listed) × (l < s .numbered) × (length (now frame) ≡ s .length) ⌝ }
-    ensures { λ r. ⌜ r ≡ judgeData s c l (now (frame .entry)) ⌝ }
-{
-    let a = s.lanes[l];
-    let ch = s.channels[c];
-    let z = setting::zone_of(s, ch);
-    let at = 7 + ch.octets + s.insert;
-    let d = header::data_of(&frame[at..]);
-    let wrong = data_wrong(a, z, d);
-    if wrong {
-        return Verdict::Refused(12);
-    }
-    Verdict::Read(l)
-}
-
-// A frame of channel c.
-fn judge_listed(s: Setting, c: usize, h: Head, frame: &[u8]) -> Verdict
-    requires { ⌜ (settingOk s ≡ true) × (c < s .listed) × (length (now frame) ≡ s .length) × (h ≡ headOf (now frame)) ⌝ }
-    ensures { λ r. ⌜ r ≡ judgeListed s c (now (frame .entry)) ⌝ }
-{
-    let ch = s.channels[c];
-    if h.octets != ch.octets {
-        return Verdict::Refused(10);
-    }
-    let o = flag_of(ch.ocf);
-    if h.ocf != o {
-        return Verdict::Refused(11);
-    }
-    judge_map(s, c, h, frame)
-}
-
-fn flag_of(b: bool) -> u8
-    ensures { λ r. ⌜ r ≡ flag b ⌝ }
-{
-    if b {
-        return 1;
-    }
-    0
-}
-
-// A frame of channel c whose count length and OCF flag are the channel's.
-fn judge_map(s: Setting, c: usize, h: Head, frame: &[u8]) -> Verdict
-    requires { ⌜ (settingOk s ≡ true) × (c < s .listed) × (length (now frame) ≡ s .length) × (h ≡ headOf (now frame)) ⌝ }
-    ensures { λ r. ⌜ r ≡ judgeMap s c (now (frame .entry)) (laneAt s c (map (now (frame .entry)))) ⌝ }
-{
-    let p = setting::lane_at(s, c, h.map);
-    match p {
-        Place::Nowhere => Verdict::Counted(c),
-        Place::At(l) => {
-            if h.command == 1 {
-                return Verdict::Counted(c);
-            }
-            judge_data(s, c, l, frame)
-        }
-    }
-}
-
-// A frame whose header passes 5 to 8.
-fn judge_channel(s: Setting, h: Head, frame: &[u8]) -> Verdict
-    requires { ⌜ (settingOk s ≡ true) × (length (now frame) ≡ s .length) × (h ≡ headOf (now frame)) ⌝ }
-    ensures { λ r. ⌜ r ≡ judgeChannel s (now (frame .entry)) (channelAt s (vc (now (frame .entry))) (bypass (now (frame .entry)))) ⌝ }
-{
-    let p = setting::channel_at(s, h.vc, h.bypass);
-    match p {
-        Place::Nowhere => {
-            if h.vc != 63 {
-                return Verdict::Refused(9);
-            }
-            Verdict::Idle
-        }
-        Place::At(c) => judge_listed(s, c, h, frame),
-    }
-}
-
-// What the checks say of a frame.
-fn judge_frame(s: Setting, frame: &[u8]) -> Verdict
-    requires { ⌜ settingOk s ≡ true ⌝ }
-    ensures { λ v. ⌜ v ≡ judge s (now (frame .entry)) ⌝ }
-{
-    if frame.len() != s.length {
-        return Verdict::Refused(3);
-    }
-    let holds = check_holds(s, frame);
-    if holds {
-        let h = header::head_of(frame);
-        let n = head_refusal(s, h);
-        if n == 0 {
-            return judge_channel(s, h, frame);
-        }
-        return Verdict::Refused(n);
-    }
-    Verdict::Refused(4)
-}
-
-// ---- a frame's count, and a gap
-
-// The count of a frame of this channel.
-fn count_in(c: Channel, frame: &[u8]) -> u64
-    requires { ⌜ (c .octets ≤ 7) × (7 + c .octets ≤ length (now frame)) ⌝ }
-    ensures { λ r. ⌜ (r ≡ countIn c (now (frame .entry))) × (r < 256 ^ c .octets) ⌝ }
-{
-    let end = 7 + c.octets;
-    octets::exact(&frame[7..end])
-}
-
-// How many frames are missing before count k, of n octets.
-fn missing_of(n: usize, e: Expect, k: u64) -> u64
-    requires { ⌜ (n ≤ 7) × (e .count < 256 ^ n) × (k < 256 ^ n) ⌝ }
-    ensures { λ r. ⌜ r ≡ missing n e k ⌝ }
-{
-    if e.known {
-        let m = octets::modulus(n);
-        return (k + m - e.count) % m;
-    }
-    0
-}
-
-// How many octets each lane holds once those of channel c have dropped theirs.
-fn emptied_of(s: Setting, c: usize, held: [usize; 8]) -> [usize; 8]
-    requires { ⌜ s .numbered ≤ 8 ⌝ }
-    ensures { λ r. ⌜ r ≡ emptied (λ l. l .channel =? c) (lanesOf s) held ⌝ }
-{
-    let n = s.numbered;
-    let mut t = held;
-    let mut i: usize = 0;
-    while i < n {
-        let a = s.lanes[i];
-        if a.channel == c {
-            t[i] = 0;
-        }
-        i += 1;
-    }
-    t
-}
-
-// How many octets that drops.
-fn lost_of(s: Setting, c: usize, held: [usize; 8]) -> usize
-    requires { ⌜ (s .numbered ≤ 8) × ((l : ℕ) → l < s .numbered → getD held l 0 ≤ 8192) ⌝ }
-    ensures { λ r. ⌜ r ≡ lost (λ l. l .channel =? c) (lanesOf s) held ⌝ }
-{
-    let n = s.numbered;
-    let mut lost: usize = 0;
-    let mut i: usize = 0;
-    while i < n {
-        let a = s.lanes[i];
-        if a.channel == c {
-            lost += held[i];
-        }
-        i += 1;
-    }
-    lost
-}
-
-// A frame of channel c with count k: what it expects next, what is missing, and what that drops.
-fn gap_of(r: Reader, c: usize, k: u64) -> Gap
-    requires { ⌜ (readerOk r ≡ true) × (c < r .setting .listed) × (k < 256 ^ channel (r .setting) c .octets) ⌝ }
-    ensures { λ g. ⌜ g ≡ gap r c k ⌝ }
-{
-    let s = r.setting;
-    let ch = s.channels[c];
-    let n = ch.octets;
-    let e = r.expects[c];
-    let missing = missing_of(n, e, k);
-    let m = octets::modulus(n);
-    let mut t = r;
-    t.expects[c] = Expect {
-        known: true,
-        count: (k + 1) % m,
-    };
-    if missing == 0 {
-        return Gap {
-            state: t,
-            missing: 0,
-            dropped: 0,
-        };
-    }
-    let held = r.held;
-    let dropped = lost_of(s, c, held);
-    let left = emptied_of(s, c, held);
-    t.held = left;
-    Gap {
-        state: t,
-        missing: missing,
-        dropped: dropped,
-    }
-}
 
 // ---- what a lane makes of a frame
 
@@ -382,7 +112,7 @@ fn read_on(
     let c = a.channel;
     let ch = s.channels[c];
     let z = setting::zone_of(s, ch);
-    let k = count_in(ch, frame);
+    let k = gaps::count_in(ch, frame);
     let info = info_for(a, ch, l, k);
     let h = r.held[l];
     let at = 7 + ch.octets + s.insert;
@@ -446,7 +176,7 @@ fn verdict_of(r: Reader, frame: &[u8], held: usize, units: usize, records: usize
             return Verdict::Refused(2);
         }
         let s = r.setting;
-        return judge_frame(s, frame);
+        return judge::judge_frame(s, frame);
     }
     Verdict::Refused(1)
 }
@@ -476,8 +206,8 @@ fn count_on(r: Reader, c: usize, frame: &[u8]) -> Taken
 {
     let s = r.setting;
     let ch = s.channels[c];
-    let k = count_in(ch, frame);
-    let g = gap_of(r, c, k);
+    let k = gaps::count_in(ch, frame);
+    let g = gaps::gap_of(r, c, k);
     let t = g.state;
     Taken {
         answer: Answer {
@@ -502,8 +232,8 @@ fn lane_gap(r: Reader, l: usize, frame: &[u8]) -> Gap
     let a = s.lanes[l];
     let c = a.channel;
     let ch = s.channels[c];
-    let count = count_in(ch, frame);
-    gap_of(r, c, count)
+    let count = gaps::count_in(ch, frame);
+    gaps::gap_of(r, c, count)
 }
 
 // Reads one frame into the areas lent, or refuses it and changes nothing.

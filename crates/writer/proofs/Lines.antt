@@ -17,8 +17,9 @@ use Rattle.rules.specs.Calls.{Sent, writeRefusals, written, write}
 use Rattle.rules.proofs.Valid.{Good, GoodWriter, good-writer, good-channelOf}
 use Rattle.rules.proofs.Calls.{Accepted, none-refused}
 use Rattle.rules.proofs.Written.{zone-small}
-use Rattle.writer.specs.declared.Line.{Line}
-use Rattle.writer.specs.Lines.{lineOf, lineFrame, Ready}
+use Rattle.frames.specs.declared.Line.{Line}
+use Rattle.writer.specs.Lines.{lineOf}
+use Rattle.frames.specs.Ready.{lineFrame, Ready}
 
 -- ---- slots
 

@@ -1,15 +1,14 @@
--- What a write looks up of its lane, and what it needs to lay a frame.
-use Prim.Native.Nat.{ℕ, _+_, _*_, _≤_, _<_}
+-- What a write looks up of its lane, and its later refusals.
+use Prim.Native.Nat.{ℕ}
 use mathlib.Core.Bool.{not, _||_}
 use mathlib.Core.List.{List, [], _∷_}
 use lib.ListN.{length}
 use Rattle.rules.specs.declared.Setting.{Setting}
 use Rattle.rules.specs.declared.Writer.{Writer}
 use Rattle.rules.specs.Tests.{_≤?_, _≠?_, Refusal, refuse}
-use Rattle.rules.specs.Settings.{lane, channelOf, count, number, zone, ocfOctets, checkOctets}
-use Rattle.rules.specs.Frames.{body, checked}
-use Rattle.rules.specs.Writing.{batchOk, frames, zoneOf, ruleOf, pointerOf}
-use Rattle.writer.specs.declared.Line.{Line}
+use Rattle.rules.specs.Settings.{lane, channelOf, count, number, zone, ocfOctets}
+use Rattle.rules.specs.Writing.{batchOk, frames}
+use Rattle.frames.specs.declared.Line.{Line}
 
 unfoldable pub lineOf : Writer → ℕ → Line
 lineOf w l =
@@ -31,19 +30,3 @@ lateRefusals s x batch insert ocf =
 unfoldable pub batchRefusals : Writer → ℕ → List ℕ → List ℕ → List ℕ → List Refusal
 batchRefusals w l batch insert ocf =
     refuse 14 (not (batchOk ((lane (w .setting) l) .kind) ((lane (w .setting) l) .longest) batch)) ∷ lateRefusals (w .setting) (lineOf w l) batch insert ocf
-
--- The line's next frame.
-unfoldable pub lineFrame : Setting → Line → List ℕ → List ℕ → List ℕ → List ℕ
-lineFrame s x batch insert ocf =
-    checked s
-    (body s (x .channel) (x .lane) (x .count) insert (ruleOf (x .lane .kind) (x .number)) (pointerOf (x .lane .kind) (x .zone) batch (x .number))
-    (zoneOf (x .lane .kind) (x .zone) batch (x .number)) ocf)
-
--- Its fields fit, the batch has it, and the area has room for it.
-pub record Ready (s : Setting) (x : Line) (batch insert ocf area : List ℕ) : Type 0 where
-  pub some : 1 ≤ s .length
-  pub most : s .length ≤ 65536
-  pub octets : x .channel .octets ≤ 7
-  pub begins : x .number * x .zone < length batch
-  pub small : x .zone ≤ 4096
-  pub room : 7 + x .channel .octets + length insert + 3 + x .zone + length ocf + checkOctets s ≤ length area

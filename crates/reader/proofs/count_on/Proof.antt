@@ -7,8 +7,8 @@ use Rattle.rules.specs.Settings.{channel}
 use Rattle.rules.specs.Reading.{gap}
 use Rattle.rules.proofs.Valid.{good-reader}
 use Rattle.reader.specs.Reads.{countedOf}
-use Rattle.reader.proofs.Places.{fits}
-use Rattle.reader.proofs.Gaps.{takes}
+use Rattle.judge.proofs.Places.{fits}
+use Rattle.gaps.proofs.Gaps.{takes}
 use Rattle.reader.proofs.count_on.Statement.{statement}
 use Rattle.reader.proofs.count_on.Tie as tie
 

@@ -6,8 +6,8 @@ use borrow.Author.Needs.{needs}
 use Rattle.rules.specs.Settings.{lane, channel}
 use Rattle.rules.specs.Reading.{gap}
 use Rattle.rules.proofs.Valid.{good-reader}
-use Rattle.reader.proofs.Places.{fits, lane-eight}
-use Rattle.reader.proofs.Gaps.{takes, lane-channel}
+use Rattle.judge.proofs.Places.{fits, lane-eight}
+use Rattle.gaps.proofs.Gaps.{takes, lane-channel}
 use Rattle.reader.proofs.lane_gap.Statement.{statement}
 use Rattle.reader.proofs.lane_gap.Tie as tie
 

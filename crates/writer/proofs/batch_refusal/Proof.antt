@@ -5,7 +5,7 @@ use Prim.Native.Nat.{ℕ}
 use Rattle.rules.specs.Tests.{given}
 use Rattle.rules.specs.Settings.{lane}
 use Rattle.rules.specs.Writing.{batchOk}
-use Rattle.writer.specs.declared.Line.{Line}
+use Rattle.frames.specs.declared.Line.{Line}
 use Rattle.writer.specs.Lines.{lineOf, lateRefusals, batchRefusals}
 use borrow.Author.Needs.{needs}
 use Rattle.writer.proofs.batch_refusal.Statement.{statement}

@@ -1,5 +1,0 @@
-// The listing of an empty input. Document 01: "empty input prints nothing".
-
-fn main() {
-    listing::run();
-}

@@ -1,0 +1,192 @@
+//! `second sample SEED FOLDER`: files for `unpack` and `pack`, good and bad. The same seed always makes the same files.
+
+use std::fs;
+use std::path::Path;
+
+use crate::frame::put_frame_check;
+use crate::random::{good_batch, space_packet, valid_setting, Random};
+use crate::setting::{Kind, Setting};
+use crate::text::setting_to_lines;
+use crate::writer::{Lent, Writer};
+
+/// Count lengths: short ones, so that counts wrap.
+const COUNT_LENGTHS: [u64; 5] = [1, 1, 1, 2, 7];
+
+/// The files: `setting`; `recording`; `insert` and `ocf`; `lane0` and so on for `pack`, whose words after the setting
+/// are the lines of `words`.
+pub fn write_sample(seed: u64, folder: &str) -> Result<(), String> {
+    let mut random = Random::new(seed);
+    let setting = valid_setting(&mut random, &COUNT_LENGTHS);
+    let insert = random.octets(setting.insert as usize);
+    let ocf = random.octets(4);
+    let recording = recording(&mut random, &setting, &insert, &ocf);
+    let mut words = vec!["insert=insert".to_string(), "ocf=ocf".to_string()];
+    put(folder, "setting", setting_text(&mut random, &setting).as_bytes())?;
+    put(folder, "recording", &recording)?;
+    put(folder, "insert", &insert)?;
+    put(folder, "ocf", &ocf)?;
+    for lane in 0..setting.lanes.len() {
+        put(folder, &format!("lane{lane}"), &lane_file(&mut random, &setting, lane))?;
+        words.push(format!("{lane}=lane{lane}"));
+    }
+    spoil_words(&mut random, &mut words);
+    put(folder, "words", (words.join("\n") + "\n").as_bytes())
+}
+
+fn put(folder: &str, name: &str, octets: &[u8]) -> Result<(), String> {
+    let path = Path::new(folder).join(name);
+    fs::write(&path, octets).map_err(|error| format!("{}: {error}", path.display()))
+}
+
+/// The setting's lines in another order, with comments and blanks that say nothing; one in four with something wrong.
+fn setting_text(random: &mut Random, setting: &Setting) -> String {
+    let mut lines: Vec<String> = setting_to_lines(setting).lines().map(str::to_string).collect();
+    // The five single facts come anywhere; channels stay before lanes.
+    for fact in 0..5 {
+        let line = lines.remove(0);
+        let place = random.between(4 - fact, lines.len() as u64) as usize;
+        lines.insert(place, line);
+    }
+    if random.one_in(4) {
+        spoil_lines(random, &mut lines);
+    }
+    let mut text = String::new();
+    for line in lines {
+        if random.one_in(6) {
+            text += random.pick(&["\n", "# a comment\n", " \t \r\n", "#\n", "  # frame length 9\n"]);
+        }
+        text += &line.replace(' ', random.pick(&[" ", " ", "  ", "\t", " \t "]));
+        text += random.pick(&["\n", "\n", "\r\n", " \n", " # said\n", "#\n"]);
+    }
+    if random.one_in(5) {
+        text.pop();
+    }
+    text
+}
+
+/// Something wrong with one line, or nearly so: the programs judge.
+fn spoil_lines(random: &mut Random, lines: &mut Vec<String>) {
+    let place = random.below(lines.len() as u64) as usize;
+    match random.below(7) {
+        0 => {
+            lines.remove(place);
+        }
+        1 => lines.push(lines[place].clone()),
+        2 => lines[place] += random.pick(&[" more", " 1", " no"]),
+        3 => {
+            let words: Vec<&str> = lines[place].split(' ').collect();
+            lines[place] = words[..words.len() - 1].join(" ");
+        }
+        4 => lines[place] = lines[place].replacen(['e', 'a'], "x", 1),
+        5 => {
+            let number = random.pick(&["00000000000000000000007", "99999999999999999999", "4097", "63", "256", "0", "-1"]);
+            lines[place] = lines[place]
+                .split(' ')
+                .map(|word| if word.bytes().all(|octet| octet.is_ascii_digit()) { number } else { word })
+                .collect::<Vec<&str>>()
+                .join(" ");
+        }
+        _ => lines.swap(place, 0),
+    }
+}
+
+/// A lane's file for `pack`: good, and one in eight with something wrong near its end.
+fn lane_file(random: &mut Random, setting: &Setting, lane: usize) -> Vec<u8> {
+    let zone = setting.zone_length(&setting.channels[setting.lanes[lane].channel]) as usize;
+    let described = &setting.lanes[lane];
+    let mut octets = good_batch(random, described, zone);
+    if described.kind == Kind::Packet {
+        for _ in 0..random.below(4) {
+            octets.extend(good_batch(random, described, zone));
+        }
+        if random.one_in(6) {
+            // More than one batch has room for.
+            while octets.len() < 40_000 {
+                octets.extend(space_packet(random, described.longest as usize, false));
+            }
+        }
+    }
+    if random.one_in(8) {
+        match (described.kind, random.below(4)) {
+            (Kind::Access, 0) => octets.clear(),
+            (Kind::Access, _) => octets.resize(described.longest as usize + 1, 7),
+            (Kind::Packet, 0) => octets.push(0xE0),
+            (Kind::Packet, 1) => octets.truncate(octets.len() - 1),
+            (Kind::Packet, 2) => octets.extend(space_packet(random, 7, true)),
+            (Kind::Packet, _) => octets.extend(space_packet(random, described.longest as usize + 1, false)),
+        }
+    }
+    octets
+}
+
+fn spoil_words(random: &mut Random, words: &mut Vec<String>) {
+    if random.one_in(10) {
+        let wrong = random.pick(&["insert=insert", "8=lane0", "x=lane0", "lane0", "0=no_such_file", "ocf=recording", "=lane0"]);
+        words.push(wrong.to_string());
+    }
+}
+
+/// Frames of several lanes in turn, of which some are gone, twice there, damaged, idle or too short.
+fn recording(random: &mut Random, setting: &Setting, insert: &[u8], ocf: &[u8]) -> Vec<u8> {
+    let Ok(mut writer) = Writer::fresh(setting) else { return Vec::new() };
+    let mut open: Vec<Option<Vec<u8>>> = vec![None; setting.lanes.len()];
+    let mut octets = Vec::new();
+    let mut frame = vec![0; setting.frame_length as usize];
+    for _ in 0..random.between(0, 120) {
+        let lane = random.below(setting.lanes.len() as u64) as usize;
+        let channel = &setting.channels[setting.lanes[lane].channel];
+        let zone = setting.zone_length(channel) as usize;
+        let batch = open[lane].take().unwrap_or_else(|| good_batch(random, &setting.lanes[lane], zone));
+        let ocf = if channel.ocf { ocf } else { &[] };
+        let lent = Lent { lane: lane as u64, batch: &batch, insert, ocf };
+        if writer.write(&lent, &mut frame).is_err() {
+            continue;
+        }
+        if writer.next[lane] != 0 {
+            open[lane] = Some(batch);
+        }
+        add_frame(random, setting, &frame, &mut octets);
+    }
+    if random.one_in(4) {
+        octets.truncate(octets.len() - octets.len().min(random.between(1, setting.frame_length - 1) as usize));
+    }
+    octets
+}
+
+fn add_frame(random: &mut Random, setting: &Setting, frame: &[u8], octets: &mut Vec<u8>) {
+    let mut sent = frame.to_vec();
+    match random.below(24) {
+        0 | 1 => return,
+        2 => octets.extend(frame),
+        3 => {
+            // Damage that the frame check sees, where there is one.
+            let place = random.below(sent.len() as u64) as usize;
+            sent[place] ^= 1 << random.below(8);
+        }
+        4 => {
+            // Virtual channel 63: bits 21 to 26.
+            sent[2] |= 0b0000_0111;
+            sent[3] |= 0b1110_0000;
+            check_anew(setting, &mut sent);
+        }
+        5 => {
+            // Another map, in most settings one of no lane.
+            sent[3] ^= 0b0001_1110 & random.octet();
+            check_anew(setting, &mut sent);
+        }
+        6 => {
+            // Octets of the zone, lengths of packets among them.
+            let place = random.below(sent.len() as u64 - 10) as usize + 10;
+            sent[place] = random.octet();
+            check_anew(setting, &mut sent);
+        }
+        _ => {}
+    }
+    octets.extend(sent);
+}
+
+fn check_anew(setting: &Setting, frame: &mut [u8]) {
+    if setting.check {
+        put_frame_check(frame);
+    }
+}
