@@ -257,18 +257,17 @@ fn read_with(
 fn read_frame(
     k: u64,
     line: &[u8],
-    e: Ends,
+    r: Reader,
     frame: &[u8],
     held: &mut [u8],
     units: &mut [u8],
     records: &mut [u8],
     out: &mut [u8],
-) -> Ends {
-    let r = e.reader;
+) -> Reader {
     let t = read_with(line, r, frame, held, units, records);
     say_taken(out, k, t, held, units, records);
     let s = t.state;
-    with_reader(e, s)
+    s
 }
 
 // A read of the frame that the line says.
@@ -284,7 +283,9 @@ fn read(
     let mut frame = [0u8; 8192];
     let n = unhex(line, 1, &mut frame);
     let n = within(n, &frame);
-    read_frame(k, line, e, &frame[..n], held, units, records, out)
+    let r = e.reader;
+    let s = read_frame(k, line, r, &frame[..n], held, units, records, out);
+    with_reader(e, s)
 }
 
 // A read of the frame area's first octets, as many as the line says.
@@ -298,8 +299,10 @@ fn keep(
     records: &mut [u8],
     out: &mut [u8],
 ) -> Ends {
-    let n = within(place_of(line, 1), area);
-    read_frame(k, line, e, &area[..n], held, units, records, out)
+    let n = lent(line, 1, 0, area);
+    let r = e.reader;
+    let s = read_frame(k, line, r, &area[..n], held, units, records, out);
+    with_reader(e, s)
 }
 
 // Prints the frame check of the octets that the line says.
@@ -447,6 +450,22 @@ fn obey(
         return anew(line, area, held, units, records);
     }
     obey_apart(k, line, e, area, held, out)
+}
+
+// The same for the first n octets of `line`.
+fn obey_first(
+    k: u64,
+    line: &[u8],
+    n: usize,
+    e: Ends,
+    area: &mut [u8],
+    held: &mut [u8],
+    units: &mut [u8],
+    records: &mut [u8],
+    out: &mut [u8],
+) -> Ends {
+    let m = within(n, line);
+    obey(k, &line[..m], e, area, held, units, records, out)
 }
 
 // Obeys standard input line by line to its end.

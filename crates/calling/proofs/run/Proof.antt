@@ -1,18 +1,16 @@
 -- `calling::run` is safe and ends: its lines are counted.
 use Prim.Native.Nat.{_-_}
-use lib.ListN.{length}
-use mathlib.Core.Path.{_≡_}
 use borrow.Author.Needs.{needs}
 use Rattle.calling.proofs.run.Statement.{statement}
 use Rattle.calling.proofs.run.Tie as tie
 
 abbrev Inv-loop : tie.InvT-loop
 Inv-loop window₀ line₀ area₀ held₀ units₀ records₀ out₀ input₀ e₀ k₀ window line area held units records out input e k =
-    (length window ≡ 65536) × (length line ≡ 72000) × (length area ≡ 4200) × (length held ≡ 65552) × (length units ≡ 12304) × (length records ≡ 9632) × (length out ≡ 33000)
+    ?
 
 abbrev μ-loop : tie.MeasureT-loop
 μ-loop window₀ line₀ area₀ held₀ units₀ records₀ out₀ input₀ e₀ k₀ window line area held units records out input e k =
-    18446744073709551615 - k
+    ?
 
 nothing-requires : tie.Need-nothing-requires Inv-loop μ-loop
 nothing-requires c κs = search needs
