@@ -270,8 +270,7 @@ impl Session {
     fn set(&mut self, word: &str, numbers: &[u64]) -> Result<(), String> {
         match (word, numbers) {
             ("setting", &[length, spacecraft, bit, insert, check, listed, numbered]) => {
-                let front =
-                    [length, spacecraft % 65_536, bit % 256, insert, u64::from(check == 1), listed, numbered];
+                let front = [length, spacecraft % 65_536, bit % 256, insert, u64::from(check == 1), listed, numbered];
                 *self = Session::new(Said { front, ..Said::default() });
             }
             ("channel", &[slot, virtual_channel, service, octets, ocf]) => {

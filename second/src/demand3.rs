@@ -27,9 +27,11 @@ pub fn script(seed: u64, count: u64) -> String {
 /// Holds what a program printed for that script against the demand; an error is the first difference.
 pub fn check(seed: u64, count: u64, printed: &str) -> Result<String, String> {
     let mut random = Random::new(seed);
-    let mut calls = printed.split_inclusive('\n').filter(|line| line.starts_with(|c: char| c.is_ascii_digit()) || {
-        let word = line.split(' ').next().unwrap_or("");
-        word == "units" || word == "records"
+    let mut calls = printed.split_inclusive('\n').filter(|line| {
+        line.starts_with(|c: char| c.is_ascii_digit()) || {
+            let word = line.split(' ').next().unwrap_or("");
+            word == "units" || word == "records"
+        }
     });
     let (mut units, mut frames) = (0, 0);
     for number in 0..count {
@@ -166,8 +168,7 @@ impl Run {
         let insert = random.octets(self.setting().insert as usize);
         let ocf = random.octets(if channel.ocf { 4 } else { 0 });
         let mut frame = vec![0; self.setting().frame_length as usize];
-        self.script +=
-            &format!("write {lane} {} {} {} {}\n", hex(&batch.octets), hex(&insert), hex(&ocf), frame.len());
+        self.script += &format!("write {lane} {} {} {} {}\n", hex(&batch.octets), hex(&insert), hex(&ocf), frame.len());
         self.calls.push(Call::Write);
         let lent = Lent { lane: lane as u64, batch: &batch.octets, insert: &insert, ocf: &ocf };
         self.writer.write(&lent, &mut frame).expect("a good write");

@@ -492,10 +492,11 @@ pub fn run() {
             break;
         }
         k += 1;
-        let n = within(input.length, &line);
-        e = obey(
+        let n = input.length;
+        e = obey_first(
             k,
-            &line[..n],
+            &line,
+            n,
             e,
             &mut area,
             &mut held,
