@@ -524,7 +524,7 @@ impl Script {
             Kind::Packet => (0, self.random.pick(&[0, NO_POINTER])),
             Kind::Access => (self.random.pick(&[1, 2]), self.random.pick(&[0, NO_POINTER])),
         };
-        let longest = self.setting.lanes[lane].longest as usize;
+        let longest = (self.setting.lanes[lane].longest as usize).max(7);
         let octets = packet_stream(&mut self.random, longest, zone, zone);
         let mut frame = self.lane_frame(lane, count, rule, pointer, &octets);
         if self.random.one_in(4) {
