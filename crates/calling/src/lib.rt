@@ -329,7 +329,7 @@ fn lay_held(held: &mut [u8], i: usize, octets: &[u8]) {
 }
 
 // Puts the octets of a line `held` at the lane's place, and says that the lane holds them.
-fn hold(line: &[u8], e: Ends, held: &mut [u8]) -> Ends {
+fn held_said(line: &[u8], e: Ends, held: &mut [u8]) -> Ends {
     let i = place_of(line, 1);
     let mut octets = [0u8; 8192];
     let n = unhex(line, 2, &mut octets);
@@ -340,7 +340,7 @@ fn hold(line: &[u8], e: Ends, held: &mut [u8]) -> Ends {
 }
 
 // The ends after a line that says a part of the setting.
-fn say_setting(line: &[u8], e: Ends) -> Ends {
+fn told_setting(line: &[u8], e: Ends) -> Ends {
     let s = e.setting;
     if begins(line, b"channel") {
         return with_setting(e, channel_said(s, line));
@@ -355,7 +355,7 @@ fn say_setting(line: &[u8], e: Ends) -> Ends {
 }
 
 // The ends after a line that says a part of the writer's state.
-fn say_sending(line: &[u8], e: Ends) -> Ends {
+fn told_sending(line: &[u8], e: Ends) -> Ends {
     let w = e.writer;
     if begins(line, b"count") {
         return with_writer(e, count_said(w, line));
@@ -363,11 +363,11 @@ fn say_sending(line: &[u8], e: Ends) -> Ends {
     if begins(line, b"next") {
         return with_writer(e, next_said(w, line));
     }
-    say_setting(line, e)
+    told_setting(line, e)
 }
 
 // The ends after a line that says a part of the reader's state.
-fn say_receiving(line: &[u8], e: Ends, held: &mut [u8]) -> Ends {
+fn told_receiving(line: &[u8], e: Ends, held: &mut [u8]) -> Ends {
     let r = e.reader;
     if begins(line, b"expect") {
         return with_reader(e, expect_said(r, line));
@@ -376,9 +376,9 @@ fn say_receiving(line: &[u8], e: Ends, held: &mut [u8]) -> Ends {
         return with_reader(e, holding(r, place_of(line, 1), place_of(line, 2)));
     }
     if begins(line, b"held") {
-        return hold(line, e, held);
+        return held_said(line, e, held);
     }
-    say_sending(line, e)
+    told_sending(line, e)
 }
 
 // Makes every octet of two areas 55.
@@ -426,7 +426,7 @@ fn obey_apart(
         check(k, line, out);
         return e;
     }
-    say_receiving(line, e, held)
+    told_receiving(line, e, held)
 }
 
 // The ends after line k, and what the line asks for printed.

@@ -34,7 +34,7 @@ pub fn put(area: &mut [u8], at: usize, x: u8) -> usize {
     at
 }
 
-// The number and n more, but no more than a million.
+// The number and n more, or a million where one of the two is that much.
 fn later(i: usize, n: usize) -> usize {
     if i < 1000000 {
         if n < 1000000 {
@@ -121,7 +121,7 @@ fn word(line: &[u8], k: usize) -> usize {
     i
 }
 
-// Whether the line's first word is this one, which has `length` octets.
+// Whether the line's first word is this one.
 pub fn begins(line: &[u8], first: &[u8]) -> bool {
     let mut i: usize = 0;
     while i < first.len() {
