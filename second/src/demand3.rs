@@ -1,28 +1,61 @@
-//! `second demand3`: random runs of demand 3, held directly.
+//! `second demand3`: random runs of demand 3 as a script, and what a program made of it, held directly.
 //!
 //! Two fresh ends. Batches on several lanes are worked off, interleaved; some frames are removed or replaced by
 //! octets that the reader refuses. Each lane must then give out exactly the units of which no frame is gone, where
 //! "of which" means every frame of the lane's channel from the one where the unit begins to the one where it ends.
+//! A kept frame is what the program that obeys the script wrote itself, and no reader of this program has a part in
+//! the verdict: what is due follows from the batches, Z and the frames that are gone.
 
+use crate::calls::setting_lines;
 use crate::frame::{big_endian, Header};
 use crate::random::{good_batch, valid_setting, Random};
-use crate::reader::{Answer, Areas, Class, Reader, HELD_AREA, RECORD, RECORD_AREA, UNIT_AREA};
+use crate::reader::RECORD;
 use crate::setting::{Kind, Setting};
-use crate::text::{hex, setting_to_lines};
+use crate::text::{hex, unhex};
 use crate::writer::{packet_starts, Lent, Writer};
 
-/// Runs them all; an error is the first difference.
-pub fn runs(seed: u64, count: u64) -> Result<String, String> {
+/// The script of all runs.
+pub fn script(seed: u64, count: u64) -> String {
     let mut random = Random::new(seed);
-    let mut units = 0;
+    let mut text = format!("# second demand3 {seed} {count}\n");
+    for _ in 0..count {
+        text += &Run::new(&mut random).script;
+    }
+    text
+}
+
+/// Holds what a program printed for that script against the demand; an error is the first difference.
+pub fn check(seed: u64, count: u64, printed: &str) -> Result<String, String> {
+    let mut random = Random::new(seed);
+    let mut calls = printed.split_inclusive('\n').filter(|line| {
+        line.starts_with(|c: char| c.is_ascii_digit()) || {
+            let word = line.split(' ').next().unwrap_or("");
+            word == "units" || word == "records"
+        }
+    });
+    let (mut units, mut frames) = (0, 0);
     for number in 0..count {
         let mut run = Run::new(&mut random);
-        run.go(&mut random).and_then(|()| run.compare()).map_err(|difference| {
-            format!("run {number} of seed {seed}: {difference}\n{}", setting_to_lines(&run.writer.setting))
+        run.hear(&mut calls).and_then(|()| run.compare()).map_err(|difference| {
+            format!("run {number} of seed {seed}: {difference}\n{}", setting_lines(&run.writer.setting))
         })?;
         units += run.handed_out.iter().map(Vec::len).sum::<usize>();
+        frames += run.heard;
     }
-    Ok(format!("{count} runs, {units} units, ok"))
+    match calls.next() {
+        Some(line) => Err(format!("more was printed than was asked for: {line}")),
+        None => Ok(format!("{count} runs, {frames} calls, {units} units, ok")),
+    }
+}
+
+/// What the script asked for, where demand 3 looks at the answer.
+enum Call {
+    /// A good write.
+    Write,
+    /// The frame just written, read: of this lane.
+    Keep(usize),
+    /// Octets that must be refused, read.
+    Refuse,
 }
 
 /// A batch being worked off, and where its frames stand among its channel's.
@@ -55,9 +88,9 @@ enum Loss {
 }
 
 struct Run {
+    script: String,
+    calls: Vec<Call>,
     writer: Writer,
-    reader: Reader,
-    held: Vec<u8>,
     loss: Loss,
     steps: u64,
     open: Vec<Option<Batch>>,
@@ -69,6 +102,8 @@ struct Run {
     gone_since_kept: Vec<Option<u64>>,
     /// For each channel, how many more are to go.
     row: Vec<u64>,
+    /// Calls whose answers were heard.
+    heard: usize,
 }
 
 impl Run {
@@ -84,10 +119,10 @@ impl Run {
         let steps = if cheap { random.pick(&[short, short, short, long]) } else { short };
         let channels = setting.channels.len();
         let lanes = setting.lanes.len();
-        Run {
+        let mut run = Run {
+            script: setting_lines(&setting) + "begin\n",
+            calls: Vec::new(),
             writer: Writer::fresh(&setting).expect("a generated setting is valid"),
-            reader: Reader::fresh(&setting).expect("a generated setting is valid"),
-            held: vec![0x55; HELD_AREA],
             loss,
             steps,
             open: (0..lanes).map(|_| None).collect(),
@@ -96,31 +131,34 @@ impl Run {
             gone: vec![Vec::new(); channels],
             gone_since_kept: vec![None; channels],
             row: vec![0; channels],
-        }
+            heard: 0,
+        };
+        run.go(random);
+        run
     }
 
     fn setting(&self) -> &Setting {
         &self.writer.setting
     }
 
-    fn go(&mut self, random: &mut Random) -> Result<(), String> {
+    fn go(&mut self, random: &mut Random) {
         for _ in 0..self.steps {
             let lane = random.below(self.setting().lanes.len() as u64) as usize;
-            let frame = self.write(random, lane)?;
+            let frame = self.write(random, lane);
             let channel = self.setting().lanes[lane].channel;
             let gone = self.is_to_go(random, channel);
             self.gone[channel].push(gone);
             if !gone {
-                self.receive(&frame, lane)?;
+                self.script += &format!("keep {}\n", frame.len());
+                self.calls.push(Call::Keep(lane));
             } else if random.one_in(2) {
-                self.receive_refused(random, &frame)?;
+                self.refuse(random, &frame);
             }
         }
-        Ok(())
     }
 
     /// Writes the lane's next frame, of a new batch where none is open.
-    fn write(&mut self, random: &mut Random, lane: usize) -> Result<Vec<u8>, String> {
+    fn write(&mut self, random: &mut Random, lane: usize) -> Vec<u8> {
         let listed = self.setting().lanes[lane].clone();
         let channel = self.setting().channels[listed.channel].clone();
         let zone = self.setting().zone_length(&channel);
@@ -129,17 +167,17 @@ impl Run {
             .unwrap_or_else(|| Batch { octets: good_batch(random, &listed, zone), places: Vec::new() });
         let insert = random.octets(self.setting().insert as usize);
         let ocf = random.octets(if channel.ocf { 4 } else { 0 });
-        let mut frame = vec![0x55; self.setting().frame_length as usize];
+        let mut frame = vec![0; self.setting().frame_length as usize];
+        self.script += &format!("write {lane} {} {} {} {}\n", hex(&batch.octets), hex(&insert), hex(&ocf), frame.len());
+        self.calls.push(Call::Write);
         let lent = Lent { lane: lane as u64, batch: &batch.octets, insert: &insert, ocf: &ocf };
-        self.writer.write(&lent, &mut frame).map_err(|number| format!("a good write is refused {number}"))?;
+        self.writer.write(&lent, &mut frame).expect("a good write");
         batch.places.push(self.gone[listed.channel].len());
         self.note_sent(lane, listed.kind, zone, &batch);
-        if self.writer.next[lane] != 0 {
+        if batch.places.len() < batch.octets.len().div_ceil(zone) {
             self.open[lane] = Some(batch);
-        } else if batch.places.len() != batch.octets.len().div_ceil(zone) {
-            return Err("a batch came back to frame 0 too soon or too late".to_string());
         }
-        Ok(frame)
+        frame
     }
 
     /// The units that end in the batch's newest frame are sent now.
@@ -195,37 +233,8 @@ impl Run {
         }
     }
 
-    fn read(&mut self, frame: &[u8], units: &mut [u8], records: &mut [u8]) -> Answer {
-        self.reader.read(frame, &mut Areas { held: &mut self.held, units, records })
-    }
-
-    fn receive(&mut self, frame: &[u8], lane: usize) -> Result<(), String> {
-        let (mut units, mut records) = (vec![0x55; UNIT_AREA], vec![0x55; RECORD_AREA]);
-        let answer = self.read(frame, &mut units, &mut records);
-        if answer.class != Class::Read {
-            return Err(format!("a kept frame is not read but {:?}: {}", answer.class, hex(frame)));
-        }
-        let listed = &self.setting().lanes[lane];
-        let channel = &self.setting().channels[listed.channel];
-        let head = [lane as u8, channel.virtual_channel as u8, listed.map as u8, channel.service as u8];
-        let mut end = 0;
-        for record in records.chunks_exact(RECORD).take(answer.units as usize) {
-            let (start, length) = (big_endian(&record[4..8]) as usize, big_endian(&record[8..12]) as usize);
-            if record[..4] != head || start != end {
-                return Err(format!("a record is not this lane's or not back to back: {}", hex(record)));
-            }
-            end = start + length;
-            let given = Given { octets: units[start..end].to_vec(), count: big_endian(&record[12..16]) };
-            self.handed_out[lane].push(given);
-        }
-        if end != answer.octets as usize {
-            return Err("the unit octets are not the records' sum".to_string());
-        }
-        Ok(())
-    }
-
-    /// Gives the reader octets that it must refuse, in the frame's place; nothing may change.
-    fn receive_refused(&mut self, random: &mut Random, frame: &[u8]) -> Result<(), String> {
+    /// Octets that a reader must refuse, in the frame's place.
+    fn refuse(&mut self, random: &mut Random, frame: &[u8]) {
         let mut octets = frame.to_vec();
         match random.below(4) {
             0 => octets.truncate(random.below(frame.len() as u64) as usize),
@@ -237,12 +246,50 @@ impl Run {
             }
             _ => octets[random.pick(&[4, 5])] ^= 1 << random.below(8),
         }
-        let (state, held) = (self.reader.clone(), self.held.clone());
-        let (mut units, mut records) = (vec![0x55; UNIT_AREA], vec![0x55; RECORD_AREA]);
-        let answer = self.read(&octets, &mut units, &mut records);
-        let untouched = units.iter().chain(&records).all(|&octet| octet == 0x55);
-        if !matches!(answer.class, Class::Refused(_)) || !untouched || self.reader != state || self.held != held {
-            return Err(format!("octets that must be refused are not, or change something: {}", hex(&octets)));
+        self.script += &format!("read {}\n", hex(&octets));
+        self.calls.push(Call::Refuse);
+    }
+
+    /// Hears what the program printed for this run: a line for each call, and units and records after each read.
+    fn hear<'a>(&mut self, lines: &mut impl Iterator<Item = &'a str>) -> Result<(), String> {
+        let mut next = || lines.next().map(str::trim_end).ok_or("too little was printed".to_string());
+        expect(next()?, "begin writer done reader done")?;
+        for call in std::mem::take(&mut self.calls) {
+            let line = next()?;
+            match call {
+                Call::Write => expect(line, "write done")?,
+                Call::Refuse => {
+                    expect(line, "read refused")?;
+                    expect_whole(next()?, "units -")?;
+                    expect_whole(next()?, "records -")?;
+                }
+                Call::Keep(lane) => {
+                    expect(line, "read read")?;
+                    self.receive(lane, octets_after(next()?, "units ")?, octets_after(next()?, "records ")?)?;
+                }
+            }
+            self.heard += 1;
+        }
+        Ok(())
+    }
+
+    /// Units and records of a kept frame of this lane.
+    fn receive(&mut self, lane: usize, units: Vec<u8>, records: Vec<u8>) -> Result<(), String> {
+        let listed = &self.setting().lanes[lane];
+        let channel = &self.setting().channels[listed.channel];
+        let head = [lane as u8, channel.virtual_channel as u8, listed.map as u8, channel.service as u8];
+        let mut end = 0;
+        for record in records.chunks(RECORD) {
+            let (start, length) = (big_endian(&record[4..8]) as usize, big_endian(&record[8..12]) as usize);
+            if record[..4] != head || start != end || units.len() < start + length {
+                return Err(format!("a record is not this lane's or not back to back: {}", hex(record)));
+            }
+            end = start + length;
+            let given = Given { octets: units[start..end].to_vec(), count: big_endian(&record[12..16]) };
+            self.handed_out[lane].push(given);
+        }
+        if end != units.len() {
+            return Err("the unit octets are not the records' sum".to_string());
         }
         Ok(())
     }
@@ -273,4 +320,25 @@ fn first_difference(lane: usize, wanted: &[Given], got: &[Given]) -> String {
         wanted.len(),
         got.len()
     )
+}
+
+/// A call's first line says this, after the script's line.
+fn expect(line: &str, wanted: &str) -> Result<(), String> {
+    match line.split_once(' ') {
+        Some((_, said)) if said.starts_with(wanted) => Ok(()),
+        _ => Err(format!("wanted {wanted}, printed {line}")),
+    }
+}
+
+fn expect_whole(line: &str, wanted: &str) -> Result<(), String> {
+    if line == wanted {
+        Ok(())
+    } else {
+        Err(format!("wanted {wanted}, printed {line}"))
+    }
+}
+
+fn octets_after(line: &str, word: &str) -> Result<Vec<u8>, String> {
+    let said = line.strip_prefix(word).ok_or_else(|| format!("wanted {word}, printed {line}"))?;
+    unhex(said)
 }

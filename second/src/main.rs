@@ -23,7 +23,8 @@ const USAGE: &str = "usage: second unpack SETTING RECORDING PREFIX
        second calls
        second sample SEED FOLDER
        second random SEED COUNT
-       second demand3 SEED COUNT";
+       second demand3 SEED COUNT
+       second demand3-check SEED COUNT";
 
 fn main() -> ExitCode {
     let arguments: Vec<String> = std::env::args().skip(1).collect();
@@ -43,16 +44,18 @@ fn run(arguments: &[String]) -> Result<(), String> {
         ("pack", _) => programs::pack(rest),
         ("calls", []) => calls::run(io::stdin().lock(), &mut BufWriter::new(io::stdout().lock())),
         ("sample", [seed, folder]) => samples::write_sample(text::decimal(seed)?, folder),
-        ("random", [seed, count]) => {
-            let script = random::script(text::decimal(seed)?, text::decimal(count)?);
-            let mut out = io::stdout().lock();
-            out.write_all(script.as_bytes()).and_then(|()| out.flush()).map_err(|error| error.to_string())
-        }
-        ("demand3", [seed, count]) => {
-            let line = demand3::runs(text::decimal(seed)?, text::decimal(count)?)?;
-            println!("{line}");
-            Ok(())
+        ("random", [seed, count]) => print(&random::script(text::decimal(seed)?, text::decimal(count)?)),
+        ("demand3", [seed, count]) => print(&demand3::script(text::decimal(seed)?, text::decimal(count)?)),
+        ("demand3-check", [seed, count]) => {
+            let printed = io::read_to_string(io::stdin()).map_err(|error| error.to_string())?;
+            let line = demand3::check(text::decimal(seed)?, text::decimal(count)?, &printed)?;
+            print(&format!("{line}\n"))
         }
         _ => Err(USAGE.to_string()),
     }
+}
+
+fn print(text: &str) -> Result<(), String> {
+    let mut out = io::stdout().lock();
+    out.write_all(text.as_bytes()).and_then(|()| out.flush()).map_err(|error| error.to_string())
 }

@@ -1,10 +1,11 @@
 //! `second random`: a random script for `second calls`. The same seed always gives the same script.
 
+use crate::calls::setting_lines;
 use crate::frame::{put_big_endian, put_frame_check, Header, NO_POINTER};
 use crate::packet::IDLE_OCTET;
 use crate::reader::{HELD_AREA, RECORD_AREA, UNIT_AREA};
 use crate::setting::{Channel, Kind, Lane, Setting};
-use crate::text::{hex, setting_to_lines};
+use crate::text::hex;
 use crate::writer::{Lent, Writer, LONGEST_BATCH};
 
 /// SplitMix64.
@@ -357,8 +358,9 @@ impl Script {
     }
 
     fn setting_block(&mut self, count: u64) {
-        for _ in 0..4 {
+        for _ in 0..3 {
             self.setting_probe();
+            self.number_probe();
         }
         let setting = valid_setting(&mut self.random, &COUNT_LENGTHS);
         self.setting_lines(&setting);
@@ -367,6 +369,7 @@ impl Script {
         self.writer = writer;
         self.open = vec![None; setting.lanes.len()];
         self.setting = setting;
+        self.unlisted_slots();
         let dear = self.setting.frame_length / 64;
         let enough = self.calls + self.random.between(10, 80) / (1 + dear / 16) + 5;
         while self.calls < enough.min(count) {
@@ -375,8 +378,7 @@ impl Script {
     }
 
     fn setting_lines(&mut self, setting: &Setting) {
-        self.line("setting");
-        self.out += &setting_to_lines(setting);
+        self.out += &setting_lines(setting);
         self.line("begin");
     }
 
@@ -391,10 +393,157 @@ impl Script {
         }
     }
 
+    /// A valid setting's lines with one number at or over an edge, set up or only taken over by both states; then calls.
+    fn number_probe(&mut self) {
+        let setting = valid_setting(&mut self.random, &COUNT_LENGTHS);
+        let text = setting_lines(&setting);
+        let lines: Vec<&str> = text.lines().collect();
+        let changed = self.random.below(lines.len() as u64) as usize;
+        let begun_before = self.random.one_in(2);
+        if begun_before {
+            self.out += &text;
+            self.line("begin");
+        }
+        for (place, line) in lines.iter().enumerate() {
+            let mut words: Vec<String> = line.split(' ').map(str::to_string).collect();
+            if place == changed {
+                let first = if place == 0 { 1 } else { 2 };
+                let word = self.random.between(first, words.len() as u64 - 1) as usize;
+                words[word] = self.edge_number().to_string();
+            } else if begun_before && place == 0 {
+                continue;
+            }
+            self.line(&words.join(" "));
+        }
+        let word = self.random.pick(&["begin", "take"]);
+        self.line(word);
+        self.setting = setting;
+        self.frames.clear();
+        let lane = self.any_lane();
+        let zone = self.zone_of(lane);
+        let batch = good_batch(&mut self.random, &self.setting.lanes[lane], zone.min(600));
+        let (insert, ocf) = (self.insert_octets(), self.ocf_octets(lane));
+        self.write_line(lane as u64, &batch, &insert, &ocf, self.setting.frame_length);
+        self.read_some_frame();
+    }
+
+    fn edge_number(&mut self) -> u64 {
+        let any = self.random.below(70_000);
+        self.random.pick(&[
+            0,
+            1,
+            2,
+            3,
+            6,
+            7,
+            8,
+            9,
+            15,
+            16,
+            30,
+            31,
+            32,
+            33,
+            62,
+            63,
+            64,
+            65,
+            254,
+            255,
+            4_095,
+            4_096,
+            4_097,
+            8_191,
+            8_192,
+            8_193,
+            65_535,
+            any,
+            1 << 32,
+            u64::MAX,
+        ])
+    }
+
+    /// Numbers in slots past the listed channels and the numbered lanes: they are nobody's, and stay.
+    fn unlisted_slots(&mut self) {
+        let words = [("count", true), ("next", false), ("expect", true), ("hold", false)];
+        for (word, of_channels) in words {
+            let used = if of_channels { self.setting.channels.len() } else { self.setting.lanes.len() };
+            if used < 8 && self.random.one_in(3) {
+                let slot = self.random.between(used as u64, 7);
+                let number = self.great_number();
+                let flag = if word == "expect" { self.random.pick(&["0 ", "1 "]) } else { "" };
+                self.line(&format!("{word} {slot} {flag}{number}"));
+            }
+        }
+    }
+
+    /// Counts around the wrap of the channel, on both ends; some frames are lost.
+    fn wrap(&mut self) {
+        let lane = self.any_lane();
+        let channel = self.setting.lanes[lane].channel;
+        let modulus = self.setting.channels[channel].modulus();
+        let count = modulus - self.random.between(1, 3);
+        self.set_count(channel, count);
+        self.expect_line(channel, Some(count));
+        for _ in 0..4 {
+            let zone = self.zone_of(lane);
+            let batch = match self.open[lane].take() {
+                Some(batch) => batch,
+                None => good_batch(&mut self.random, &self.setting.lanes[lane], zone),
+            };
+            let (insert, ocf) = (self.insert_octets(), self.ocf_octets(lane));
+            let Some(frame) = self.write(lane as u64, &batch, &insert, &ocf, self.setting.frame_length) else {
+                self.set_next(lane, 0);
+                return;
+            };
+            if self.writer.next[lane] != 0 {
+                self.open[lane] = Some(batch);
+            }
+            if !self.random.one_in(5) {
+                self.read_line(&frame);
+            }
+        }
+    }
+
+    /// Every lane of a channel made to hold octets, then a frame of the channel with or without a gap before it.
+    fn gap_over_lanes(&mut self) {
+        let lane = self.any_lane();
+        let channel = self.setting.lanes[lane].channel;
+        let modulus = self.setting.channels[channel].modulus();
+        for other in 0..self.setting.lanes.len() {
+            if self.random.percent(80) {
+                let octets = self.held_octets(other);
+                self.held_line(other, &octets);
+            }
+        }
+        let count = self.random.below(modulus);
+        let gap = self.random.pick(&[0, 1, 1, 2, modulus - 1]);
+        self.expect_line(channel, Some((count + modulus - gap) % modulus));
+        let zone = self.zone_of(lane);
+        let (rule, pointer) = match self.setting.lanes[lane].kind {
+            Kind::Packet => (0, self.random.pick(&[0, NO_POINTER])),
+            Kind::Access => (self.random.pick(&[1, 2]), self.random.pick(&[0, NO_POINTER])),
+        };
+        let longest = (self.setting.lanes[lane].longest as usize).max(7);
+        let octets = packet_stream(&mut self.random, longest, zone, zone);
+        let mut frame = self.lane_frame(lane, count, rule, pointer, &octets);
+        if self.random.one_in(4) {
+            // Counted: a command, or a map that may be no lane's.
+            let mut header = Header::from_octets(&frame);
+            header.map = self.random.below(16) as u8;
+            header.command = header.bypass && self.random.one_in(2);
+            frame[..7].copy_from_slice(&header.to_octets());
+            self.seal(&mut frame);
+        }
+        self.read_line(&frame);
+    }
+
     fn step(&mut self) {
         match self.random.below(100) {
-            0..=39 => self.good_write(),
-            40..=49 => self.bad_write(),
+            0..=31 => self.good_write(),
+            32..=36 => self.wrap(),
+            37..=41 => self.gap_over_lanes(),
+            42..=49 => self.bad_write(),
             50..=57 => self.damaged_read(),
             58..=67 => self.forged_field_read(),
             68..=84 => self.forged_lane_read(),
@@ -425,9 +574,20 @@ impl Script {
         self.line(&line);
     }
 
+    /// Where none is expected there is a number all the same, mostly a valid one.
     fn expect_line(&mut self, channel: usize, expected: Option<u64>) {
-        let said = expected.map_or("none".to_string(), |count| count.to_string());
+        let modulus = self.setting.channels[channel].modulus();
+        let any = self.random.below(modulus);
+        let said = match expected {
+            Some(count) => format!("1 {count}"),
+            None => format!("0 {}", self.random.pick(&[0, 0, 0, any, modulus - 1])),
+        };
         self.line(&format!("expect {channel} {said}"));
+    }
+
+    /// A number that fits no state, or nearly so.
+    fn great_number(&mut self) -> u64 {
+        self.random.pick(&[256, 8_192, 32_768, 65_536, 1 << 56, 1 << 63, u64::MAX])
     }
 
     fn check_line(&mut self) {
@@ -595,7 +755,8 @@ impl Script {
         if self.random.percent(70) {
             let any = self.random.below(modulus);
             let count = self.random.pick(&[0, 1, modulus - 1, modulus - 1, modulus - 2, any, any, 255 % modulus]);
-            let count = if self.random.one_in(8) { modulus + self.random.below(2) } else { count };
+            let beyond = self.random.pick(&[modulus, modulus + 1, u64::MAX]);
+            let count = if self.random.one_in(8) { beyond } else { count };
             self.set_count(channel, count);
         } else {
             let next = self.random.pick(&[0, 1, 1, 2, 3, 32_767, 32_768, 65_535]);
@@ -611,7 +772,9 @@ impl Script {
             0 => self.expect_line(channel, None),
             1 => {
                 // Not valid: a read is refused 1, and then the state is put right.
-                self.expect_line(channel, Some(modulus));
+                let flag = self.random.below(2);
+                let number = self.random.pick(&[modulus, modulus, modulus + 1, u64::MAX]);
+                self.line(&format!("expect {channel} {flag} {number}"));
                 self.read_some_frame();
                 self.expect_line(channel, Some(modulus - 1));
             }
@@ -622,6 +785,14 @@ impl Script {
                     self.held_line(lane, &octets);
                     self.read_some_frame();
                     self.held_line(lane, &octets[..longest - 1]);
+                } else {
+                    let great = self.great_number();
+                    let number = self.random.pick(&[longest as u64, longest as u64 + 1, great.max(8_192)]);
+                    self.line(&format!("hold {lane} {number}"));
+                    self.read_some_frame();
+                    self.line(&format!("hold {lane} {}", longest - 1));
+                    self.read_some_frame();
+                    self.held_line(lane, &[]);
                 }
             }
             3..=5 => {

@@ -16,12 +16,19 @@ pub const UNIT_AREA: usize = 12_288;
 pub const RECORD_AREA: usize = 9_600;
 pub const RECORD: usize = 16;
 
+/// Whether a count is expected, and which. The count is judged in any case: "each count is below 256^n".
+#[derive(Clone, Copy, PartialEq, Eq, Debug, Default)]
+pub struct Expected {
+    pub known: bool,
+    pub count: u64,
+}
+
 /// The reader's state. The default is the state of zeros, which is not valid.
 #[derive(Clone, PartialEq, Eq, Debug, Default)]
 pub struct Reader {
     pub setting: Setting,
     /// The count each channel expects, if any.
-    pub expected: Vec<Option<u64>>,
+    pub expected: Vec<Expected>,
     /// How many octets each lane holds.
     pub held: Vec<usize>,
 }
@@ -86,7 +93,7 @@ impl Reader {
             return Err(1);
         }
         Ok(Reader {
-            expected: vec![None; setting.channels.len()],
+            expected: vec![Expected::default(); setting.channels.len()],
             held: vec![0; setting.lanes.len()],
             setting: setting.clone(),
         })
@@ -99,7 +106,7 @@ impl Reader {
                 .channels
                 .iter()
                 .zip(&self.expected)
-                .all(|(channel, expected)| expected.is_none_or(|count| count < channel.modulus()))
+                .all(|(channel, expected)| expected.count < channel.modulus())
             && self.setting.lanes.iter().zip(&self.held).all(|(lane, &held)| (held as u64) < lane.longest)
     }
 
@@ -190,11 +197,9 @@ impl Reader {
     /// Takes a frame's count; a gap drops what all lanes of the channel hold. Returns missing and dropped.
     fn take_count(&mut self, place: usize, count: u64) -> (u64, usize) {
         let modulus = self.setting.channels[place].modulus();
-        let missing = match self.expected[place] {
-            None => 0,
-            Some(expected) => (count + modulus - expected) % modulus,
-        };
-        self.expected[place] = Some((count + 1) % modulus);
+        let expected = self.expected[place];
+        let missing = if expected.known { (count + modulus - expected.count) % modulus } else { 0 };
+        self.expected[place] = Expected { known: true, count: (count + 1) % modulus };
         let mut dropped = 0;
         if missing != 0 {
             for (lane, held) in self.setting.lanes.iter().zip(&mut self.held) {

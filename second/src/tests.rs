@@ -334,24 +334,37 @@ fn a_script_of_calls() {
     let script = format!(
         "{}begin\ncheck 313233343536373839\nwrite 0 0001C0000003A1A2A3A4 - - 33\nnext 0 1\nwrite 0 0001C0000003A1A2A3A4 - - 32\n\
          held 0 0001C0\nread C002A06A001F010000000700000BA1A2A3A4{}\nread - 12287\nread -\n",
-        setting_to_lines(&worked_setting()),
+        calls::setting_lines(&worked_setting()),
         "E0".repeat(14),
     );
-    let frame = "C002A06A001F01000000000001C0000003A1A2A3A4".to_string() + &"E0".repeat(11) + "55";
-    let wanted = format!(
-        "setting ok\n29B1\nframe {frame}\nrefused 16\n\
-         read units 0 octets 0 missing 0 idle 14 fill 0 dropped 10 held 0 expects 1\narea -\n\
-         refused 2 units 0 octets 0 missing 0 idle 0 fill 0 dropped 0 held 0 expects 1\narea -\n\
-         refused 3 units 0 octets 0 missing 0 idle 0 fill 0 dropped 0 held 0 expects 1\narea -\n"
-    );
-    assert_eq!(printed(&script), wanted);
+    let frame = "C002A06A001F01000000000001C0000003A1A2A3A4".to_string() + &"E0".repeat(11);
+    let printed = printed(&script);
+    let said: Vec<&str> = printed.lines().filter(|line| line.starts_with(|c: char| c.is_ascii_digit())).collect();
+    let zeros = "units 0 octets 0 missing 0 idle 0 fill 0 dropped 0";
+    let wanted = [
+        "4 begin writer done reader done".to_string(),
+        "5 check 29B1".to_string(),
+        "6 write done".to_string(),
+        "8 write refused 16".to_string(),
+        "10 read read units 0 octets 0 missing 0 idle 14 fill 0 dropped 10".to_string(),
+        format!("11 read refused 2 {zeros}"),
+        format!("12 read refused 3 {zeros}"),
+    ];
+    assert_eq!(said, wanted);
+    assert!(printed.contains(&format!("frame {frame}\n")));
+    assert!(printed.contains("writer counts 1 0 0 0 0 0 0 0 next 1 0 0 0 0 0 0 0 setting"));
+    assert!(printed.contains("reader expects 1:1 0:0 0:0 0:0 0:0 0:0 0:0 0:0 held 0 0 0 0 0 0 0 0 setting"));
 }
 
 #[test]
 fn a_refused_setting_leaves_states_of_zeros() {
-    let script = "frame length 31\nspacecraft 1\nsource\ninsert 0\ncheck no\nbegin\nread 00\nwrite 0 - - - 0\n";
+    let script = "setting 31 1 0 0 0 0 0\nbegin\nread 00\nwrite 0 - - - 0\n";
     let zeros = "units 0 octets 0 missing 0 idle 0 fill 0 dropped 0";
-    assert_eq!(printed(script), format!("setting refused 1\nrefused 1 {zeros} held - expects -\narea -\nrefused 1\n"));
+    let printed = printed(script);
+    assert!(printed.starts_with("2 begin writer refused 1 reader refused 1\n"));
+    assert!(printed.contains(&format!("3 read refused 1 {zeros}\n")));
+    assert!(printed.contains("4 write refused 1\n"));
+    assert!(printed.ends_with("next 0 0 0 0 0 0 0 0 setting 0\n"));
 }
 
 #[test]
@@ -364,5 +377,7 @@ fn random_scripts_are_the_same_each_time_and_can_be_called() {
 
 #[test]
 fn demand_3_in_some_runs() {
-    assert!(demand3::runs(5, 30).unwrap().ends_with("ok"));
+    let printed = printed(&demand3::script(5, 30));
+    assert!(demand3::check(5, 30, &printed).unwrap().ends_with("ok"));
+    assert!(demand3::check(5, 30, &printed.replacen("read read", "read counted", 1)).is_err());
 }

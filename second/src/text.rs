@@ -17,10 +17,6 @@ pub struct SettingLines {
     lanes: Vec<Lane>,
 }
 
-/// The words that setting lines begin with.
-pub const SETTING_WORDS: [&str; 8] =
-    ["frame", "spacecraft", "source", "destination", "insert", "check", "channel", "lane"];
-
 /// The words of a line: without its comment, apart by spaces, tabs or carriage returns.
 pub fn words(line: &str) -> Vec<&str> {
     let said = line.split('#').next().unwrap_or("");
@@ -123,7 +119,8 @@ fn yes_or_no(word: &str) -> Result<bool, String> {
     }
 }
 
-/// The lines of a setting, as a script or a file says them.
+/// The lines of a setting, as a file says them.
+#[cfg(test)]
 pub fn setting_to_lines(setting: &Setting) -> String {
     let yes_no = |flag: bool| if flag { "yes" } else { "no" };
     let mut text = format!(
