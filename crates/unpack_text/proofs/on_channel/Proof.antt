@@ -22,7 +22,7 @@ enum-known-p c = search needs
 
 returns : tie.Need-returns
 unfolding onChannel headOf
-returns c = 
+returns c =
     let a = c .before .before .before .before .before .before .before .args in
     let m = ap (λ (x : Head). x .map) (c .before .before .before .before .before .before .before .pre .1) in
     let k = ap (λ (x : Head). x .command) (c .before .before .before .before .before .before .before .pre .1) in
@@ -30,14 +30,14 @@ returns c =
 
 returns-2 : tie.Need-returns-2
 unfolding onChannel headOf
-returns-2 c = 
+returns-2 c =
     let a = c .before .before .before .before .args in
     let m = ap (λ (x : Head). x .map) (c .before .before .before .before .pre .1) in
     rw (sym (ap (laneAt (a .s) (a .c)) m), sym (c .before .before .lane-at .ensures), c .enum-told .given .1)
 
 returns-3 : tie.Need-returns-3
 unfolding onChannel headOf
-returns-3 c = 
+returns-3 c =
     let a = c .before .before .before .before .before .before .before .args in
     let m = ap (λ (x : Head). x .map) (c .before .before .before .before .before .before .before .pre .1) in
     let k = ap (λ (x : Head). x .command) (c .before .before .before .before .before .before .before .pre .1) in

@@ -29,7 +29,7 @@ on-channel-requires c κs = search needs
 
 returns : tie.Need-returns
 unfolding passed headOf
-returns c = 
+returns c =
     let a = c .before .before .before .before .before .args in
     let v = ap (λ (x : Head). x .vc) (c .before .before .before .head-of .ensures) in
     let b = ap (λ (x : Head). x .bypass) (c .before .before .before .head-of .ensures) in
@@ -37,7 +37,7 @@ returns c =
 
 returns-2 : tie.Need-returns-2
 unfolding passed headOf
-returns-2 c = 
+returns-2 c =
     let v = ap (λ (x : Head). x .vc) (c .before .before .before .before .before .head-of .ensures) in
     let b = ap (λ (x : Head). x .bypass) (c .before .before .before .before .before .head-of .ensures) in
     rw (sym v, sym b, sym (c .before .before .before .before .channel-at .ensures), c .before .before .p .given .1) (c .on-channel .ensures)

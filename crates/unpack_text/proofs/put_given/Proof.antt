@@ -32,7 +32,7 @@ same-length c = search needs
 
 returns : tie.Need-returns
 unfolding givenText text
-returns c = 
+returns c =
     wrote-three (c .before .before .before .before .before .before .before .before .before .before .before .before .put-named .ensures) (c .before .before .before .before .before .before .before .put-named2 .ensures) (c .before .before .put-named3 .ensures) (c .before .before .before .before .before .before .before .before .before .before .before .before .before .before .before .before .pre)
 
 pub put-given-spec : {M : Type 1} → statement M

@@ -30,7 +30,7 @@ same-length c = search needs
 
 returns : tie.Need-returns
 unfolding frameLine
-returns c = 
+returns c =
     wrote-four (wrote-front _ _ (c .before .before .before .before .before .before .before .before .before .before .before .before .before .before .put-front .ensures)) (c .before .before .before .before .before .before .before .before .before .before .put-third .ensures) (c .before .before .before .before .before .before .put-given .ensures) (c .before .before .put-rest .ensures) (c .before .before .before .before .before .before .before .before .before .before .before .before .before .before .before .before .before .pre)
 
 pub put-line-spec : {M : Type 1} → statement M

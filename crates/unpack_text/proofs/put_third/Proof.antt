@@ -49,7 +49,7 @@ same-length c = search needs
 
 returns : tie.Need-returns
 unfolding third
-returns c = 
+returns c =
     wrote-third (c .before .before .before .before .before .before .before .before .args .v) _ (c .before .before .before .before .before .v .given .1) (wrote-decimal _ (c .before .before .put-decimal .ensures))
 
 same-length-2 : tie.Need-same-length-2
@@ -57,7 +57,7 @@ same-length-2 c = search needs
 
 returns-2 : tie.Need-returns-2
 unfolding third text
-returns-2 c = 
+returns-2 c =
     wrote-third (c .before .before .before .before .before .before .before .before .args .v) _ (c .before .before .before .before .before .enum-told .given .1) (wrote-more 20 (lit≤ tt) (wrote-text (c .before .before .put-text .ensures)))
 
 same-length-3 : tie.Need-same-length-3
@@ -65,7 +65,7 @@ same-length-3 c = search needs
 
 returns-3 : tie.Need-returns-3
 unfolding third text
-returns-3 c = 
+returns-3 c =
     wrote-third (c .before .before .before .before .before .before .before .before .args .v) _ (c .before .before .before .before .before .enum-told2 .given .1) (wrote-more 20 (lit≤ tt) (wrote-text (c .before .before .put-text2 .ensures)))
 
 same-length-4 : tie.Need-same-length-4
@@ -73,7 +73,7 @@ same-length-4 c = search needs
 
 returns-4 : tie.Need-returns-4
 unfolding third
-returns-4 c = 
+returns-4 c =
     wrote-third (c .before .before .before .before .before .before .before .before .args .v) _ (c .before .before .before .before .before .v2 .given .1) (wrote-decimal _ (c .before .before .put-decimal2 .ensures))
 
 pub put-third-spec : {M : Type 1} → statement M

@@ -32,7 +32,7 @@ same-length c = search needs
 
 returns : tie.Need-returns
 unfolding totalLine text
-returns c = 
+returns c =
     wrote-four (c .before .before .before .before .before .before .before .before .before .before .before .before .before .before .before .put-classes .ensures) (c .before .before .before .before .before .before .before .before .before .before .before .put-sums .ensures) (c .before .before .before .before .before .before .put-named .ensures) (wrote-text (c .before .before .put-octet .ensures)) (c .before .before .before .before .before .before .before .before .before .before .before .before .before .before .before .before .before .before .before .before .pre)
 
 pub put-total-spec : {M : Type 1} → statement M

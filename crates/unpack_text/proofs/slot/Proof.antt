@@ -1,6 +1,5 @@
 -- A slot past the eight says nothing.
-use mathlib.Core.Path.{sym}
-use lib.ListN.{List·getD-eq-default}
+use Rattle.unpack_text.proofs.Slots.{slot-out}
 use borrow.Author.Needs.{needs}
 use Rattle.unpack_text.proofs.slot.Statement.{statement}
 use Rattle.unpack_text.proofs.slot.Tie as tie
@@ -17,7 +16,7 @@ returns : tie.Need-returns
 returns c = search needs
 
 returns-2 : tie.Need-returns-2
-returns-2 c = sym (List·getD-eq-default _ 0 {n = c .before .args .i} (search needs))
+returns-2 c = slot-out (c .before .args .t1) (c .before .args .i) (search needs)
 
 pub slot-spec : {M : Type 1} → statement M
 slot-spec = tie.close (tie.spec mul-result array-read-result returns returns-2)
