@@ -1,5 +1,5 @@
 -- What unpack carries from frame to frame.
-use Prim.Native.Nat.{ℕ, _+_, _<_}
+use Prim.Native.Nat.{ℕ, _+_, _≤_, _<_}
 use mathlib.Core.Path.{_≡_}
 use mathlib.Core.Bool.{Bool, true}
 use mathlib.Core.List.{List, [], _∷_}
@@ -78,3 +78,11 @@ pub record Took (k : ℕ) (g : Stage) (f area : List ℕ) (g′ : Stage) (area�
 pub record Turned (k k′ : ℕ) (more : Bool) (g : Stage) : Type 0 where
   pub reached : Reached k′ g
   pub counted : more ≡ true → k < k′
+
+-- Areas in which a turn has room, and a frame number that another one follows.
+pub record Room (k : ℕ) (u c a m : List ℕ) (n : ℕ) : Type 0 where
+  pub more : k < 18446744073709551615
+  pub units : 12288 ≤ length u
+  pub records : 9600 ≤ length c
+  pub line : 176 ≤ length a
+  pub name : n + 30 ≤ length m

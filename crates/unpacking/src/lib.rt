@@ -12,8 +12,7 @@ ghost use lib.ListN.{length};
 ghost use Rattle.rules.specs.Settings.{settingOk, readerOk};
 ghost use Rattle.unpack_text.specs.Lines.{Wrote};
 ghost use Rattle.unpacking.specs.Names.{suffix};
-ghost use Rattle.unpacking.specs.Stages.{Reached, Took, Turned};
-use rules::Channel;
+ghost use Rattle.unpacking.specs.Stages.{Reached, Took, Room, Turned};
 use rules::Reader;
 use rules::Setting;
 use rules::Verdict;
@@ -124,5 +123,484 @@ fn take_frame(
         units: a.units,
         octets: a.octets,
         end: end,
+    }
+}
+
+// ---- writing
+
+// Writes octets to an output, and says so where that fails.
+fn write_to(fds: [i32; 9], i: usize, octets: &[u8], name: &mut [u8], n: usize, lanes: usize) -> bool
+    requires { ⌜ n + 30 ≤ length (now name) ⌝ }
+{
+    if 8 < i {
+        return false;
+    }
+    let fd = fds[i];
+    let good = io::write_all(fd, octets);
+    if good {
+        return true;
+    }
+    say_output(name, n, lanes, i);
+    false
+}
+
+// Writes text to standard output, and says so where that fails.
+fn print(octets: &[u8]) -> bool {
+    let good = io::write_all(1, octets);
+    if good {
+        return true;
+    }
+    console::say_failed(b"unpack", b"standard output");
+    false
+}
+
+// The output that a frame's units go to: its lane's, or none.
+fn output_of(v: Verdict) -> usize {
+    match v {
+        Verdict::Refused(_) => 9,
+        Verdict::Idle => 9,
+        Verdict::Counted(_) => 9,
+        Verdict::Read(l) => l,
+    }
+}
+
+// Writes the units and the records that a frame gave.
+fn write_units(
+    fds: [i32; 9],
+    i: usize,
+    units: &[u8],
+    records: &[u8],
+    name: &mut [u8],
+    n: usize,
+    lanes: usize,
+) -> bool
+    requires { ⌜ n + 30 ≤ length (now name) ⌝ }
+{
+    if units.len() == 0 {
+        return true;
+    }
+    let good = write_to(fds, i, units, name, n, lanes);
+    if good {
+        return write_to(fds, lanes, records, name, n, lanes);
+    }
+    false
+}
+
+// Prints a frame's line, and writes the units and the records that it gave.
+fn put_out(
+    line: &[u8],
+    fds: [i32; 9],
+    i: usize,
+    units: &[u8],
+    records: &[u8],
+    name: &mut [u8],
+    n: usize,
+    lanes: usize,
+) -> bool
+    requires { ⌜ n + 30 ≤ length (now name) ⌝ }
+{
+    let printed = print(line);
+    if printed {
+        return write_units(fds, i, units, records, name, n, lanes);
+    }
+    false
+}
+
+// Says how far the program is, every 65,536 frames.
+fn say_progress(count: u64) {
+    if count % 65536 == 0 {
+        console::say_count(b"unpack", b"", count, b" frames");
+    }
+}
+
+// ---- frame by frame
+
+// Takes frame k, prints its line, and writes what it gave.
+fn handle(
+    k: u64,
+    r: Reader,
+    t: Tally,
+    frame: &[u8],
+    whole: bool,
+    held: &mut [u8],
+    units: &mut [u8],
+    records: &mut [u8],
+    area: &mut [u8],
+    fds: [i32; 9],
+    name: &mut [u8],
+    n: usize,
+) -> Turn
+    requires { ⌜ Reached k (record { reader = r; held = now held; units = now units; records = now records; totals = t }) × Room k (now units) (now records) (now area) (now name) n ⌝ }
+    ensures { λ u. ⌜ Turned k (u .count) (u .more) (record { reader = u .state; held = now (held .exit); units = now (units .exit); records = now (records .exit); totals = u .totals }) ⌝ }
+{
+    let p = take_frame(k, r, t, frame, held, units, records, area);
+    let v = p.verdict;
+    let i = output_of(v);
+    let end = p.end;
+    let o = p.octets;
+    let c = 16 * p.units;
+    let s = r.setting;
+    let good = put_out(
+        &area[..end],
+        fds,
+        i,
+        &units[..o],
+        &records[..c],
+        name,
+        n,
+        s.numbered,
+    );
+    let after = p.state;
+    let totals = p.totals;
+    if good {
+        say_progress(k + 1);
+    }
+    Turn {
+        state: after,
+        totals: totals,
+        count: k + 1,
+        more: whole && good,
+        good: good,
+    }
+}
+
+// Reads, takes, prints and writes frame k, if there is one.
+fn turn_frame(
+    k: u64,
+    r: Reader,
+    t: Tally,
+    fd: i32,
+    recording: &[u8],
+    frame: &mut [u8],
+    held: &mut [u8],
+    units: &mut [u8],
+    records: &mut [u8],
+    area: &mut [u8],
+    fds: [i32; 9],
+    name: &mut [u8],
+    n: usize,
+) -> Turn
+    requires { ⌜ Reached k (record { reader = r; held = now held; units = now units; records = now records; totals = t }) × Room k (now units) (now records) (now area) (now name) n ⌝ }
+    ensures { λ u. ⌜ Turned k (u .count) (u .more) (record { reader = u .state; held = now (held .exit); units = now (units .exit); records = now (records .exit); totals = u .totals }) ⌝ }
+{
+    let came = read_frame(fd, frame);
+    if came.failed {
+        console::say_failed(b"unpack", recording);
+        return Turn {
+            state: r,
+            totals: t,
+            count: k,
+            more: false,
+            good: false,
+        };
+    }
+    let m = came.octets;
+    if m == 0 {
+        return Turn {
+            state: r,
+            totals: t,
+            count: k,
+            more: false,
+            good: true,
+        };
+    }
+    let whole = m == frame.len();
+    handle(
+        k,
+        r,
+        t,
+        &frame[..m],
+        whole,
+        held,
+        units,
+        records,
+        area,
+        fds,
+        name,
+        n,
+    )
+}
+
+// Takes the recording's frames to its end, or to the first failure, which it says. A proved loop has to end: this one counts
+// its frames, to a number that no run reaches.
+fn take_all(s: Setting, fd: i32, recording: &[u8], fds: [i32; 9], name: &mut [u8], n: usize) -> Turn
+    requires { ⌜ (settingOk s ≡ true) × (n + 30 ≤ length (now name)) ⌝ }
+    ensures { λ u. ⌜ readerOk (u .state) ≡ true ⌝ }
+{
+    let mut held = [0u8; 65536];
+    let mut units = [0u8; 12288];
+    let mut records = [0u8; 9600];
+    let mut frame = [0u8; 4096];
+    let mut area = [0u8; 176];
+    let l = reader::set_up(s);
+    let mut state = l.state;
+    let mut totals = unpack_text::no_tally();
+    let length = s.length;
+    let mut good = true;
+    let mut k: u64 = 0;
+    while k < 18446744073709551615 {
+        let u = turn_frame(
+            k,
+            state,
+            totals,
+            fd,
+            recording,
+            &mut frame[..length],
+            &mut held,
+            &mut units,
+            &mut records,
+            &mut area,
+            fds,
+            name,
+            n,
+        );
+        let after = u.state;
+        state = after;
+        let counted = u.totals;
+        totals = counted;
+        good = u.good;
+        k = u.count;
+        if u.more {
+        } else {
+            break;
+        }
+    }
+    Turn {
+        state: state,
+        totals: totals,
+        count: k,
+        more: false,
+        good: good,
+    }
+}
+
+// ---- totals
+
+// Prints the lanes' totals.
+fn print_lanes(lanes: usize, ts: [LaneTally; 8], area: &mut [u8]) -> bool
+    requires { ⌜ (lanes ≤ 8) × (306 ≤ length (now area)) ⌝ }
+{
+    let mut i: usize = 0;
+    while i < lanes {
+        let t = ts[i];
+        let end = unpack_text::put_lane(area, 0, i as u64, t);
+        let good = print(&area[..end]);
+        if good {
+            i += 1;
+        } else {
+            return false;
+        }
+    }
+    true
+}
+
+// Prints the channels' totals.
+fn print_channels(s: Setting, ts: [ChannelTally; 8], area: &mut [u8]) -> bool
+    requires { ⌜ (s .listed ≤ 8) × (306 ≤ length (now area)) ⌝ }
+{
+    let listed = s.listed;
+    let mut i: usize = 0;
+    while i < listed {
+        let c = s.channels[i];
+        let t = ts[i];
+        let end = unpack_text::put_channel(area, 0, c.vc, c.service, t);
+        let good = print(&area[..end]);
+        if good {
+            i += 1;
+        } else {
+            return false;
+        }
+    }
+    true
+}
+
+// Prints the last line.
+fn print_total(r: Reader, t: Tally, lanes: usize, area: &mut [u8]) -> bool
+    requires { ⌜ 306 ≤ length (now area) ⌝ }
+{
+    let h = r.held;
+    let held = unpack_text::held_in(h, lanes);
+    let end = unpack_text::put_total(area, 0, t, held);
+    print(&area[..end])
+}
+
+// Prints all totals.
+fn print_totals(r: Reader, t: Tally) -> bool
+    requires { ⌜ readerOk r ≡ true ⌝ }
+{
+    let mut area = [0u8; 306];
+    let s = r.setting;
+    let ls = t.lanes;
+    let first = print_lanes(s.numbered, ls, &mut area);
+    if first {
+        let cs = t.channels;
+        let second = print_channels(s, cs, &mut area);
+        if second {
+            return print_total(r, t, s.numbered, &mut area);
+        }
+    }
+    false
+}
+
+// ---- files
+
+// Opens each output anew under the name of its unfinished file.
+fn open_all(lanes: usize, name: &mut [u8], n: usize, fds: &mut [i32]) -> bool
+    requires { ⌜ (lanes ≤ 8) × (n + 30 ≤ length (now name)) × (length (now fds) ≡ 9) ⌝ }
+{
+    let mut i: usize = 0;
+    while i <= lanes {
+        let end = put_name(name, n, lanes, i);
+        let fd = os::open_overwrite(&name[..end]);
+        if fd < 0 {
+            console::say_failed(b"unpack", &name[..end]);
+            return false;
+        }
+        fds[i] = fd;
+        i += 1;
+    }
+    true
+}
+
+// Closes each output.
+fn close_all(lanes: usize, fds: [i32; 9], name: &mut [u8], n: usize) -> bool
+    requires { ⌜ (lanes ≤ 8) × (n + 30 ≤ length (now name)) ⌝ }
+{
+    let mut i: usize = 0;
+    while i <= lanes {
+        let fd = fds[i];
+        let closed = libc::close(fd);
+        if closed < 0 {
+            say_output(name, n, lanes, i);
+            return false;
+        }
+        i += 1;
+    }
+    true
+}
+
+// Gives an unfinished file its name without the last five octets.
+fn rename_part(part: &[u8]) -> bool
+    requires { ⌜ 5 ≤ length (now part) ⌝ }
+{
+    let end = part.len() - 5;
+    let renamed = os::rename(part, &part[..end]);
+    if renamed < 0 {
+        console::say_failed(b"unpack", &part[..end]);
+        return false;
+    }
+    true
+}
+
+// Gives each output its name.
+fn rename_all(lanes: usize, name: &mut [u8], n: usize) -> bool
+    requires { ⌜ (lanes ≤ 8) × (n + 30 ≤ length (now name)) ⌝ }
+{
+    let mut i: usize = 0;
+    while i <= lanes {
+        let end = put_name(name, n, lanes, i);
+        let good = rename_part(&name[..end]);
+        if good {
+            i += 1;
+        } else {
+            return false;
+        }
+    }
+    true
+}
+
+// ---- the program
+
+// Once every frame is taken: prints the totals, closes the outputs, gives them their names, and says that it is done.
+fn finish(r: Reader, t: Tally, count: u64, fds: [i32; 9], name: &mut [u8], n: usize)
+    requires { ⌜ (readerOk r ≡ true) × (n + 30 ≤ length (now name)) ⌝ }
+{
+    let s = r.setting;
+    let printed = print_totals(r, t);
+    if printed {
+        let closed = close_all(s.numbered, fds, name, n);
+        if closed {
+            let renamed = rename_all(s.numbered, name, n);
+            if renamed {
+                console::say_count(b"unpack", b"done: ", count, b" frames");
+            }
+        }
+    }
+}
+
+// Prints the title.
+fn print_title() -> bool {
+    let mut area = [0u8; 57];
+    let end = unpack_text::put_title(&mut area, 0);
+    print(&area[..end])
+}
+
+// Unpacks into outputs that are open.
+fn unpack_all(s: Setting, fd: i32, recording: &[u8], fds: [i32; 9], name: &mut [u8], n: usize)
+    requires { ⌜ (settingOk s ≡ true) × (n + 30 ≤ length (now name)) ⌝ }
+{
+    let titled = print_title();
+    if titled {
+        let u = take_all(s, fd, recording, fds, name, n);
+        if u.good {
+            let r = u.state;
+            let t = u.totals;
+            finish(r, t, u.count, fds, name, n);
+        }
+    }
+}
+
+// Opens the outputs and unpacks.
+fn with_prefix(s: Setting, fd: i32, recording: &[u8])
+    requires { ⌜ settingOk s ≡ true ⌝ }
+{
+    let mut name = [0u8; 4126];
+    let n = os::arg(3, &mut name[..4096]);
+    if os::errno() != 0 {
+        console::say_failed(b"unpack", b"PREFIX");
+        return;
+    }
+    let mut fds = [0i32; 9];
+    let opened = open_all(s.numbered, &mut name, n, &mut fds);
+    if opened {
+        unpack_all(s, fd, recording, fds, &mut name, n);
+    }
+}
+
+// Opens the recording, and goes on.
+fn with_setting(s: Setting)
+    requires { ⌜ settingOk s ≡ true ⌝ }
+{
+    let mut path = io::buffer();
+    let n = os::arg(2, &mut path);
+    if os::errno() != 0 {
+        console::say_failed(b"unpack", b"RECORDING");
+        return;
+    }
+    let fd = os::open_read(&path[..n]);
+    if fd < 0 {
+        console::say_failed(b"unpack", &path[..n]);
+        return;
+    }
+    with_prefix(s, fd, &path[..n]);
+    libc::close(fd);
+}
+
+// Unpacks what the command line names, or says why it cannot.
+pub fn run() {
+    if os::arg_count() != 4 {
+        console::say(b"unpack", b"usage", b"unpack SETTING RECORDING PREFIX");
+        return;
+    }
+    let mut path = io::buffer();
+    let n = os::arg(1, &mut path);
+    if os::errno() != 0 {
+        console::say_failed(b"unpack", b"SETTING");
+        return;
+    }
+    let l = setting_file::load(b"unpack", &path[..n]);
+    if l.good {
+        let s = l.setting;
+        with_setting(s);
     }
 }
