@@ -1,6 +1,6 @@
 -- From frame to frame.
 use Prim.Native.Nat.{ℕ, suc, _+_, _*_, _≤_, _<_}
-use mathlib.Core.Path.{_≡_, refl, sym, ap, subst, _∙_}
+use mathlib.Core.Path.{_≡_, refl, sym, ap, ap₂, subst, _∙_}
 use mathlib.Core.Bool.{Bool, true, false, false≢true}
 use mathlib.Core.List.{List, [], _∷_, _++_}
 use lib.ListN.{length, length-append, replicate}
@@ -46,9 +46,9 @@ begins s l t ok e q =
     }
 
 -- After one more.
-pub goes : (k : ℕ) (g : Stage) (f area : List ℕ) (g′ : Stage) (area′ : List ℕ) (v : Verdict) (units octets end : ℕ)
+pub goes : {k : ℕ} {g : Stage} {f area : List ℕ} {g′ : Stage} {area′ : List ℕ} {v : Verdict} {units octets end : ℕ}
     → Reached k g → Took k g f area g′ area′ v units octets end → Reached (k + 1) g′
-goes k g f area g′ area′ v units octets end p t =
+goes {k} {g} {f} p t =
     record {
       setting = p .setting;
       frames = p .frames ++ f ∷ [];
@@ -74,9 +74,6 @@ gave-fits {k} {g} {f} t =
     (omega (arith, s .octets, t .long), omega (arith, s .records, t .gave))
 
 module _ (k : ℕ) (r : Reader) (t : Tally) (f h u c area : List ℕ) where
-  abbrev before : Stage
-  before = record { reader = r; held = h; units = u; records = c; totals = t }
-
   -- The read, whose the frame is, the totals, and the line.
   pub took : (n : Taken) (h′ u′ c′ : List ℕ) (v : Verdict) (t′ : Tally) (area′ : List ℕ) (end : ℕ)
       → record { taken = n; heldArea = h′; unitArea = u′; recordArea = c′ } ≡ read r f h u c
@@ -91,7 +88,9 @@ module _ (k : ℕ) (r : Reader) (t : Tally) (f h u c area : List ℕ) where
       w ∙ ap (λ (x : Answer). judged (r .setting) f (classRefusal (x .class))) a ∙ placed-is r f h u c
       in
       record {
-        stage = rw (← e, ← y, q);
+        stage =
+            ap₂ (λ (x : Got) (w : Tally). record { reader = x .taken .state; held = x .heldArea; units = x .unitArea; records = x .recordArea; totals = w }) e
+            (q ∙ ap₂ (tallied (r .setting) t) y a);
         line = subst (λ (x : Verdict). Wrote 176 (frameLine k x ((read r f h u c) .taken .answer)) area 0 area′ end) y (subst (λ (x : Answer). Wrote 176 (frameLine k v x) area 0 area′ end) a l);
         whose = y;
         gave = ap (λ (x : Answer). x .units) a;

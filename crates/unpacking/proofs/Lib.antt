@@ -1,2 +1,3 @@
-pub mod Carried
+pub mod Cuts
 pub mod Suffixes
+pub mod Carried

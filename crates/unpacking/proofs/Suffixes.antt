@@ -4,7 +4,7 @@ use mathlib.Core.Path.{_≡_, refl, sym, subst}
 use mathlib.Core.Bool.{Bool, true, false, cond}
 use mathlib.Core.List.{List, [], _∷_, _++_}
 use lib.Dec.{lit≤}
-use lib.ListN.{length, length-append}
+use lib.ListN.{length, take, length-append}
 use native.Mathlib.Omega.{arith}
 use borrow.Author.Tests.{lt-ltb, le-ltb}
 use Rattle.rules.specs.Tests.{_<?_}
@@ -13,6 +13,7 @@ use Rattle.listing_text.specs.Puts.{Put}
 use Rattle.unpack_text.specs.Lines.{Wrote}
 use Rattle.unpack_text.proofs.Writes.{wrote-then, wrote-text, wrote-more}
 use Rattle.unpacking.specs.Names.{suffix}
+use Rattle.unpacking.proofs.Cuts.{wrote-cut}
 
 pub lane-suffix : (lanes i : ℕ) {name : List ℕ} {n : ℕ} {name₁ : List ℕ} {at : ℕ} {name₂ : List ℕ} {end : ℕ} → i < lanes
     → Wrote 25 (text ".lane" ++ decimal i) name n name₁ at → Put (text ".part") name₁ at name₂ end → n + 30 ≤ length name → Wrote 30 (suffix lanes i) name n name₂ end
@@ -36,3 +37,6 @@ suffix-long lanes i = by (i <? lanes)
     by : (t : Bool) → 5 ≤ length (cond t (text ".lane" ++ decimal i ++ text ".part") (text ".records.part"))
     by true = omega (arith, length-append (text ".lane" ++ decimal i) (text ".part"))
     by false = lit≤ tt
+
+pub part-long : (lanes i : ℕ) {name : List ℕ} {n : ℕ} {name′ : List ℕ} {end : ℕ} → Wrote 30 (suffix lanes i) name n name′ end → n + 30 ≤ length name → 5 ≤ length (take end name′)
+part-long lanes i w room = omega (arith, suffix-long lanes i, w .put .ends, wrote-cut w room)
