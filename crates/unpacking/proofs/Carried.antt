@@ -34,11 +34,10 @@ advanced-valid g f ok = read-valid (g .reader) f (g .held) (g .units) (g .record
 
 -- Before the first frame.
 pub begins : (s : Setting) (l : Listener) (t : Tally) → settingOk s ≡ true → l ≡ setUpReader s → t ≡ noTally
-    → Reached 0 (record { reader = l .state; held = replicate 65536 0; units = replicate 12288 0; records = replicate 9600 0; totals = t })
+    → Reached s 0 (record { reader = l .state; held = replicate 65536 0; units = replicate 12288 0; records = replicate 9600 0; totals = t })
 unfolding through begun
 begins s l t ok e q =
     record {
-      setting = s;
       frames = [];
       many = refl;
       stage = rw (e, q);
@@ -46,22 +45,21 @@ begins s l t ok e q =
     }
 
 -- After one more.
-pub goes : {k : ℕ} {g : Stage} {f area : List ℕ} {g′ : Stage} {area′ : List ℕ} {v : Verdict} {units octets end : ℕ}
-    → Reached k g → Took k g f area g′ area′ v units octets end → Reached (k + 1) g′
-goes {k} {g} {f} p t =
+pub goes : {s : Setting} {k : ℕ} {g : Stage} {f area : List ℕ} {g′ : Stage} {area′ : List ℕ} {v : Verdict} {units octets end : ℕ}
+    → Reached s k g → Took k g f area g′ area′ v units octets end → Reached s (k + 1) g′
+goes {s} {k} {g} {f} p t =
     record {
-      setting = p .setting;
       frames = p .frames ++ f ∷ [];
       many = omega (arith, length-append (p .frames) (f ∷ []), p .many);
-      stage = t .stage ∙ ap (λ (x : Stage). advanced x f) (p .stage) ∙ sym (through-more (begun (p .setting)) (p .frames) f);
+      stage = t .stage ∙ ap (λ (x : Stage). advanced x f) (p .stage) ∙ sym (through-more (begun s) (p .frames) f);
       valid = ap (λ (x : Stage). readerOk (x .reader)) (t .stage) ∙ advanced-valid g f (p .valid);
     }
 
-pub turns : (k : ℕ) (more : Bool) (g : Stage) → Reached (k + 1) g → Turned k (k + 1) more g
-turns k more g p = record { reached = p; counted = λ _. omega arith }
+pub turns : {s : Setting} {k : ℕ} (more : Bool) {g : Stage} → Reached s (k + 1) g → Turned s k (k + 1) more g
+turns more p = record { reached = p; counted = λ _. omega arith }
 
-pub stays : (k : ℕ) (g : Stage) → Reached k g → Turned k k false g
-stays k g p = record { reached = p; counted = λ e. absurd (false≢true e) }
+pub stays : {s : Setting} {k : ℕ} {g : Stage} → Reached s k g → Turned s k k false g
+stays p = record { reached = p; counted = λ e. absurd (false≢true e) }
 
 -- ---- one frame
 

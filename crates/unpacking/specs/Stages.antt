@@ -58,12 +58,11 @@ begun s =
       totals = noTally;
     }
 
--- The rules' reading of k frames, from a fresh state of some setting, comes to this stage; its state is valid.
-pub record Reached (k : ℕ) (g : Stage) : Type 0 where
-  pub setting : Setting
+-- The rules' reading of k frames, from a fresh state of this setting, comes to this stage; its state is valid.
+pub record Reached (s : Setting) (k : ℕ) (g : Stage) : Type 0 where
   pub frames : List (List ℕ)
   pub many : length frames ≡ k
-  pub stage : g ≡ through (begun setting) frames
+  pub stage : g ≡ through (begun s) frames
   pub valid : readerOk (g .reader) ≡ true
 
 -- Frame k was taken: the stage after it, its line in the area, whose it is, and how much it gave.
@@ -75,8 +74,8 @@ pub record Took (k : ℕ) (g : Stage) (f area : List ℕ) (g′ : Stage) (area�
   pub long : octets ≡ (told g f) .octets
 
 -- One turn: the stage after it, and that a turn after which there may be more took a frame.
-pub record Turned (k k′ : ℕ) (more : Bool) (g : Stage) : Type 0 where
-  pub reached : Reached k′ g
+pub record Turned (s : Setting) (k k′ : ℕ) (more : Bool) (g : Stage) : Type 0 where
+  pub reached : Reached s k′ g
   pub counted : more ≡ true → k < k′
 
 -- Areas in which a turn has room, and a frame number that another one follows.
@@ -86,3 +85,10 @@ pub record Room (k : ℕ) (u c a m : List ℕ) (n : ℕ) : Type 0 where
   pub records : 9600 ≤ length c
   pub line : 176 ≤ length a
   pub name : n + 30 ≤ length m
+
+-- State and totals after k frames, with areas that are no longer lent.
+pub record Finished (s : Setting) (k : ℕ) (r : Reader) (t : Tally) : Type 0 where
+  pub held : List ℕ
+  pub units : List ℕ
+  pub records : List ℕ
+  pub reached : Reached s k (record { reader = r; held = held; units = units; records = records; totals = t })

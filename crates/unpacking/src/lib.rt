@@ -2,7 +2,7 @@
 // units by lane, records, a line a frame and totals.
 //
 // Proved: before each frame, state, areas and totals are those to which the rules' `read` comes from a fresh state over as
-// many frames, and the state is valid (`Reached`); the octets put for printing of frame k are its line, of the rules' verdict
+// many frames, and the state is valid (`Reached`); so they are where the recording ends (`take_all`); the octets put for printing of frame k are its line, of the rules' verdict
 // and answer (`take_frame`); a name is its prefix and suffix (`put_name`). Shown by runs: that the frames are those of the
 // recording and that what is put is written, for no contract can speak of what a call of the system reads or writes.
 ghost use mathlib.Core.Path.{_≡_};
@@ -12,7 +12,7 @@ ghost use lib.ListN.{length};
 ghost use Rattle.rules.specs.Settings.{settingOk, readerOk};
 ghost use Rattle.unpack_text.specs.Lines.{Wrote};
 ghost use Rattle.unpacking.specs.Names.{suffix};
-ghost use Rattle.unpacking.specs.Stages.{Reached, Took, Room, Turned};
+ghost use Rattle.unpacking.specs.Stages.{Reached, Took, Room, Turned, Finished};
 use rules::Reader;
 use rules::Setting;
 use rules::Verdict;
@@ -217,6 +217,7 @@ fn say_progress(count: u64) {
 
 // Takes frame k, prints its line, and writes what it gave.
 fn handle(
+    s: Setting,
     k: u64,
     r: Reader,
     t: Tally,
@@ -230,8 +231,8 @@ fn handle(
     name: &mut [u8],
     n: usize,
 ) -> Turn
-    requires { ⌜ Reached k (record { reader = r; held = now held; units = now units; records = now records; totals = t }) × Room k (now units) (now records) (now area) (now name) n ⌝ }
-    ensures { λ u. ⌜ Turned k (u .count) (u .more) (record { reader = u .state; held = now (held .exit); units = now (units .exit); records = now (records .exit); totals = u .totals }) ⌝ }
+    requires { ⌜ Reached s k (record { reader = r; held = now held; units = now units; records = now records; totals = t }) × Room k (now units) (now records) (now area) (now name) n ⌝ }
+    ensures { λ u. ⌜ Turned s k (u .count) (u .more) (record { reader = u .state; held = now (held .exit); units = now (units .exit); records = now (records .exit); totals = u .totals }) ⌝ }
 {
     let p = take_frame(k, r, t, frame, held, units, records, area);
     let v = p.verdict;
@@ -239,7 +240,6 @@ fn handle(
     let end = p.end;
     let o = p.octets;
     let c = 16 * p.units;
-    let s = r.setting;
     let good = put_out(
         &area[..end],
         fds,
@@ -266,6 +266,7 @@ fn handle(
 
 // Reads, takes, prints and writes frame k, if there is one.
 fn turn_frame(
+    s: Setting,
     k: u64,
     r: Reader,
     t: Tally,
@@ -280,8 +281,8 @@ fn turn_frame(
     name: &mut [u8],
     n: usize,
 ) -> Turn
-    requires { ⌜ Reached k (record { reader = r; held = now held; units = now units; records = now records; totals = t }) × Room k (now units) (now records) (now area) (now name) n ⌝ }
-    ensures { λ u. ⌜ Turned k (u .count) (u .more) (record { reader = u .state; held = now (held .exit); units = now (units .exit); records = now (records .exit); totals = u .totals }) ⌝ }
+    requires { ⌜ Reached s k (record { reader = r; held = now held; units = now units; records = now records; totals = t }) × Room k (now units) (now records) (now area) (now name) n ⌝ }
+    ensures { λ u. ⌜ Turned s k (u .count) (u .more) (record { reader = u .state; held = now (held .exit); units = now (units .exit); records = now (records .exit); totals = u .totals }) ⌝ }
 {
     let came = read_frame(fd, frame);
     if came.failed {
@@ -306,6 +307,7 @@ fn turn_frame(
     }
     let whole = m == frame.len();
     handle(
+        s,
         k,
         r,
         t,
@@ -325,7 +327,7 @@ fn turn_frame(
 // its frames, to a number that no run reaches.
 fn take_all(s: Setting, fd: i32, recording: &[u8], fds: [i32; 9], name: &mut [u8], n: usize) -> Turn
     requires { ⌜ (settingOk s ≡ true) × (n + 30 ≤ length (now name)) ⌝ }
-    ensures { λ u. ⌜ readerOk (u .state) ≡ true ⌝ }
+    ensures { λ u. ⌜ Finished s (u .count) (u .state) (u .totals) ⌝ }
 {
     let mut held = [0u8; 65536];
     let mut units = [0u8; 12288];
@@ -335,17 +337,18 @@ fn take_all(s: Setting, fd: i32, recording: &[u8], fds: [i32; 9], name: &mut [u8
     let l = reader::set_up(s);
     let mut state = l.state;
     let mut totals = unpack_text::no_tally();
-    let length = s.length;
+    let size = s.length;
     let mut good = true;
     let mut k: u64 = 0;
     while k < 18446744073709551615 {
         let u = turn_frame(
+            s,
             k,
             state,
             totals,
             fd,
             recording,
-            &mut frame[..length],
+            &mut frame[..size],
             &mut held,
             &mut units,
             &mut records,
