@@ -78,7 +78,7 @@ module _ (k : ℕ) (r : Reader) (t : Tally) (f h u c area : List ℕ) where
       → v ≡ judged (r .setting) f (classRefusal (n .answer .class)) → t′ ≡ tallied (r .setting) t v (n .answer)
       → Wrote 176 (frameLine k v (n .answer)) area 0 area′ end
       → Took k (record { reader = r; held = h; units = u; records = c; totals = t }) f area
-        (record { reader = n .state; held = h′; units = u′; records = c′; totals = t′ }) area′ v (n .answer .units) (n .answer .octets) end
+      (record { reader = n .state; held = h′; units = u′; records = c′; totals = t′ }) area′ v (n .answer .units) (n .answer .octets) end
   unfolding advanced got ruled told
   took n h′ u′ c′ v t′ area′ end e w q l =
       let a : n .answer ≡ (read r f h u c) .taken .answer = ap (λ (x : Got). x .taken .answer) e in

@@ -69,20 +69,21 @@ fn say_output(name: &mut [u8], n: usize, lanes: usize, i: usize)
 
 // ---- reading
 
-// Reads a frame until it is full or the recording ends.
-fn read_frame(fd: i32, frame: &mut [u8]) -> Came
-    ensures { λ r. ⌜ r .octets ≤ length (now (frame .exit)) ⌝ }
+// Reads a frame of `size` octets, fewer where the recording ends.
+fn read_frame(fd: i32, frame: &mut [u8], size: usize) -> Came
+    requires { ⌜ size ≤ length (now frame) ⌝ }
+    ensures { λ r. ⌜ r .octets ≤ size ⌝ }
 {
     let mut done: usize = 0;
-    while done < frame.len() {
-        let got = libc::read(fd, &mut frame[done..]);
+    while done < size {
+        let got = libc::read(fd, &mut frame[done..size]);
         if got < 0 {
             return Came {
                 octets: done,
                 failed: true,
             };
         }
-        let n = io::count(got, &frame[done..]);
+        let n = io::count(got, &frame[done..size]);
         if n == 0 {
             break;
         }
@@ -273,6 +274,7 @@ fn turn_frame(
     fd: i32,
     recording: &[u8],
     frame: &mut [u8],
+    size: usize,
     held: &mut [u8],
     units: &mut [u8],
     records: &mut [u8],
@@ -281,10 +283,10 @@ fn turn_frame(
     name: &mut [u8],
     n: usize,
 ) -> Turn
-    requires { ⌜ Reached s k (record { reader = r; held = now held; units = now units; records = now records; totals = t }) × Room k (now units) (now records) (now area) (now name) n ⌝ }
+    requires { ⌜ Reached s k (record { reader = r; held = now held; units = now units; records = now records; totals = t }) × Room k (now units) (now records) (now area) (now name) n × (size ≤ length (now frame)) ⌝ }
     ensures { λ u. ⌜ Turned s k (u .count) (u .more) (record { reader = u .state; held = now (held .exit); units = now (units .exit); records = now (records .exit); totals = u .totals }) ⌝ }
 {
-    let came = read_frame(fd, frame);
+    let came = read_frame(fd, frame, size);
     if came.failed {
         console::say_failed(b"unpack", recording);
         return Turn {
@@ -305,7 +307,7 @@ fn turn_frame(
             good: true,
         };
     }
-    let whole = m == frame.len();
+    let whole = m == size;
     handle(
         s,
         k,
@@ -348,7 +350,8 @@ fn take_all(s: Setting, fd: i32, recording: &[u8], fds: [i32; 9], name: &mut [u8
             totals,
             fd,
             recording,
-            &mut frame[..size],
+            &mut frame,
+            size,
             &mut held,
             &mut units,
             &mut records,
@@ -363,8 +366,7 @@ fn take_all(s: Setting, fd: i32, recording: &[u8], fds: [i32; 9], name: &mut [u8
         totals = counted;
         good = u.good;
         k = u.count;
-        if u.more {
-        } else {
+        if u.more {} else {
             break;
         }
     }
@@ -557,12 +559,14 @@ fn unpack_all(s: Setting, fd: i32, recording: &[u8], fds: [i32; 9], name: &mut [
 fn with_prefix(s: Setting, fd: i32, recording: &[u8])
     requires { ⌜ settingOk s ≡ true ⌝ }
 {
-    let mut name = [0u8; 4126];
-    let n = os::arg(3, &mut name[..4096]);
+    let mut prefix = io::buffer();
+    let n = os::arg(3, &mut prefix);
     if os::errno() != 0 {
         console::say_failed(b"unpack", b"PREFIX");
         return;
     }
+    let mut name = [0u8; 4126];
+    octets::copy(&mut name, &prefix[..n]);
     let mut fds = [0i32; 9];
     let opened = open_all(s.numbered, &mut name, n, &mut fds);
     if opened {

@@ -11,10 +11,10 @@ use Rattle.io.proofs.count.Reads as count-reads
 use Rattle.libc.proofs.read.Reads as read-reads
 
 abbrev Inv-loop : tie.InvT-loop
-Inv-loop fd frame₀ done₀ frame done = (done ≤ length frame) × (length frame ≡ length frame₀)
+Inv-loop fd frame₀ size done₀ frame done = (done ≤ size) × (length frame ≡ length frame₀)
 
 abbrev μ-loop : tie.MeasureT-loop
-μ-loop fd frame₀ done₀ frame done = length frame₀ - done
+μ-loop fd frame₀ size done₀ frame done = size - done
 
 loop-holds : tie.Need-loop-holds Inv-loop μ-loop
 loop-holds c = search needs

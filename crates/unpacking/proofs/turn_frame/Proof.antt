@@ -1,5 +1,6 @@
 -- Where no frame came, all stays; otherwise the frame is handled.
 use mathlib.Core.Path.{sym}
+use native.Mathlib.Omega.{arith}
 use lib.Seq.{length-take-le}
 use Rattle.unpacking.proofs.Carried.{stays}
 use borrow.Author.Needs.{needs}
@@ -36,7 +37,7 @@ slice-reshare-prefix-handle : tie.Need-slice-reshare-prefix-handle
 slice-reshare-prefix-handle c = search needs
 
 slice-aggregate-handle : tie.Need-slice-aggregate-handle
-slice-aggregate-handle c = sym (length-take-le _ _ (c .before .before .before .before .before .read-frame .ensures))
+slice-aggregate-handle c = sym (length-take-le _ _ (omega (arith, c .before .before .before .before .before .read-frame .ensures, c .before .before .before .before .before .before .before .before .before .before .before .before .before .before .pre .2)))
 
 handle-requires : tie.Need-handle-requires
 handle-requires c κs = search needs
