@@ -120,7 +120,6 @@ fn yes_or_no(word: &str) -> Result<bool, String> {
 }
 
 /// The lines of a setting, as a file says them.
-#[cfg(test)]
 pub fn setting_to_lines(setting: &Setting) -> String {
     let yes_no = |flag: bool| if flag { "yes" } else { "no" };
     let mut text = format!(

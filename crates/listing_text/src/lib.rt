@@ -9,7 +9,7 @@ use rules::Answer;
 use rules::Class;
 
 // Puts one octet into `area` at octet `from`.
-fn put_octet(area: &mut [u8], from: usize, x: u8) -> usize
+pub fn put_octet(area: &mut [u8], from: usize, x: u8) -> usize
     requires { ⌜ from + 1 ≤ length (now area) ⌝ }
     ensures { λ r. ⌜ Put (x ∷ []) (now (area .entry)) from (now (area .exit)) r ⌝ }
 {
@@ -52,7 +52,7 @@ pub fn put_decimal(area: &mut [u8], from: usize, v: u64) -> usize
 }
 
 // Puts some text.
-fn put_text(area: &mut [u8], from: usize, s: &[u8]) -> usize
+pub fn put_text(area: &mut [u8], from: usize, s: &[u8]) -> usize
     requires { ⌜ from + length (now s) ≤ length (now area) ⌝ }
     ensures { λ r. ⌜ Put (now (s .entry)) (now (area .entry)) from (now (area .exit)) r ⌝ }
 {
@@ -86,7 +86,7 @@ fn amount_of(class: Class, units: usize) -> u64
 }
 
 // Puts a line up to its third field.
-fn put_front(area: &mut [u8], from: usize, k: u64, class: Class) -> usize
+pub fn put_front(area: &mut [u8], from: usize, k: u64, class: Class) -> usize
     requires { ⌜ from + 29 ≤ length (now area) ⌝ }
     ensures { λ r. ⌜ Put (front k class) (now (area .entry)) from (now (area .exit)) r ⌝ }
 {

@@ -1,0 +1,62 @@
+-- A frame that is counted or read is its channel's.
+use Rattle.unpack_text.specs.Totals.{channelsAfter}
+use borrow.Author.Needs.{needs}
+use Rattle.unpack_text.proofs.channels_after.Statement.{statement}
+use Rattle.unpack_text.proofs.channels_after.Tie as tie
+use Rattle.unpack_text.proofs.channels_after.Reads as reads
+use Rattle.unpack_text.proofs.channels_after.Lts as lts
+use Rattle.unpack_text.proofs.channel_of.Reads as channel-of-reads
+use Rattle.unpack_text.proofs.in_channel.Reads as in-channel-reads
+
+enum-told : tie.Need-enum-told
+enum-told c = search needs
+
+enum-told-2 : tie.Need-enum-told-2
+enum-told-2 c = search needs
+
+enum-known-v : tie.Need-enum-known-v
+enum-known-v c = search needs
+
+in-channel-requires : tie.Need-in-channel-requires
+in-channel-requires c κs = search needs
+
+enum-known-v-2 : tie.Need-enum-known-v-2
+enum-known-v-2 c = search needs
+
+channel-of-requires : tie.Need-channel-of-requires
+channel-of-requires c κs = search needs
+
+in-channel-requires-2 : tie.Need-in-channel-requires-2
+in-channel-requires-2 c κs = search needs
+
+returns : tie.Need-returns
+unfolding channelsAfter
+returns c = rw (c .enum-told .given .1)
+
+returns-2 : tie.Need-returns-2
+unfolding channelsAfter
+returns-2 c = rw (c .enum-told2 .given .1)
+
+returns-3 : tie.Need-returns-3
+unfolding channelsAfter
+returns-3 c = rw (c .before .before .v .given .1) (c .in-channel .ensures)
+
+returns-4 : tie.Need-returns-4
+unfolding channelsAfter
+returns-4 c = rw (c .before .before .before .v2 .given .1, ← c .before .channel-of .ensures) (c .in-channel2 .ensures)
+
+pub channels-after-spec : {M : Type 1} → statement M
+channels-after-spec =
+    tie.close
+    (tie.spec
+    enum-told
+    enum-told-2
+    enum-known-v
+    in-channel-requires
+    enum-known-v-2
+    channel-of-requires
+    in-channel-requires-2
+    returns
+    returns-2
+    returns-3
+    returns-4)

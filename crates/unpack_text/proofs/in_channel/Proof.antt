@@ -1,0 +1,45 @@
+-- One slot changes; past the eight there is none.
+use mathlib.Core.Path.{sym}
+use lib.Seq.{set-out}
+use Rattle.unpack_text.specs.Totals.{inChannel}
+use borrow.Author.Needs.{needs}
+use Rattle.unpack_text.proofs.in_channel.Statement.{statement}
+use Rattle.unpack_text.proofs.in_channel.Tie as tie
+use Rattle.unpack_text.proofs.in_channel.Reads as reads
+use Rattle.unpack_text.proofs.in_channel.Lts as lts
+use Rattle.unpack_text.proofs.channel_after.Reads as channel-after-reads
+
+mul-x : tie.Need-mul-x
+mul-x c = search needs
+
+array-copy-out-x : tie.Need-array-copy-out-x
+array-copy-out-x c = search needs
+
+channel-after-requires : tie.Need-channel-after-requires
+channel-after-requires c κs = search needs
+
+mul-t : tie.Need-mul-t
+mul-t c = search needs
+
+array-set-from-t : tie.Need-array-set-from-t
+array-set-from-t c = search needs
+
+returns : tie.Need-returns
+unfolding inChannel
+returns c = rw (c .channel-after .ensures)
+
+returns-2 : tie.Need-returns-2
+unfolding inChannel
+returns-2 c = sym (set-out _ _ _ (search needs))
+
+pub in-channel-spec : {M : Type 1} → statement M
+in-channel-spec =
+    tie.close
+    (tie.spec
+    mul-x
+    array-copy-out-x
+    channel-after-requires
+    mul-t
+    array-set-from-t
+    returns
+    returns-2)

@@ -1,0 +1,101 @@
+-- Each verdict has its field.
+use lib.Dec.{lit≤}
+use Rattle.rules.specs.Listing.{text}
+use Rattle.unpack_text.specs.Lines.{third}
+use Rattle.unpack_text.proofs.Writes.{wrote-third, wrote-decimal, wrote-more, wrote-text}
+use borrow.Author.Needs.{needs}
+use Rattle.unpack_text.proofs.put_third.Statement.{statement}
+use Rattle.unpack_text.proofs.put_third.Tie as tie
+use Rattle.unpack_text.proofs.put_third.Reads as reads
+use Rattle.unpack_text.proofs.put_third.Lts as lts
+use Rattle.listing_text.proofs.put_decimal.Reads as put-decimal-reads
+use Rattle.listing_text.proofs.put_text.Reads as put-text-reads
+
+enum-known-v : tie.Need-enum-known-v
+enum-known-v c = search needs
+
+cast-put-decimal : tie.Need-cast-put-decimal
+cast-put-decimal c = search needs
+
+put-decimal-requires : tie.Need-put-decimal-requires
+put-decimal-requires c κs = search needs
+
+enum-told : tie.Need-enum-told
+enum-told c = search needs
+
+slice-aggregate-put-text : tie.Need-slice-aggregate-put-text
+slice-aggregate-put-text c = search needs
+
+put-text-requires : tie.Need-put-text-requires
+put-text-requires c κs = search needs
+
+enum-told-2 : tie.Need-enum-told-2
+enum-told-2 c = search needs
+
+slice-aggregate-put-text-2 : tie.Need-slice-aggregate-put-text-2
+slice-aggregate-put-text-2 c = search needs
+
+put-text-requires-2 : tie.Need-put-text-requires-2
+put-text-requires-2 c κs = search needs
+
+enum-known-v-2 : tie.Need-enum-known-v-2
+enum-known-v-2 c = search needs
+
+put-decimal-requires-2 : tie.Need-put-decimal-requires-2
+put-decimal-requires-2 c κs = search needs
+
+same-length : tie.Need-same-length
+same-length c = search needs
+
+returns : tie.Need-returns
+unfolding third
+returns c =
+    wrote-third (c .before .before .before .before .before .before .before .before .args .v) _ (c .before .before .before .before .before .v .given .1) (wrote-decimal _ (c .before .before .put-decimal .ensures))
+
+same-length-2 : tie.Need-same-length-2
+same-length-2 c = search needs
+
+returns-2 : tie.Need-returns-2
+unfolding third text
+returns-2 c =
+    wrote-third (c .before .before .before .before .before .before .before .before .args .v) _ (c .before .before .before .before .before .enum-told .given .1) (wrote-more 20 (lit≤ tt) (wrote-text (c .before .before .put-text .ensures)))
+
+same-length-3 : tie.Need-same-length-3
+same-length-3 c = search needs
+
+returns-3 : tie.Need-returns-3
+unfolding third text
+returns-3 c =
+    wrote-third (c .before .before .before .before .before .before .before .before .args .v) _ (c .before .before .before .before .before .enum-told2 .given .1) (wrote-more 20 (lit≤ tt) (wrote-text (c .before .before .put-text2 .ensures)))
+
+same-length-4 : tie.Need-same-length-4
+same-length-4 c = search needs
+
+returns-4 : tie.Need-returns-4
+unfolding third
+returns-4 c =
+    wrote-third (c .before .before .before .before .before .before .before .before .args .v) _ (c .before .before .before .before .before .v2 .given .1) (wrote-decimal _ (c .before .before .put-decimal2 .ensures))
+
+pub put-third-spec : {M : Type 1} → statement M
+put-third-spec =
+    tie.close
+    (tie.spec
+    enum-known-v
+    cast-put-decimal
+    put-decimal-requires
+    enum-told
+    slice-aggregate-put-text
+    put-text-requires
+    enum-told-2
+    slice-aggregate-put-text-2
+    put-text-requires-2
+    enum-known-v-2
+    put-decimal-requires-2
+    same-length
+    returns
+    same-length-2
+    returns-2
+    same-length-3
+    returns-3
+    same-length-4
+    returns-4)

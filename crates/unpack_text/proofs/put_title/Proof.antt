@@ -1,0 +1,27 @@
+-- The title's text is its octets.
+use Rattle.rules.specs.Listing.{text}
+use Rattle.unpack_text.specs.Lines.{title}
+use Rattle.unpack_text.proofs.Writes.{wrote-text}
+use borrow.Author.Needs.{needs}
+use Rattle.unpack_text.proofs.put_title.Statement.{statement}
+use Rattle.unpack_text.proofs.put_title.Tie as tie
+use Rattle.unpack_text.proofs.put_title.Reads as reads
+use Rattle.unpack_text.proofs.put_title.Lts as lts
+use Rattle.listing_text.proofs.put_text.Reads as put-text-reads
+
+slice-aggregate-put-text : tie.Need-slice-aggregate-put-text
+slice-aggregate-put-text c = search needs
+
+put-text-requires : tie.Need-put-text-requires
+put-text-requires c κs = search needs
+
+same-length : tie.Need-same-length
+same-length c = search needs
+
+returns : tie.Need-returns
+unfolding title text
+returns c = wrote-text (c .before .before .put-text .ensures)
+
+pub put-title-spec : {M : Type 1} → statement M
+put-title-spec =
+    tie.close (tie.spec slice-aggregate-put-text put-text-requires same-length returns)

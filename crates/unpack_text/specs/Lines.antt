@@ -1,0 +1,75 @@
+-- What unpack prints, as docs/PROGRAMS.md has it.
+use Prim.Native.Nat.{ℕ, _+_, _≤_}
+use mathlib.Core.List.{List, [], _∷_, _++_}
+use lib.ListN.{length}
+use Rattle.rules.specs.declared.Answer.{Answer}
+use Rattle.rules.specs.declared.Verdict.{Verdict}
+use Rattle.rules.specs.declared.Verdict.the-variants.{Refused, Idle, Counted, Read}
+use Rattle.rules.specs.Listing.{text, decimal}
+use Rattle.listing_text.specs.Puts.{Put, front}
+use Rattle.unpack_text.specs.declared.Classes.{Classes}
+use Rattle.unpack_text.specs.declared.Sums.{Sums}
+use Rattle.unpack_text.specs.declared.LaneTally.{LaneTally}
+use Rattle.unpack_text.specs.declared.ChannelTally.{ChannelTally}
+use Rattle.unpack_text.specs.declared.Tally.{Tally}
+
+-- `xs` was put, n octets at most.
+pub record Wrote (n : ℕ) (xs area : List ℕ) (from : ℕ) (area′ : List ℕ) (end : ℕ) : Type 0 where
+  pub put : Put xs area from area′ end
+  pub most : length xs ≤ n
+
+unfoldable pub title : List ℕ
+title = text "frame answer lane units octets missing idle fill dropped\n"
+
+-- "The lane's number if read, the refusal number if refused, `-` otherwise."
+unfoldable pub third : Verdict → List ℕ
+third (Refused n) = decimal n
+third Idle = text "-"
+third (Counted c) = text "-"
+third (Read l) = decimal l
+
+-- "Units, unit octets, missing, idle, fill and dropped octets."
+unfoldable pub givenText : Answer → List ℕ
+givenText a = text " " ++ decimal (a .units) ++ (text " " ++ decimal (a .octets)) ++ (text " " ++ decimal (a .missing))
+
+unfoldable pub restText : Answer → List ℕ
+restText a = text " " ++ decimal (a .idle) ++ (text " " ++ decimal (a .fill)) ++ (text " " ++ decimal (a .dropped)) ++ text "\n"
+
+-- The line of frame k: its number, its class, whose it is, and its counts.
+unfoldable pub frameLine : ℕ → Verdict → Answer → List ℕ
+frameLine k v a = front k (a .class) ++ third v ++ givenText a ++ restText a
+
+unfoldable pub laneLine : ℕ → LaneTally → List ℕ
+laneLine l t =
+    text "lane " ++ decimal l
+    ++ (text " frames " ++ decimal (t .frames))
+    ++ (text " units " ++ decimal (t .units))
+    ++ (text " octets " ++ decimal (t .octets))
+    ++ text "\n"
+
+unfoldable pub channelLine : ℕ → ℕ → ChannelTally → List ℕ
+channelLine vc service t =
+    text "channel " ++ decimal vc
+    ++ (text " service " ++ decimal service)
+    ++ (text " frames " ++ decimal (t .frames))
+    ++ (text " missing " ++ decimal (t .missing))
+    ++ text "\n"
+
+unfoldable pub classesText : Classes → List ℕ
+classesText t =
+    text "total frames " ++ decimal (t .frames)
+    ++ (text " read " ++ decimal (t .read))
+    ++ (text " counted " ++ decimal (t .counted))
+    ++ (text " idle " ++ decimal (t .idle))
+    ++ (text " refused " ++ decimal (t .refused))
+
+unfoldable pub sumsText : Sums → List ℕ
+sumsText t =
+    text " units " ++ decimal (t .units)
+    ++ (text " octets " ++ decimal (t .octets))
+    ++ (text " idle " ++ decimal (t .idle))
+    ++ (text " fill " ++ decimal (t .fill))
+    ++ (text " dropped " ++ decimal (t .dropped))
+
+unfoldable pub totalLine : Tally → ℕ → List ℕ
+totalLine t held = classesText (t .classes) ++ sumsText (t .sums) ++ (text " held " ++ decimal held) ++ text "\n"

@@ -1,0 +1,467 @@
+// What unpack says and counts: whose a frame is, the line of its answer, and the totals, as numbers and as text.
+ghost use mathlib.Core.Path.{_≡_};
+ghost use mathlib.Core.List.{_++_};
+ghost use Prim.Native.Nat.{_+_, _≤_};
+ghost use lib.ListN.{length, getD, set};
+ghost use Rattle.rules.specs.Settings.{lane};
+ghost use Rattle.rules.specs.Frames.{vc, map, bypass};
+ghost use Rattle.rules.specs.Refusals.{channelAt, laneAt, onChannel, passed, judged};
+ghost use Rattle.rules.specs.Calls.{classRefusal};
+ghost use Rattle.rules.specs.Listing.{text, decimal};
+ghost use Rattle.header.specs.Heads.{headOf};
+ghost use Rattle.unpack_text.specs.Totals.{add, classed, summed, laneAfter, channelAfter, inLane, inChannel, lanesAfter, channelsAfter, tallied, noTally, heldIn};
+ghost use Rattle.unpack_text.specs.Lines.{Wrote, third, givenText, restText, frameLine, laneLine, channelLine, classesText, sumsText, totalLine, title};
+use header::Head;
+use rules::Answer;
+use rules::Class;
+use rules::Place;
+use rules::Setting;
+use rules::Verdict;
+
+// How many frames there were, and how many of each class.
+pub struct Classes {
+    pub frames: u64,
+    pub read: u64,
+    pub counted: u64,
+    pub idle: u64,
+    pub refused: u64,
+}
+
+// What all frames gave together: units, their octets, and octets that were idle, fill or dropped.
+pub struct Sums {
+    pub units: u64,
+    pub octets: u64,
+    pub idle: u64,
+    pub fill: u64,
+    pub dropped: u64,
+}
+
+// What a lane read.
+pub struct LaneTally {
+    pub frames: u64,
+    pub units: u64,
+    pub octets: u64,
+}
+
+// What a channel took, counted or read.
+pub struct ChannelTally {
+    pub frames: u64,
+    pub missing: u64,
+}
+
+// The totals of a recording.
+pub struct Tally {
+    pub classes: Classes,
+    pub sums: Sums,
+    pub lanes: [LaneTally; 8],
+    pub channels: [ChannelTally; 8],
+}
+
+// ---- whose a frame is
+
+// The refusal number of a class, 0 where none is refused.
+fn refusal_of(class: Class) -> u8
+    ensures { λ r. ⌜ r ≡ classRefusal class ⌝ }
+{
+    match class {
+        Class::Idle => 0,
+        Class::Counted => 0,
+        Class::Read => 0,
+        Class::Refused(n) => n,
+    }
+}
+
+// What a frame of channel c with this header is, where none refuses it.
+fn on_channel(s: Setting, c: usize, h: Head, frame: &[u8]) -> Verdict
+    requires { ⌜ (s .numbered ≤ 8) × (h ≡ headOf (now frame)) ⌝ }
+    ensures { λ r. ⌜ r ≡ onChannel (now (frame .entry)) c (laneAt s c (map (now (frame .entry)))) ⌝ }
+{
+    let p = setting::lane_at(s, c, h.map);
+    match p {
+        Place::Nowhere => Verdict::Counted(c),
+        Place::At(l) => {
+            if h.command == 1 {
+                return Verdict::Counted(c);
+            }
+            Verdict::Read(l)
+        }
+    }
+}
+
+// What a frame is where none refuses it: idle, counted on a channel, or read by a lane.
+fn passed_of(s: Setting, frame: &[u8]) -> Verdict
+    requires { ⌜ (s .listed ≤ 8) × (s .numbered ≤ 8) ⌝ }
+    ensures { λ r. ⌜ r ≡ passed s (now (frame .entry)) (channelAt s (vc (now (frame .entry))) (bypass (now (frame .entry)))) ⌝ }
+{
+    let h = header::head_of(frame);
+    let p = setting::channel_at(s, h.vc, h.bypass);
+    match p {
+        Place::Nowhere => Verdict::Idle,
+        Place::At(c) => on_channel(s, c, h, frame),
+    }
+}
+
+// Whose a frame with an answer of this class is: the verdict that gave the class.
+pub fn place_of(s: Setting, class: Class, frame: &[u8]) -> Verdict
+    requires { ⌜ (s .listed ≤ 8) × (s .numbered ≤ 8) ⌝ }
+    ensures { λ r. ⌜ r ≡ judged s (now (frame .entry)) (classRefusal class) ⌝ }
+{
+    let n = refusal_of(class);
+    if n == 0 {
+        return passed_of(s, frame);
+    }
+    Verdict::Refused(n)
+}
+
+// ---- totals
+
+// The sum, and the largest number where that does not hold it.
+pub fn add(a: u64, b: u64) -> u64
+    ensures { λ r. ⌜ r ≡ add a b ⌝ }
+{
+    if 18446744073709551615 - a < b {
+        return 18446744073709551615;
+    }
+    a + b
+}
+
+// One frame more, and one of its class.
+fn count_class(t: Classes, class: Class) -> Classes
+    ensures { λ r. ⌜ r ≡ classed t class ⌝ }
+{
+    let mut c = t;
+    c.frames = add(t.frames, 1);
+    match class {
+        Class::Idle => {
+            c.idle = add(t.idle, 1);
+        }
+        Class::Counted => {
+            c.counted = add(t.counted, 1);
+        }
+        Class::Read => {
+            c.read = add(t.read, 1);
+        }
+        Class::Refused(_) => {
+            c.refused = add(t.refused, 1);
+        }
+    }
+    c
+}
+
+// The sums with an answer's.
+fn sum_answer(t: Sums, a: Answer) -> Sums
+    ensures { λ r. ⌜ r ≡ summed t a ⌝ }
+{
+    let units = add(t.units, a.units as u64);
+    let octets = add(t.octets, a.octets as u64);
+    let idle = add(t.idle, a.idle as u64);
+    let fill = add(t.fill, a.fill as u64);
+    let dropped = add(t.dropped, a.dropped as u64);
+    Sums {
+        units: units,
+        octets: octets,
+        idle: idle,
+        fill: fill,
+        dropped: dropped,
+    }
+}
+
+// A lane's totals with an answer's.
+fn lane_after(t: LaneTally, units: usize, octets: usize) -> LaneTally
+    ensures { λ r. ⌜ r ≡ laneAfter t units octets ⌝ }
+{
+    let frames = add(t.frames, 1);
+    let u = add(t.units, units as u64);
+    let o = add(t.octets, octets as u64);
+    LaneTally {
+        frames: frames,
+        units: u,
+        octets: o,
+    }
+}
+
+// A channel's totals with one frame more.
+fn channel_after(t: ChannelTally, missing: u64) -> ChannelTally
+    ensures { λ r. ⌜ r ≡ channelAfter t missing ⌝ }
+{
+    let frames = add(t.frames, 1);
+    let m = add(t.missing, missing);
+    ChannelTally {
+        frames: frames,
+        missing: m,
+    }
+}
+
+// The lanes' totals with an answer of lane l.
+fn in_lane(xs: [LaneTally; 8], l: usize, units: usize, octets: usize) -> [LaneTally; 8]
+    ensures { λ r. ⌜ r ≡ inLane xs l units octets ⌝ }
+{
+    if l < 8 {
+        let x = xs[l];
+        let y = lane_after(x, units, octets);
+        let mut t = xs;
+        t[l] = y;
+        return t;
+    }
+    xs
+}
+
+// The channels' totals with one frame more of channel c.
+fn in_channel(xs: [ChannelTally; 8], c: usize, missing: u64) -> [ChannelTally; 8]
+    ensures { λ r. ⌜ r ≡ inChannel xs c missing ⌝ }
+{
+    if c < 8 {
+        let x = xs[c];
+        let y = channel_after(x, missing);
+        let mut t = xs;
+        t[c] = y;
+        return t;
+    }
+    xs
+}
+
+// Lane l's channel; that of a lane of zeros where there is no such slot.
+fn channel_of(s: Setting, l: usize) -> usize
+    ensures { λ r. ⌜ r ≡ (lane s l) .channel ⌝ }
+{
+    if l < 8 {
+        let a = s.lanes[l];
+        return a.channel;
+    }
+    0
+}
+
+// The lanes' totals with a frame's.
+fn lanes_after(xs: [LaneTally; 8], v: Verdict, units: usize, octets: usize) -> [LaneTally; 8]
+    ensures { λ r. ⌜ r ≡ lanesAfter xs v units octets ⌝ }
+{
+    match v {
+        Verdict::Refused(_) => xs,
+        Verdict::Idle => xs,
+        Verdict::Counted(_) => xs,
+        Verdict::Read(l) => in_lane(xs, l, units, octets),
+    }
+}
+
+// The channels' totals with a frame's.
+fn channels_after(s: Setting, xs: [ChannelTally; 8], v: Verdict, missing: u64) -> [ChannelTally; 8]
+    ensures { λ r. ⌜ r ≡ channelsAfter s xs v missing ⌝ }
+{
+    match v {
+        Verdict::Refused(_) => xs,
+        Verdict::Idle => xs,
+        Verdict::Counted(c) => in_channel(xs, c, missing),
+        Verdict::Read(l) => {
+            let c = channel_of(s, l);
+            in_channel(xs, c, missing)
+        }
+    }
+}
+
+// The totals with one frame more.
+pub fn count_frame(s: Setting, t: Tally, v: Verdict, a: Answer) -> Tally
+    ensures { λ r. ⌜ r ≡ tallied s t v a ⌝ }
+{
+    let c = t.classes;
+    let class = a.class;
+    let classes = count_class(c, class);
+    let x = t.sums;
+    let sums = sum_answer(x, a);
+    let ls = t.lanes;
+    let lanes = lanes_after(ls, v, a.units, a.octets);
+    let cs = t.channels;
+    let channels = channels_after(s, cs, v, a.missing);
+    Tally {
+        classes: classes,
+        sums: sums,
+        lanes: lanes,
+        channels: channels,
+    }
+}
+
+// The totals of no frame.
+pub fn no_tally() -> Tally
+    ensures { λ r. ⌜ r ≡ noTally ⌝ }
+{
+    let lane = LaneTally {
+        frames: 0,
+        units: 0,
+        octets: 0,
+    };
+    let channel = ChannelTally {
+        frames: 0,
+        missing: 0,
+    };
+    Tally {
+        classes: Classes {
+            frames: 0,
+            read: 0,
+            counted: 0,
+            idle: 0,
+            refused: 0,
+        },
+        sums: Sums {
+            units: 0,
+            octets: 0,
+            idle: 0,
+            fill: 0,
+            dropped: 0,
+        },
+        lanes: [lane; 8],
+        channels: [channel; 8],
+    }
+}
+
+// How many octets a slot says; 0 where there is no such slot.
+fn slot(held: [usize; 8], i: usize) -> u64
+    ensures { λ r. ⌜ r ≡ getD held i 0 ⌝ }
+{
+    if i < 8 {
+        return held[i] as u64;
+    }
+    0
+}
+
+// How many octets the first n lanes hold together.
+pub fn held_in(held: [usize; 8], n: usize) -> u64
+    ensures { λ r. ⌜ r ≡ heldIn held n ⌝ }
+{
+    let mut sum: u64 = 0;
+    let mut i: usize = 0;
+    while i < n {
+        let x = slot(held, i);
+        sum = add(sum, x);
+        i += 1;
+    }
+    sum
+}
+
+// ---- text
+
+// Puts some text and a number.
+pub fn put_named(area: &mut [u8], from: usize, label: &[u8], v: u64) -> usize
+    requires { ⌜ from + length (now label) + 20 ≤ length (now area) ⌝ }
+    ensures { λ r. ⌜ Wrote (length (now (label .entry)) + 20) (now (label .entry) ++ decimal v) (now (area .entry)) from (now (area .exit)) r ⌝ }
+{
+    let at = listing_text::put_text(area, from, label);
+    listing_text::put_decimal(area, at, v)
+}
+
+// Puts a line's third field: the lane, the refusal number, or neither.
+fn put_third(area: &mut [u8], from: usize, v: Verdict) -> usize
+    requires { ⌜ from + 20 ≤ length (now area) ⌝ }
+    ensures { λ r. ⌜ Wrote 20 (third v) (now (area .entry)) from (now (area .exit)) r ⌝ }
+{
+    match v {
+        Verdict::Refused(n) => listing_text::put_decimal(area, from, n as u64),
+        Verdict::Idle => listing_text::put_text(area, from, b"-"),
+        Verdict::Counted(_) => listing_text::put_text(area, from, b"-"),
+        Verdict::Read(l) => listing_text::put_decimal(area, from, l as u64),
+    }
+}
+
+// Puts a line's fourth to sixth field: what a frame gave, and what is missing before it.
+fn put_given(area: &mut [u8], from: usize, a: Answer) -> usize
+    requires { ⌜ from + 63 ≤ length (now area) ⌝ }
+    ensures { λ r. ⌜ Wrote 63 (givenText a) (now (area .entry)) from (now (area .exit)) r ⌝ }
+{
+    let at = put_named(area, from, b" ", a.units as u64);
+    let at = put_named(area, at, b" ", a.octets as u64);
+    put_named(area, at, b" ", a.missing)
+}
+
+// Puts a line's last three fields, the octets that gave nothing, and its end.
+fn put_rest(area: &mut [u8], from: usize, a: Answer) -> usize
+    requires { ⌜ from + 64 ≤ length (now area) ⌝ }
+    ensures { λ r. ⌜ Wrote 64 (restText a) (now (area .entry)) from (now (area .exit)) r ⌝ }
+{
+    let at = put_named(area, from, b" ", a.idle as u64);
+    let at = put_named(area, at, b" ", a.fill as u64);
+    let at = put_named(area, at, b" ", a.dropped as u64);
+    listing_text::put_octet(area, at, b'\n')
+}
+
+// Puts the line of frame k.
+pub fn put_line(area: &mut [u8], from: usize, k: u64, v: Verdict, a: Answer) -> usize
+    requires { ⌜ from + 176 ≤ length (now area) ⌝ }
+    ensures { λ r. ⌜ Wrote 176 (frameLine k v a) (now (area .entry)) from (now (area .exit)) r ⌝ }
+{
+    let class = a.class;
+    let at = listing_text::put_front(area, from, k, class);
+    let at = put_third(area, at, v);
+    let at = put_given(area, at, a);
+    put_rest(area, at, a)
+}
+
+// Puts the title.
+pub fn put_title(area: &mut [u8], from: usize) -> usize
+    requires { ⌜ from + 57 ≤ length (now area) ⌝ }
+    ensures { λ r. ⌜ Wrote 57 title (now (area .entry)) from (now (area .exit)) r ⌝ }
+{
+    listing_text::put_text(
+        area,
+        from,
+        b"frame answer lane units octets missing idle fill dropped\n",
+    )
+}
+
+// Puts the line of a lane's totals.
+pub fn put_lane(area: &mut [u8], from: usize, l: u64, t: LaneTally) -> usize
+    requires { ⌜ from + 109 ≤ length (now area) ⌝ }
+    ensures { λ r. ⌜ Wrote 109 (laneLine l t) (now (area .entry)) from (now (area .exit)) r ⌝ }
+{
+    let at = put_named(area, from, b"lane ", l);
+    let at = put_named(area, at, b" frames ", t.frames);
+    let at = put_named(area, at, b" units ", t.units);
+    let at = put_named(area, at, b" octets ", t.octets);
+    listing_text::put_octet(area, at, b'\n')
+}
+
+// Puts the line of a channel's totals.
+pub fn put_channel(area: &mut [u8], from: usize, vc: u8, service: u8, t: ChannelTally) -> usize
+    requires { ⌜ from + 115 ≤ length (now area) ⌝ }
+    ensures { λ r. ⌜ Wrote 115 (channelLine vc service t) (now (area .entry)) from (now (area .exit)) r ⌝ }
+{
+    let at = put_named(area, from, b"channel ", vc as u64);
+    let at = put_named(area, at, b" service ", service as u64);
+    let at = put_named(area, at, b" frames ", t.frames);
+    let at = put_named(area, at, b" missing ", t.missing);
+    listing_text::put_octet(area, at, b'\n')
+}
+
+// Puts how many frames there were of each class.
+fn put_classes(area: &mut [u8], from: usize, t: Classes) -> usize
+    requires { ⌜ from + 143 ≤ length (now area) ⌝ }
+    ensures { λ r. ⌜ Wrote 143 (classesText t) (now (area .entry)) from (now (area .exit)) r ⌝ }
+{
+    let at = put_named(area, from, b"total frames ", t.frames);
+    let at = put_named(area, at, b" read ", t.read);
+    let at = put_named(area, at, b" counted ", t.counted);
+    let at = put_named(area, at, b" idle ", t.idle);
+    put_named(area, at, b" refused ", t.refused)
+}
+
+// Puts what all frames gave together.
+fn put_sums(area: &mut [u8], from: usize, t: Sums) -> usize
+    requires { ⌜ from + 136 ≤ length (now area) ⌝ }
+    ensures { λ r. ⌜ Wrote 136 (sumsText t) (now (area .entry)) from (now (area .exit)) r ⌝ }
+{
+    let at = put_named(area, from, b" units ", t.units);
+    let at = put_named(area, at, b" octets ", t.octets);
+    let at = put_named(area, at, b" idle ", t.idle);
+    let at = put_named(area, at, b" fill ", t.fill);
+    put_named(area, at, b" dropped ", t.dropped)
+}
+
+// Puts the last line, of all frames.
+pub fn put_total(area: &mut [u8], from: usize, t: Tally, held: u64) -> usize
+    requires { ⌜ from + 306 ≤ length (now area) ⌝ }
+    ensures { λ r. ⌜ Wrote 306 (totalLine t held) (now (area .entry)) from (now (area .exit)) r ⌝ }
+{
+    let c = t.classes;
+    let x = t.sums;
+    let at = put_classes(area, from, c);
+    let at = put_sums(area, at, x);
+    let at = put_named(area, at, b" held ", held);
+    listing_text::put_octet(area, at, b'\n')
+}

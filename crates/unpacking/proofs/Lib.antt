@@ -1,0 +1,3 @@
+pub mod Cuts
+pub mod Suffixes
+pub mod Carried

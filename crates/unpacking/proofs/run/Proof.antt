@@ -1,0 +1,103 @@
+-- A setting that was loaded is valid.
+use borrow.Author.Needs.{needs}
+use Rattle.unpacking.proofs.run.Statement.{statement}
+use Rattle.unpacking.proofs.run.Tie as tie
+use Rattle.unpacking.proofs.run.Reads as reads
+use Rattle.unpacking.proofs.run.Lts as lts
+use Rattle.console.proofs.say.Reads as say-reads
+use Rattle.console.proofs.say_failed.Reads as say-failed-reads
+use Rattle.io.proofs.buffer.Reads as buffer-reads
+use Rattle.os.proofs.arg.Reads as arg-reads
+use Rattle.os.proofs.arg_count.Reads as arg-count-reads
+use Rattle.os.proofs.errno.Reads as errno-reads
+use Rattle.setting_file.proofs.load.Reads as load-reads
+use Rattle.unpacking.proofs.with_setting.Reads as with-setting-reads
+
+arg-count-requires : tie.Need-arg-count-requires
+arg-count-requires c κs = search needs
+
+slice-aggregate-say : tie.Need-slice-aggregate-say
+slice-aggregate-say c = search needs
+
+slice-aggregate-say-2 : tie.Need-slice-aggregate-say-2
+slice-aggregate-say-2 c = search needs
+
+slice-aggregate-say-3 : tie.Need-slice-aggregate-say-3
+slice-aggregate-say-3 c = search needs
+
+say-requires : tie.Need-say-requires
+say-requires c κs = search needs
+
+returns : tie.Need-returns
+returns c = search needs
+
+buffer-requires : tie.Need-buffer-requires
+buffer-requires c κs = search needs
+
+slice-aggregate-arg : tie.Need-slice-aggregate-arg
+slice-aggregate-arg c = search needs
+
+arg-requires : tie.Need-arg-requires
+arg-requires c κs = search needs
+
+errno-requires : tie.Need-errno-requires
+errno-requires c κs = search needs
+
+slice-aggregate-say-failed : tie.Need-slice-aggregate-say-failed
+slice-aggregate-say-failed c = search needs
+
+slice-aggregate-say-failed-2 : tie.Need-slice-aggregate-say-failed-2
+slice-aggregate-say-failed-2 c = search needs
+
+say-failed-requires : tie.Need-say-failed-requires
+say-failed-requires c κs = search needs
+
+returns-2 : tie.Need-returns-2
+returns-2 c = search needs
+
+slice-aggregate-load : tie.Need-slice-aggregate-load
+slice-aggregate-load c = search needs
+
+array-share-prefix-path : tie.Need-array-share-prefix-path
+array-share-prefix-path c = search needs
+
+slice-aggregate-load-2 : tie.Need-slice-aggregate-load-2
+slice-aggregate-load-2 c = search needs
+
+load-requires : tie.Need-load-requires
+load-requires c κs = search needs
+
+with-setting-requires : tie.Need-with-setting-requires
+with-setting-requires c κs = c .before .before .load .ensures (c .before .if3 .taken)
+
+returns-3 : tie.Need-returns-3
+returns-3 c = search needs
+
+returns-4 : tie.Need-returns-4
+returns-4 c = search needs
+
+pub run-spec : {M : Type 1} → statement M
+run-spec =
+    tie.close
+    (tie.spec
+    arg-count-requires
+    slice-aggregate-say
+    slice-aggregate-say-2
+    slice-aggregate-say-3
+    say-requires
+    returns
+    buffer-requires
+    slice-aggregate-arg
+    arg-requires
+    errno-requires
+    slice-aggregate-say-failed
+    slice-aggregate-say-failed-2
+    say-failed-requires
+    returns-2
+    slice-aggregate-load
+    array-share-prefix-path
+    slice-aggregate-load-2
+    load-requires
+    with-setting-requires
+    returns-3
+    returns-4)
