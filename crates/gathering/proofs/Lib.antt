@@ -1,0 +1,2 @@
+-- Laws that the functions' proofs cite, and what a batch so gathered keeps.
+pub mod Turns
