@@ -1,2 +1,3 @@
 -- Laws that the functions' proofs cite, and what a batch so gathered keeps.
 pub mod Turns
+pub mod Kept
