@@ -1,7 +1,8 @@
 // The batches of a packet file: how many octets the next one has, and what is wrong where there is none.
 ghost use mathlib.Core.Path.{_≡_};
 ghost use Prim.Native.Nat.{_≤_};
-ghost use lib.ListN.{length};
+ghost use lib.ListN.{length, drop};
+ghost use Rattle.rules.specs.Areas.{laid};
 ghost use Rattle.rules.specs.Packets.{measure};
 ghost use Rattle.gathering.specs.Gathering.{gathered, wrongOf, wrongAt};
 use rules::Measure;
@@ -72,4 +73,18 @@ pub fn wrong_at(s: &[u8], longest: usize) -> Wrong
 {
     let m = packets::measure_at(s);
     wrong_of(longest, m, s.len())
+}
+
+// Moves the octets from octet `from` on to the front; those behind them stay.
+pub fn shift(area: &mut [u8], from: usize)
+    ensures { λ _. ⌜ now (area .exit) ≡ laid (now (area .entry)) 0 (drop from (now (area .entry))) ⌝ }
+{
+    let mut i: usize = 0;
+    let mut j = from;
+    while j < area.len() {
+        let x = area[j];
+        area[i] = x;
+        i += 1;
+        j += 1;
+    }
 }
