@@ -1,0 +1,190 @@
+// The program pack: frames of the batches that files hold, to standard output.
+//
+// Proved: what an argument names (`name_of`), and that each function is safe and ends. What a batch is and what is wrong with a file are
+// promised by crate gathering, and each frame by the writer. Shown by runs: that the octets are those of the files, that the frames are
+// written, and what is said, for no contract can speak of what a call of the system reads or writes.
+ghost use mathlib.Core.Path.{_≡_};
+ghost use Prim.Native.Nat.{_≤_};
+ghost use lib.ListN.{length};
+ghost use Rattle.packing.specs.Words.{begins as beginsWith, lane, nameOf};
+use gathering::Wrong;
+use rules::Channel;
+use rules::Kind;
+use rules::Lane;
+use rules::Outcome;
+use rules::Setting;
+use rules::Writer;
+
+// ---- what an argument names
+
+// What an argument after the setting names: a lane's file, the insert octets, the OCF octets, or none of these.
+pub enum Named {
+    ToLane(usize),
+    Insert,
+    Ocf,
+    Other,
+}
+
+// Whether these octets begin with that word.
+fn begins(s: &[u8], word: &[u8]) -> bool
+    ensures { λ r. ⌜ r ≡ beginsWith (now (word .entry)) (now (s .entry)) ⌝ }
+{
+    let mut i: usize = 0;
+    while i < word.len() {
+        if s.len() <= i {
+            return false;
+        }
+        if s[i] != word[i] {
+            return false;
+        }
+        i += 1;
+    }
+    true
+}
+
+// The lane whose file these octets name, if they do.
+fn lane_named(s: &[u8], numbered: usize) -> Named
+    ensures { λ r. ⌜ r ≡ lane numbered (now (s .entry)) ⌝ }
+{
+    if s.len() < 2 {
+        return Named::Other;
+    }
+    if s[1] != b'=' {
+        return Named::Other;
+    }
+    let d = s[0];
+    if d < b'0' {
+        return Named::Other;
+    }
+    let l = (d - b'0') as usize;
+    if l < numbered {
+        return Named::ToLane(l);
+    }
+    Named::Other
+}
+
+// What an argument names, in a setting with so many lanes.
+pub fn name_of(s: &[u8], numbered: usize) -> Named
+    ensures { λ r. ⌜ r ≡ nameOf numbered (now (s .entry)) ⌝ }
+{
+    let insert = begins(s, b"insert=");
+    if insert {
+        return Named::Insert;
+    }
+    let ocf = begins(s, b"ocf=");
+    if ocf {
+        return Named::Ocf;
+    }
+    lane_named(s, numbered)
+}
+
+// ---- messages
+
+// Says how many octets a file should have.
+fn say_expected(path: &[u8], n: u64) {
+    io::write_all(2, b"pack: ");
+    io::write_all(2, path);
+    io::write_all(2, b": expected exactly ");
+    io::print_decimal(2, n);
+    io::write_all(2, b" octets\n");
+}
+
+// Says that a packet is too long.
+fn say_long(path: &[u8], at: u64, n: u64) {
+    io::write_all(2, b"pack: ");
+    io::write_all(2, path);
+    io::write_all(2, b": octet ");
+    io::print_decimal(2, at);
+    io::write_all(2, b": a packet of ");
+    io::print_decimal(2, n);
+    io::write_all(2, b" octets, above the lane's longest\n");
+}
+
+// Says what is wrong with the packet at octet `at` of a file, and answers whether nothing is.
+fn say_wrong(path: &[u8], at: u64, w: Wrong) -> bool {
+    match w {
+        Wrong::Nothing => {
+            return true;
+        }
+        Wrong::NoPacket => {
+            console::say_at(b"pack", path, b"octet", at, b"not a Space Packet");
+        }
+        Wrong::Idle => {
+            console::say_at(b"pack", path, b"octet", at, b"an idle packet");
+        }
+        Wrong::Long(n) => {
+            say_long(path, at, n as u64);
+        }
+        Wrong::Cut => {
+            console::say_at(b"pack", path, b"octet", at, b"a packet that the file's end cuts");
+        }
+    }
+    false
+}
+
+// Says that the writer refused a batch.
+fn say_refused(path: &[u8], n: u8) {
+    io::write_all(2, b"pack: ");
+    io::write_all(2, path);
+    io::write_all(2, b": a batch was refused ");
+    io::print_decimal(2, n as u64);
+    io::write_all(2, b"\n");
+}
+
+// ---- files
+
+// How many octets at the front of an area are filled, and whether all reads went well.
+struct Filled {
+    have: usize,
+    good: bool,
+}
+
+// The lesser of two numbers.
+fn least(a: usize, b: usize) -> usize
+    ensures { λ r. ⌜ (r ≤ a) × (r ≤ b) ⌝ }
+{
+    if a < b {
+        return a;
+    }
+    b
+}
+
+// Reads once, into the area from octet `from` on.
+fn read_on(fd: i32, area: &mut [u8], from: usize) -> Filled
+    requires { ⌜ from ≤ length (now area) ⌝ }
+    ensures { λ r. ⌜ (from ≤ r .have) × (r .have ≤ length (now (area .entry))) ⌝ }
+{
+    let end = area.len();
+    let got = libc::read(fd, &mut area[from..end]);
+    if got < 0 {
+        return Filled {
+            have: from,
+            good: false,
+        };
+    }
+    let came = io::count(got, area);
+    let n = least(came, end - from);
+    Filled {
+        have: from + n,
+        good: true,
+    }
+}
+
+// Fills the area up from octet `from` on, to its end or the file's.
+fn fill_up(fd: i32, area: &mut [u8], from: usize) -> Filled
+    requires { ⌜ from ≤ length (now area) ⌝ }
+    ensures { λ r. ⌜ r .have ≤ length (now (area .entry)) ⌝ }
+{
+    let mut have = from;
+    while have < area.len() {
+        let f = read_on(fd, area, have);
+        if f.have == have {
+            return f;
+        }
+        have = f.have;
+    }
+    Filled {
+        have: have,
+        good: true,
+    }
+}
