@@ -6,6 +6,7 @@
 ghost use mathlib.Core.Path.{_≡_};
 ghost use Prim.Native.Nat.{_≤_};
 ghost use lib.ListN.{length};
+ghost use Rattle.io.specs.Counts.{Counts};
 ghost use Rattle.packing.specs.Words.{begins as beginsWith, lane, nameOf};
 use gathering::Wrong;
 use rules::Channel;
@@ -149,6 +150,13 @@ fn least(a: usize, b: usize) -> usize
     b
 }
 
+// As many octets at the front of an area as asked for, or all of them.
+fn within(n: usize, area: &[u8]) -> usize
+    ensures { λ r. ⌜ Counts r (now (area .entry)) ⌝ }
+{
+    least(n, area.len())
+}
+
 // Reads once, into the area from octet `from` on.
 fn read_on(fd: i32, area: &mut [u8], from: usize) -> Filled
     requires { ⌜ from ≤ length (now area) ⌝ }
@@ -186,5 +194,140 @@ fn fill_up(fd: i32, area: &mut [u8], from: usize) -> Filled
     Filled {
         have: have,
         good: true,
+    }
+}
+
+// ---- frames
+
+// What goes from batch to batch: whether all went well, the writer's state, and how many frames are written.
+struct Course {
+    good: bool,
+    state: Writer,
+    frames: u64,
+}
+
+// One more, of a number that no run brings to its end.
+fn one_more(n: u64) -> u64 {
+    if n < 18446744073709551615 {
+        return n + 1;
+    }
+    n
+}
+
+// The state's number of lane l's next frame, 0 where there is no such lane.
+fn next_number(w: Writer, l: usize) -> usize {
+    if l < 8 {
+        return w.next[l];
+    }
+    0
+}
+
+// Writes the first n octets of a frame area to standard output, and says so where that fails.
+fn send(area: &[u8], n: usize) -> bool {
+    let end = within(n, area);
+    let good = io::write_all(1, &area[..end]);
+    if good {
+        return true;
+    }
+    console::say_failed(b"pack", b"standard output");
+    false
+}
+
+// Writes the next frame of a batch.
+fn send_next(
+    c: Course,
+    l: usize,
+    path: &[u8],
+    batch: &[u8],
+    insert: &[u8],
+    ocf: &[u8],
+    area: &mut [u8],
+) -> Course {
+    let w = c.state;
+    let s = w.setting;
+    let t = writer::write(w, l, batch, insert, ocf, area);
+    let outcome = t.outcome;
+    let after = t.state;
+    match outcome {
+        Outcome::Done => {
+            let good = send(area, s.length);
+            let frames = one_more(c.frames);
+            Course {
+                good: good,
+                state: after,
+                frames: frames,
+            }
+        }
+        Outcome::Refused(n) => {
+            say_refused(path, n);
+            Course {
+                good: false,
+                state: after,
+                frames: c.frames,
+            }
+        }
+    }
+}
+
+// Works a batch off. It has no more frames than octets.
+fn work_off(c: Course, l: usize, path: &[u8], batch: &[u8], insert: &[u8], ocf: &[u8]) -> Course {
+    let mut area = io::buffer();
+    let mut course = c;
+    let mut k: u64 = 0;
+    while k < 32768 {
+        let t = send_next(course, l, path, batch, insert, ocf, &mut area);
+        course = t;
+        k += 1;
+        let w = t.state;
+        let number = next_number(w, l);
+        if number == 0 {
+            break;
+        }
+        if !t.good {
+            break;
+        }
+    }
+    course
+}
+
+// ---- a file's batches
+
+// What the window holds, how many octets of it are the next batch, and whether all went well.
+struct Step {
+    have: usize,
+    batch: usize,
+    good: bool,
+}
+
+// Fills the window up from octet `from` on and gathers the next batch at its front: none at the file's end, or where something is wrong,
+// and then it says what. The window's first octet is octet `at` of the file.
+fn next_batch(fd: i32, path: &[u8], at: u64, longest: usize, window: &mut [u8], from: usize) -> Step
+    requires { ⌜ from ≤ length (now window) ⌝ }
+    ensures { λ r. ⌜ (r .batch ≤ r .have) × (r .have ≤ length (now (window .entry))) ⌝ }
+{
+    let f = fill_up(fd, window, from);
+    let n = within(f.have, window);
+    if f.good {
+        let batch = gathering::gather(&window[..n], longest);
+        if batch == 0 {
+            let w = gathering::wrong_at(&window[..n], longest);
+            let good = say_wrong(path, at, w);
+            return Step {
+                have: n,
+                batch: 0,
+                good: good,
+            };
+        }
+        return Step {
+            have: n,
+            batch: batch,
+            good: true,
+        };
+    }
+    console::say_failed(b"pack", path);
+    Step {
+        have: n,
+        batch: 0,
+        good: false,
     }
 }
