@@ -331,3 +331,183 @@ fn next_batch(fd: i32, path: &[u8], at: u64, longest: usize, window: &mut [u8], 
         good: false,
     }
 }
+
+// How a batch goes on: worked off where frames are written, and passed over in the first pass.
+fn batch_on(
+    writing: bool,
+    c: Course,
+    l: usize,
+    path: &[u8],
+    batch: &[u8],
+    insert: &[u8],
+    ocf: &[u8],
+) -> Course {
+    if writing {
+        return work_off(c, l, path, batch, insert, ocf);
+    }
+    c
+}
+
+// The same course, gone well or not.
+fn ended(c: Course, good: bool) -> Course {
+    let w = c.state;
+    Course {
+        good: good,
+        state: w,
+        frames: c.frames,
+    }
+}
+
+// Goes through a packet lane's file, batch after batch. A proved loop has to end: this one goes by the place in the file, to one that no
+// file reaches.
+fn packets_on(
+    writing: bool,
+    c: Course,
+    l: usize,
+    longest: usize,
+    fd: i32,
+    path: &[u8],
+    insert: &[u8],
+    ocf: &[u8],
+) -> Course {
+    let mut window = io::large_buffer();
+    let mut course = c;
+    let mut have: usize = 0;
+    let mut at: u64 = 0;
+    while at < 18446744073709486080 {
+        let t = next_batch(fd, path, at, longest, &mut window, have);
+        let n = t.batch;
+        if n == 0 {
+            return ended(course, t.good);
+        }
+        let u = batch_on(writing, course, l, path, &window[..n], insert, ocf);
+        if !u.good {
+            return u;
+        }
+        course = u;
+        let end = t.have;
+        gathering::shift(&mut window[..end], n);
+        have = end - n;
+        at += n as u64;
+    }
+    course
+}
+
+// Goes through an access lane's file, which is one unit.
+fn unit_on(
+    writing: bool,
+    c: Course,
+    l: usize,
+    longest: usize,
+    fd: i32,
+    path: &[u8],
+    insert: &[u8],
+    ocf: &[u8],
+) -> Course {
+    let mut window = io::large_buffer();
+    let f = fill_up(fd, &mut window, 0);
+    if !f.good {
+        console::say_failed(b"pack", path);
+        return ended(c, false);
+    }
+    let n = within(f.have, &window);
+    if n == 0 {
+        console::say_at(b"pack", path, b"octet", 0, b"expected a unit of at least 1 octet");
+        return ended(c, false);
+    }
+    if longest < n {
+        console::say_at(b"pack", path, b"octet", 0, b"a unit above the lane's longest");
+        return ended(c, false);
+    }
+    batch_on(writing, c, l, path, &window[..n], insert, ocf)
+}
+
+// ---- the setting's lanes
+
+// A lane of the setting, by its number; a lane of zeros where there is none.
+fn lane_at(s: Setting, l: usize) -> Lane {
+    if l < 8 {
+        return s.lanes[l];
+    }
+    Lane {
+        channel: 0,
+        map: 0,
+        kind: Kind::Packets,
+        longest: 0,
+        upid: 0,
+    }
+}
+
+// How many OCF octets the frames of a lane have.
+fn ocf_of(s: Setting, a: Lane) -> usize {
+    let p = a.channel;
+    if p < 8 {
+        let c = s.channels[p];
+        return setting::ocf_octets(c);
+    }
+    0
+}
+
+// ---- the arguments
+
+// Goes through the file of lane l.
+fn file_on(writing: bool, c: Course, l: usize, path: &[u8], insert: &[u8], ocf: &[u8]) -> Course {
+    let fd = os::open_read(path);
+    if fd < 0 {
+        console::say_failed(b"pack", path);
+        return ended(c, false);
+    }
+    let w = c.state;
+    let s = w.setting;
+    let a = lane_at(s, l);
+    let o = ocf_of(s, a);
+    let n = within(o, ocf);
+    let kind = a.kind;
+    let t = match kind {
+        Kind::Packets => packets_on(writing, c, l, a.longest, fd, path, insert, &ocf[..n]),
+        Kind::Access => unit_on(writing, c, l, a.longest, fd, path, insert, &ocf[..n]),
+    };
+    libc::close(fd);
+    t
+}
+
+// Goes through the file that argument i names, if that is a lane's.
+fn argument_on(writing: bool, c: Course, i: usize, insert: &[u8], ocf: &[u8]) -> Course {
+    let mut word = io::buffer();
+    let n = os::arg(i, &mut word);
+    let w = c.state;
+    let s = w.setting;
+    let name = name_of(&word[..n], s.numbered);
+    match name {
+        Named::ToLane(l) => {
+            if n < 2 {
+                return c;
+            }
+            file_on(writing, c, l, &word[2..n], insert, ocf)
+        }
+        Named::Insert => c,
+        Named::Ocf => c,
+        Named::Other => c,
+    }
+}
+
+// Goes through all files, from a fresh writer on: to look for what is wrong, or to write frames.
+fn pass(writing: bool, s: Setting, n: usize, insert: &[u8], ocf: &[u8]) -> Course {
+    let fresh = writer::set_up(s);
+    let w = fresh.state;
+    let mut course = Course {
+        good: true,
+        state: w,
+        frames: 0,
+    };
+    let mut i: usize = 2;
+    while i < n {
+        let t = argument_on(writing, course, i, insert, ocf);
+        course = t;
+        if !t.good {
+            break;
+        }
+        i += 1;
+    }
+    course
+}
