@@ -511,3 +511,172 @@ fn pass(writing: bool, s: Setting, n: usize, insert: &[u8], ocf: &[u8]) -> Cours
     }
     course
 }
+
+// ---- the insert and OCF octets
+
+// Which arguments name the insert and OCF octets, 0 for none, and whether all arguments are good.
+struct Plan {
+    good: bool,
+    insert: usize,
+    ocf: usize,
+}
+
+// Says what is wrong with an argument.
+fn bad_word(word: &[u8], what: &[u8]) -> Plan {
+    console::say(b"pack", word, what);
+    Plan {
+        good: false,
+        insert: 0,
+        ocf: 0,
+    }
+}
+
+// The plan after an argument with this name, argument i.
+fn planned(p: Plan, i: usize, word: &[u8], name: Named) -> Plan {
+    match name {
+        Named::ToLane(_) => p,
+        Named::Insert => {
+            if p.insert != 0 {
+                return bad_word(word, b"insert is named twice");
+            }
+            Plan {
+                good: true,
+                insert: i,
+                ocf: p.ocf,
+            }
+        }
+        Named::Ocf => {
+            if p.ocf != 0 {
+                return bad_word(word, b"ocf is named twice");
+            }
+            Plan {
+                good: true,
+                insert: p.insert,
+                ocf: i,
+            }
+        }
+        Named::Other => bad_word(word, b"expected a lane of the setting, insert or ocf, then = and a file"),
+    }
+}
+
+// The plan after argument i.
+fn plan_next(p: Plan, i: usize, numbered: usize) -> Plan {
+    let mut word = io::buffer();
+    let n = os::arg(i, &mut word);
+    if os::errno() != 0 {
+        console::say_failed(b"pack", b"an argument");
+        return Plan {
+            good: false,
+            insert: 0,
+            ocf: 0,
+        };
+    }
+    let name = name_of(&word[..n], numbered);
+    planned(p, i, &word[..n], name)
+}
+
+// The plan of all arguments, of which there are n.
+fn plan_all(n: usize, numbered: usize) -> Plan {
+    let mut plan = Plan {
+        good: true,
+        insert: 0,
+        ocf: 0,
+    };
+    let mut i: usize = 2;
+    while i < n {
+        let p = plan_next(plan, i, numbered);
+        plan = p;
+        if !p.good {
+            break;
+        }
+        i += 1;
+    }
+    plan
+}
+
+// Puts the octets of a file that has exactly n at the front of an area.
+fn load_file(path: &[u8], n: usize, area: &mut [u8]) -> bool {
+    let fd = os::open_read(path);
+    if fd < 0 {
+        console::say_failed(b"pack", path);
+        return false;
+    }
+    let mut space = io::buffer();
+    let f = fill_up(fd, &mut space, 0);
+    if !f.good {
+        console::say_failed(b"pack", path);
+        libc::close(fd);
+        return false;
+    }
+    libc::close(fd);
+    let have = within(f.have, &space);
+    if have != n {
+        say_expected(path, n as u64);
+        return false;
+    }
+    octets::copy(area, &space[..have]);
+    true
+}
+
+// Puts the n octets of the file that argument i names, after its first `from` octets, at the front of an area; argument 0 leaves it.
+fn load_octets(i: usize, from: usize, n: usize, area: &mut [u8]) -> bool {
+    if i == 0 {
+        return true;
+    }
+    let mut word = io::buffer();
+    let end = os::arg(i, &mut word);
+    if end < from {
+        return false;
+    }
+    load_file(&word[from..end], n, area)
+}
+
+// ---- the program
+
+// Writes the frames, once all files are good. Of the insert octets the setting's are taken.
+fn pack_files(s: Setting, n: usize, insert: &[u8], ocf: &[u8]) {
+    let i = within(s.insert, insert);
+    let looked = pass(false, s, n, &insert[..i], ocf);
+    if looked.good {
+        let c = pass(true, s, n, &insert[..i], ocf);
+        if c.good {
+            console::say_count(b"pack", b"done: ", c.frames, b" frames");
+        }
+    }
+}
+
+// Packs by this setting, with n arguments.
+fn pack_all(s: Setting, n: usize) {
+    let p = plan_all(n, s.numbered);
+    if p.good {
+        let mut insert = [0u8; 64];
+        let mut ocf = [0u8; 4];
+        let inserted = load_octets(p.insert, 7, s.insert, &mut insert);
+        if inserted {
+            let filled = load_octets(p.ocf, 4, 4, &mut ocf);
+            if filled {
+                pack_files(s, n, &insert, &ocf);
+            }
+        }
+    }
+}
+
+// The program.
+pub fn run() {
+    let n = os::arg_count();
+    if n < 3 {
+        console::say(b"pack", b"usage", b"pack SETTING LANE=FILE .. [insert=FILE] [ocf=FILE]");
+        return;
+    }
+    let mut path = io::buffer();
+    let k = os::arg(1, &mut path);
+    if os::errno() != 0 {
+        console::say_failed(b"pack", b"an argument");
+        return;
+    }
+    let l = setting_file::load(b"pack", &path[..k]);
+    let s = l.setting;
+    if l.good {
+        pack_all(s, n);
+    }
+}
