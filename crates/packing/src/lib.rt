@@ -117,7 +117,13 @@ fn say_wrong(path: &[u8], at: u64, w: Wrong) -> bool {
             say_long(path, at, n as u64);
         }
         Wrong::Cut => {
-            console::say_at(b"pack", path, b"octet", at, b"a packet that the file's end cuts");
+            console::say_at(
+                b"pack",
+                path,
+                b"octet",
+                at,
+                b"a packet that the file's end cuts",
+            );
         }
     }
     false
@@ -412,11 +418,23 @@ fn unit_on(
     }
     let n = within(f.have, &window);
     if n == 0 {
-        console::say_at(b"pack", path, b"octet", 0, b"expected a unit of at least 1 octet");
+        console::say_at(
+            b"pack",
+            path,
+            b"octet",
+            0,
+            b"expected a unit of at least 1 octet",
+        );
         return ended(c, false);
     }
     if longest < n {
-        console::say_at(b"pack", path, b"octet", 0, b"a unit above the lane's longest");
+        console::say_at(
+            b"pack",
+            path,
+            b"octet",
+            0,
+            b"a unit above the lane's longest",
+        );
         return ended(c, false);
     }
     batch_on(writing, c, l, path, &window[..n], insert, ocf)
@@ -555,7 +573,10 @@ fn planned(p: Plan, i: usize, word: &[u8], name: Named) -> Plan {
                 ocf: i,
             }
         }
-        Named::Other => bad_word(word, b"expected a lane of the setting, insert or ocf, then = and a file"),
+        Named::Other => bad_word(
+            word,
+            b"expected a lane of the setting, insert or ocf, then = and a file",
+        ),
     }
 }
 
@@ -665,7 +686,11 @@ fn pack_all(s: Setting, n: usize) {
 pub fn run() {
     let n = os::arg_count();
     if n < 3 {
-        console::say(b"pack", b"usage", b"pack SETTING LANE=FILE .. [insert=FILE] [ocf=FILE]");
+        console::say(
+            b"pack",
+            b"usage",
+            b"pack SETTING LANE=FILE .. [insert=FILE] [ocf=FILE]",
+        );
         return;
     }
     let mut path = io::buffer();

@@ -45,7 +45,7 @@ enum-known-m c = search needs
 
 -- src/lib.rt:28:13
 returns : tie.Need-returns Inv-loop μ-loop
-returns c = 
+returns c =
     let top = c .before .before .before .before in
     let a = top .before .before .args in
     let none = none-here (a .s .now) (top .loop .i) _ (c .before .measure-at .ensures) (c .match .keys2) in
@@ -57,7 +57,7 @@ sub-if1 c = search needs
 
 -- src/lib.rt:31:13
 returns-2 : tie.Need-returns-2 Inv-loop μ-loop
-returns-2 c = 
+returns-2 c =
     let told = c .before .before in
     let top = told .before .before .before .before .before in
     let a = top .before .before .args in
@@ -66,7 +66,7 @@ returns-2 c =
 
 -- src/lib.rt:34:13
 returns-3 : tie.Need-returns-3 Inv-loop μ-loop
-returns-3 c = 
+returns-3 c =
     let told = c .before .before .before in
     let top = told .before .before .before .before .before in
     let a = top .before .before .args in
@@ -79,7 +79,7 @@ sub-if3 c = search needs
 
 -- src/lib.rt:37:13
 returns-4 : tie.Need-returns-4 Inv-loop μ-loop
-returns-4 c = 
+returns-4 c =
     let told = c .before .before .before .before in
     let top = told .before .before .before .before .before in
     let a = top .before .before .args in
@@ -92,7 +92,7 @@ add-i c = search needs
 
 -- src/lib.rt:25:5
 loop-less : tie.Need-loop-less Inv-loop μ-loop
-loop-less c = 
+loop-less c =
     let told = c .before .before .before .before in
     let top = told .before .before .before .before .before in
     let long = long-here (top .before .before .args .s .now) (top .loop .i) _ (told .before .before .measure-at .ensures) _ (told .m .given .1) in
@@ -100,7 +100,7 @@ loop-less c =
 
 -- src/lib.rt:25:5
 loop-again : tie.Need-loop-again Inv-loop μ-loop
-loop-again c = 
+loop-again c =
     let told = c .before .before .before .before in
     let top = told .before .before .before .before .before in
     let a = top .before .before .args in
@@ -109,7 +109,7 @@ loop-again c =
 
 -- src/lib.rt:20:1
 returns-5 : tie.Need-returns-5 Inv-loop μ-loop
-returns-5 c = 
+returns-5 c =
     let top = c .before in
     let a = top .before .before .args in
     (sym (top .loop .inv .2 ∙ at-end (a .longest) (a .s .now) (top .loop .i) (c .loop-test .left)), search needs)

@@ -44,7 +44,7 @@ loop-less c = search needs
 
 -- src/lib.rt:84:5
 loop-again : tie.Need-loop-again Inv-loop μ-loop
-loop-again c = 
+loop-again c =
     let l = c .before .before .loop in
     (search needs, search needs, shift-turn _ _ _ _ (l .inv .2) _ (l .inv .0) (search needs), simp length-set (l .inv .3))
 
@@ -54,7 +54,7 @@ same-length c = search needs
 
 -- src/lib.rt:79:1
 returns : tie.Need-returns Inv-loop μ-loop
-returns c = 
+returns c =
     let l = c .before .loop in
     shift-end _ _ _ _ (l .inv .2) _ (l .inv .0) (search needs) (l .inv .1)
 

@@ -22,7 +22,7 @@ loop-holds c = refl
 
 -- src/lib.rt:35:13
 returns : tie.Need-returns Inv-loop μ-loop
-returns c = 
+returns c =
     let top = c .before .before in
     let a = top .before .args in
     sym (top .loop .inv ∙ begins-short (a .word .now) (a .s .now) (top .loop .i) (c .before .loop-test .taken) (c .if1 .taken))
@@ -37,7 +37,7 @@ shared-slice-read-if2-2 c = search needs
 
 -- src/lib.rt:38:13
 returns-2 : tie.Need-returns-2 Inv-loop μ-loop
-returns-2 c = 
+returns-2 c =
     let top = c .before .before .before .before .before in
     let a = top .before .args in
     sym (top .loop .inv ∙ begins-other (a .word .now) (a .s .now) (top .loop .i) (c .before .before .before .before .loop-test .taken) (c .before .before .before .if1 .left) (c .if2 .taken))
@@ -52,14 +52,14 @@ loop-less c = search needs
 
 -- src/lib.rt:33:5
 loop-again : tie.Need-loop-again Inv-loop μ-loop
-loop-again c = 
+loop-again c =
     let top = c .before .before .before .before .before in
     let a = top .before .args in
     top .loop .inv ∙ begins-more (a .word .now) (a .s .now) (top .loop .i) (c .before .before .before .before .loop-test .taken) (c .before .before .before .if1 .left) (c .if2 .left)
 
 -- src/lib.rt:29:1
 returns-3 : tie.Need-returns-3 Inv-loop μ-loop
-returns-3 c = 
+returns-3 c =
     let top = c .before in
     let a = top .before .args in
     sym (top .loop .inv ∙ begins-end (a .word .now) (a .s .now) (top .loop .i) (c .loop-test .left))
