@@ -30,13 +30,13 @@ measure-take g xs h =
     rw (l, getD-take g xs 0 0 (omega arith), getD-take g xs 1 0 (omega arith), getD-take g xs 4 0 (omega arith), getD-take g xs 5 0 (omega arith))
     (rw (ne-eqb g 0 (λ q. omega arith), ne-eqb (length xs) 0 (λ q. omega arith), le-ltb g 6 h, le-ltb (length xs) 6 (omega arith))))
 
-packet-long : (xs : List ℕ) (n : ℕ) → measure xs ≡ Packet n → 7 ≤ n
+pub packet-long : (xs : List ℕ) (n : ℕ) → measure xs ≡ Packet n → 7 ≤ n
 packet-long xs n e = long-here xs 0 (measure xs) (ap measure (sym (take-all (length xs - 0) xs (omega arith)))) n e
 
 -- ---- one packet
 
 -- What fits of the packets, by what stands at the front.
-abbrev step : ℕ → ℕ → List ℕ → Measure → List (List ℕ)
+abbrev pub step : ℕ → ℕ → List ℕ → Measure → List (List ℕ)
 step longest room xs Lacks = []
 step longest room xs (Packet n) =
     cond (n ≤? length xs) (cond (n ≤? longest && n ≤? room) (take n xs ∷ fitting longest (room - n) (packets (drop n xs))) []) []

@@ -2,3 +2,4 @@
 pub mod Turns
 pub mod Kept
 pub mod Shifts
+pub mod Windows
