@@ -2,6 +2,7 @@
 
 mod calls;
 mod demand3;
+mod figures;
 mod frame;
 mod packet;
 mod programs;
@@ -21,7 +22,8 @@ const USAGE: &str = "usage: second unpack SETTING RECORDING PREFIX
        second pack SETTING LANE=FILE ..
        second calls
        second random SEED COUNT
-       second demand3 SEED COUNT";
+       second demand3 SEED COUNT
+       second measure ..";
 
 fn main() -> ExitCode {
     let arguments: Vec<String> = std::env::args().skip(1).collect();
@@ -45,6 +47,7 @@ fn run(arguments: &[String]) -> Result<(), String> {
             let mut out = io::stdout().lock();
             out.write_all(script.as_bytes()).and_then(|()| out.flush()).map_err(|error| error.to_string())
         }
+        ("measure", _) => figures::run(rest),
         ("demand3", [seed, count]) => {
             let line = demand3::runs(text::decimal(seed)?, text::decimal(count)?)?;
             println!("{line}");
