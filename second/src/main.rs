@@ -2,6 +2,7 @@
 
 mod calls;
 mod demand3;
+mod figures;
 mod frame;
 mod packet;
 mod programs;
@@ -24,7 +25,8 @@ const USAGE: &str = "usage: second unpack SETTING RECORDING PREFIX
        second sample SEED FOLDER
        second random SEED COUNT
        second demand3 SEED COUNT
-       second demand3-check SEED COUNT";
+       second demand3-check SEED COUNT
+       second measure ..";
 
 fn main() -> ExitCode {
     let arguments: Vec<String> = std::env::args().skip(1).collect();
@@ -43,6 +45,7 @@ fn run(arguments: &[String]) -> Result<(), String> {
         ("unpack", _) => programs::unpack(rest),
         ("pack", _) => programs::pack(rest),
         ("calls", []) => calls::run(io::stdin().lock(), &mut BufWriter::new(io::stdout().lock())),
+        ("measure", _) => figures::run(rest),
         ("sample", [seed, folder]) => samples::write_sample(text::decimal(seed)?, folder),
         ("random", [seed, count]) => print(&random::script(text::decimal(seed)?, text::decimal(count)?)),
         ("demand3", [seed, count]) => print(&demand3::script(text::decimal(seed)?, text::decimal(count)?)),
