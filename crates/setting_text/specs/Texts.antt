@@ -30,6 +30,11 @@ unfoldable pub until : (ℕ → Bool) → List ℕ → ℕ
 until p [] = 0
 until p (x ∷ xs) = cond (p x) 0 (suc (until p xs))
 
+-- So many they are, and there are so many.
+pub record Until (k : Stop) (xs : List ℕ) (n : ℕ) : Type 0 where
+  pub counts : n ≡ until (stops k) xs
+  pub within : n ≤ length xs
+
 -- One octet more at the front of the first piece.
 unfoldable pub onto : ℕ → List (List ℕ) → List (List ℕ)
 onto x [] = (x ∷ []) ∷ []

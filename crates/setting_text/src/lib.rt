@@ -7,7 +7,7 @@ ghost use lib.ListN.{length, drop};
 ghost use Rattle.rules.specs.Tests.{_≤?_};
 ghost use Rattle.rules.specs.Settings.{settingOk, noSetting};
 ghost use Rattle.rules.specs.Refusals.{channelAt};
-ghost use Rattle.setting_text.specs.Texts.{stops, blank, until, same, words, first, others, Seen, start, step, says, number, yesOrNo, end, seen, Word, numberOf};
+ghost use Rattle.setting_text.specs.Texts.{blank, stops, Until, same, words, first, others, Seen, start, step, says, number, yesOrNo, end, seen, Word, numberOf};
 ghost use Rattle.setting_text.specs.Facts.{nothing, refuse, lengthLine, craftLine, bitLine, insertLine, checkLine, withChannel, withLane, addChannel, ocfUnlike, channelLine, addLane, addLaneOf, channelOf, packetsLine, accessLine, kindLine, laneLine, listForm, formOf, takeForm, takeLine, Gathering, zoneless, judged, listsFound, allFound, found, answered, parsed};
 use rules::Channel;
 use rules::Kind;
@@ -150,7 +150,7 @@ fn stops_at(s: Stop, x: u8) -> bool
 
 // How many octets stand before the first of these; all, where there is none.
 fn until_stop(octets: &[u8], s: Stop) -> usize
-    ensures { λ r. ⌜ r ≡ until (stops s) (now (octets .entry)) ⌝ }
+    ensures { λ r. ⌜ Until s (now (octets .entry)) r ⌝ }
 {
     let mut i: usize = 0;
     while i < octets.len() {
@@ -268,18 +268,39 @@ fn says_word(line: &[u8], c: Cursor, key: &[u8], wanted: Wanted) -> Cursor
     moved(c, to, ok, 0, wanted)
 }
 
+// Whether a number is from `low` to `high`.
+fn in_range(n: usize, low: usize, high: usize) -> bool
+    ensures { λ r. ⌜ r ≡ (low ≤? n && n ≤? high) ⌝ }
+{
+    if low <= n {
+        return n <= high;
+    }
+    false
+}
+
 // The cursor after a word that has to be a number from `low` to `high`.
 fn number_from(line: &[u8], c: Cursor, low: usize, high: usize) -> Cursor
     requires { ⌜ high ≤ 65535 ⌝ }
-    ensures { λ r. ⌜ seen (now (line .entry)) r ≡ number low high (seen (now (line .entry)) c) ⌝ }
+    ensures read { λ r. ⌜ seen (now (line .entry)) r ≡ number low high (seen (now (line .entry)) c) ⌝ }
+    ensures within { λ r. ⌜ r .number ≤ high ⌝ }
 {
     let w = next_word(line, c.at);
     let from = w.from;
     let to = w.to;
     let word = &line[from..to];
     let n = number_of(word);
-    let ok = low <= n && n <= high;
+    let ok = in_range(n, low, high);
     moved(c, to, ok, n, Wanted::Number(low, high))
+}
+
+// Whether one of two tests passes.
+fn either(a: bool, b: bool) -> bool
+    ensures { λ r. ⌜ r ≡ (a || b) ⌝ }
+{
+    if a {
+        return true;
+    }
+    b
 }
 
 // The number of `yes`, and of every other word.
@@ -303,7 +324,7 @@ fn yes_or_no(line: &[u8], c: Cursor) -> Cursor
     let yes = same_word(word, b"yes");
     let no = same_word(word, b"no");
     let n = yes_number(yes);
-    let ok = yes || no;
+    let ok = either(yes, no);
     moved(c, to, ok, n, Wanted::YesOrNo)
 }
 
