@@ -1,22 +1,37 @@
 -- Laws of the line forms, in what a cursor sees after each of their words.
-use Prim.Native.Nat.{ℕ}
+use Prim.Native.Nat.{ℕ, _-_}
 use mathlib.Core.Path.{_≡_, refl, sym, ap, _∙_}
-use mathlib.Core.Bool.{Bool, cond}
+use mathlib.Core.Bool.{Bool, true, false, cond}
 use mathlib.Core.List.{List, [], _∷_}
+use lib.ListN.{take, drop}
 use Rattle.rules.specs.declared.Kind.the-variants as kinds
 use Rattle.rules.specs.declared.Place.{Place}
 use Rattle.rules.specs.Listing.{text}
 use Rattle.rules.specs.Refusals.{channelAt}
+use Rattle.setting_text.specs.declared.Stop.the-variants as stop
+use Rattle.setting_text.specs.declared.Form.{Form}
 use Rattle.setting_text.specs.declared.Cursor.{Cursor}
 use Rattle.setting_text.specs.declared.Draft.{Draft}
 use Rattle.setting_text.specs.declared.Wanted.the-variants as want
-use Rattle.setting_text.specs.Texts.{seen, says, number, yesOrNo, end}
-use Rattle.setting_text.specs.Facts.{refuse, settled, once, withLength, withCraft, withBit, withInsert, withCheck, lengthLine, craftLine, bitLine, insertLine, checkLine, addChannel, channelOf, channelLine, addLaneOf, packetsLine, accessLine, kindLine, laneLine}
+use Rattle.setting_text.specs.Texts.{stops, until, said, start, Word, seen, says, number, yesOrNo, end}
+use Rattle.setting_text.specs.Facts.{refuse, settled, once, withLength, withCraft, withBit, withInsert, withCheck, lengthLine, craftLine, bitLine, insertLine, checkLine, addChannel, channelOf, channelLine, addLaneOf, packetsLine, accessLine, kindLine, laneLine, formOf, takeForm, takeLine}
 use Rattle.rules.specs.Tests.{_=?_}
 
 -- What becomes of a draft after the line's end.
 abbrev pub Ends : Draft → Cursor → Draft → Draft
 Ends d e d′ = cond (e .fits) d′ (refuse (e .wanted) d)
+
+-- The words fit, and the fact was said before.
+pub said-twice : (d d′ : Draft) (e : Cursor) (t : Bool) → e .fits ≡ true → t ≡ true → Ends d e (once t d d′) ≡ refuse want.NewFact d
+unfolding once
+said-twice d d′ e t p q = ap (λ (b : Bool). cond b (once t d d′) (refuse (e .wanted) d)) p ∙ ap (λ (b : Bool). cond b (refuse want.NewFact d) d′) q
+
+-- A line's part before its comment, and its first word.
+pub take-line : (d : Draft) (l : List ℕ) (n from to : ℕ) (f : Form) → n ≡ until (stops stop.Hash) l → Word (take n l) 0 from to
+    → f ≡ formOf (take (to - from) (drop from (take n l)))
+    → takeLine d l ≡ takeForm f d (seen (take n l) (record { at = to; number = 0; fits = true; wanted = want.Nothing }))
+unfolding takeLine said start seen
+take-line d l n from to f e w q = rw (sym e, w .word, sym q, w .after)
 
 module _ (d : Draft) (l : List ℕ) (c : Cursor) where
   module _ (e : Cursor) where

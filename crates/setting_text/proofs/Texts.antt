@@ -41,7 +41,7 @@ until-most p (x ∷ xs) = go (p x) (until-most p xs)
 -- ---- cutting
 
 -- What follows the octet at which a list was cut.
-abbrev pieces : (ℕ → Bool) → List ℕ → List (List ℕ)
+abbrev pub pieces : (ℕ → Bool) → List ℕ → List (List ℕ)
 pieces p [] = []
 pieces p (x ∷ xs) = cut p xs
 
@@ -86,9 +86,13 @@ skip (x ∷ xs) = go (blank x) refl (skip xs)
     go true e q = rw e q
     go false e q = rw e (rw e)
 
-not-true : (b : Bool) → not b ≡ true → b ≡ false
+pub not-true : (b : Bool) → not b ≡ true → b ≡ false
 not-true true e = sym e
 not-true false e = refl
+
+pub not-false : (b : Bool) → not b ≡ false → b ≡ true
+not-false true e = refl
+not-false false e = sym e
 
 front-at : (ys : List ℕ) → Stopped (stops stop.Word) ys → first (words ys) ≡ take (until (stops stop.Blank) ys) ys
 unfolding words first full stops until

@@ -24,7 +24,7 @@ judge-requires c κs = search needs
 -- src/lib.rt:818:1
 returns-3 : tie.Need-returns-3
 unfolding listsFound
-returns-3 c = ?
+returns-3 c = rw (ne-eqb _ _ (c .before .before .before .if1 .left), ne-eqb _ _ (c .before .if2 .left)) (c .judge .ensures)
 
 pub find-lists-spec : {M : Type 1} → statement M
 find-lists-spec = tie.close (tie.spec returns returns-2 judge-requires returns-3)

@@ -1,3 +1,5 @@
+use mathlib.Core.Path.{sym}
+use Rattle.setting_text.specs.Facts.{parsed}
 use borrow.Author.Needs.{needs}
 use Rattle.setting_text.proofs.parse.Statement.{statement}
 use Rattle.setting_text.proofs.parse.Tie as tie
@@ -13,7 +15,7 @@ take-lines-requires c κs = search needs
 
 -- src/lib.rt:906:9
 find-requires : tie.Need-find-requires
-find-requires c κs = search needs
+find-requires c κs = c .take-lines .ensures .room
 
 -- src/lib.rt:909:5
 answer-requires : tie.Need-answer-requires
@@ -21,7 +23,8 @@ answer-requires c κs = search needs
 
 -- src/lib.rt:902:1
 returns : tie.Need-returns
-returns c = ?
+unfolding parsed
+returns c = rw (sym (c .before .before .before .before .take-lines .ensures .gathered), sym (c .before .before .before .find .ensures)) (c .answer .ensures)
 
 pub parse-spec : {M : Type 1} → statement M
 parse-spec = tie.close (tie.spec take-lines-requires find-requires answer-requires returns)

@@ -66,7 +66,7 @@ channel-of-requires c κs = (c .before .before .before .before .before .before .
 -- src/lib.rt:520:9
 add-channel-requires : tie.Need-add-channel-requires
 unfolding channelOf
-add-channel-requires c κs = ?
+add-channel-requires c κs = (c .before .before .before .before .before .before .before .before .before .before .before .before .before .before .pre, rw (c .channel-of .ensures) (c .before .before .before .before .before .before .before .before .before .number-from2 .ensures .1))
 
 -- src/lib.rt:520:9
 returns : tie.Need-returns

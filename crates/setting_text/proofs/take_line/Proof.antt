@@ -1,3 +1,6 @@
+use mathlib.Core.Path.{sym}
+use lib.Seq.{length-take-le}
+use Rattle.setting_text.proofs.Lines.{take-line}
 use borrow.Author.Needs.{needs}
 use Rattle.setting_text.proofs.take_line.Statement.{statement}
 use Rattle.setting_text.proofs.take_line.Tie as tie
@@ -14,7 +17,7 @@ until-stop-requires c κs = search needs
 
 -- src/lib.rt:741:9
 slice-aggregate-words : tie.Need-slice-aggregate-words
-slice-aggregate-words c = ?
+slice-aggregate-words c = sym (length-take-le _ _ (c .before .until-stop .ensures .within))
 
 -- src/lib.rt:742:9
 next-word-requires : tie.Need-next-word-requires
@@ -42,7 +45,7 @@ take-form-requires c κs = search needs
 
 -- src/lib.rt:736:1
 returns : tie.Need-returns
-returns c = ?
+returns c = rw (take-line (c .before .before .before .before .before .before .before .args .d) (c .before .before .before .before .before .before .before .args .line .now) _ _ _ _ (c .before .before .before .before .before .until-stop .ensures .counts) (c .before .before .before .next-word .ensures) (c .before .form-of .ensures)) (c .take-form .ensures)
 
 pub take-line-spec : {M : Type 1} → statement M
 take-line-spec =

@@ -39,7 +39,7 @@ zone-of-requires c κs = search needs
 -- src/lib.rt:790:13
 returns : tie.Need-returns Inv-loop μ-loop
 unfolding zoneless
-returns c = ?
+returns c = finds _ _ _ (c .before .before .before .loop-test .taken) (eq-eqb _ _ (sym (c .before .zone-of .ensures) ∙ c .if1 .taken)) (c .before .before .before .before .loop .inv)
 
 -- src/lib.rt:792:9
 add-i : tie.Need-add-i Inv-loop μ-loop
@@ -51,7 +51,7 @@ loop-less c = search needs
 
 -- src/lib.rt:786:5
 loop-again : tie.Need-loop-again Inv-loop μ-loop
-loop-again c = ?
+loop-again c = below-more _ _ (c .before .before .before .before .loop .inv) (ne-eqb _ _ (λ e. c .if1 .left (c .before .zone-of .ensures ∙ e)))
 
 -- src/lib.rt:780:1
 returns-2 : tie.Need-returns-2 Inv-loop μ-loop
