@@ -1,8 +1,14 @@
-// A setting from a file.
+// A setting from a file, and in words what is wrong with one. No contract can speak of what is read from a descriptor or written
+// to one; what a text is, is said by crate `setting_text`.
 ghost use mathlib.Core.Path.{_≡_};
 ghost use mathlib.Core.Bool.{true};
+ghost use Prim.Native.Nat.{_≤_};
+ghost use lib.ListN.{length};
 ghost use Rattle.rules.specs.Settings.{settingOk};
 use rules::Setting;
+use setting_text::Finding;
+use setting_text::Missing;
+use setting_text::Wanted;
 
 // Whether the file gave a setting that document 01 accepts, and that setting.
 pub struct Loaded {
@@ -10,13 +16,158 @@ pub struct Loaded {
     pub setting: Setting,
 }
 
+// How many octets were read, and whether no read failed.
+struct Filled {
+    read: bool,
+    size: usize,
+}
+
+// Says that a line has something else than a number from `low` to `high`.
+fn say_range(program: &[u8], path: &[u8], line: usize, low: usize, high: usize) {
+    io::write_all(2, program);
+    io::write_all(2, b": ");
+    io::write_all(2, path);
+    io::write_all(2, b": line ");
+    io::print_decimal(2, line as u64);
+    io::write_all(2, b": expected a number from ");
+    io::print_decimal(2, low as u64);
+    io::write_all(2, b" to ");
+    io::print_decimal(2, high as u64);
+    io::write_all(2, b"\n");
+}
+
+// Says what was expected at a line.
+fn say_line(program: &[u8], path: &[u8], line: usize, what: &[u8]) {
+    console::say_at(program, path, b"line", line as u64, what);
+}
+
+// Says what word was expected at a line, or that the words fit no setting.
+fn say_word(program: &[u8], path: &[u8], line: usize, w: Wanted) {
+    match w {
+        Wanted::Fact => say_line(program, path, line, b"expected frame, spacecraft, source, destination, insert, check, channel or lane"),
+        Wanted::Length => say_line(program, path, line, b"expected the word length"),
+        Wanted::Service => say_line(program, path, line, b"expected the word service"),
+        Wanted::Count => say_line(program, path, line, b"expected the word count"),
+        Wanted::Ocf => say_line(program, path, line, b"expected the word ocf"),
+        Wanted::Channel => say_line(program, path, line, b"expected the word channel"),
+        Wanted::Map => say_line(program, path, line, b"expected the word map"),
+        Wanted::Carries => say_line(program, path, line, b"expected the word packets or access"),
+        Wanted::Longest => say_line(program, path, line, b"expected the word longest"),
+        Wanted::YesOrNo => say_line(program, path, line, b"expected yes or no"),
+        Wanted::End => say_line(program, path, line, b"expected the line's end"),
+        Wanted::Number(low, high) => say_range(program, path, line, low, high),
+        _ => say_rule(program, path, line, w),
+    }
+}
+
+// Says which rule the line breaks together with the lines before it.
+fn say_rule(program: &[u8], path: &[u8], line: usize, w: Wanted) {
+    match w {
+        Wanted::NewFact => say_line(program, path, line, b"expected a fact that was not said before"),
+        Wanted::NewChannel => say_line(program, path, line, b"expected a virtual channel and service that were not listed before"),
+        Wanted::SameOcf => say_line(program, path, line, b"expected the ocf of the other channel of this virtual channel"),
+        Wanted::ListedChannel => say_line(program, path, line, b"expected a channel that was listed before"),
+        Wanted::NewMap => say_line(program, path, line, b"expected a map that has no lane of this channel yet"),
+        Wanted::FewerChannels => say_line(program, path, line, b"expected at most 8 channels"),
+        Wanted::FewerLanes => say_line(program, path, line, b"expected at most 8 lanes"),
+        _ => say_line(program, path, line, b"expected nothing else"),
+    }
+}
+
+// Says what the file never says.
+fn say_missing(program: &[u8], path: &[u8], m: Missing) {
+    match m {
+        Missing::Length => console::say(program, path, b"the frame length is missing"),
+        Missing::Spacecraft => console::say(program, path, b"the spacecraft is missing"),
+        Missing::Direction => console::say(program, path, b"source or destination is missing"),
+        Missing::Insert => console::say(program, path, b"the insert zone is missing"),
+        Missing::Check => console::say(program, path, b"the check is missing"),
+        Missing::Channel => console::say(program, path, b"no channel is listed"),
+        Missing::Lane => console::say(program, path, b"no lane is given"),
+    }
+}
+
+// Says what is wrong, if anything is.
+fn say_finding(program: &[u8], path: &[u8], f: Finding) {
+    match f {
+        Finding::Good => {}
+        Finding::Line(n, w) => say_word(program, path, n, w),
+        Finding::Lacks(m) => say_missing(program, path, m),
+        Finding::Zone(i) => console::say_at(program, path, b"channel", i as u64, b"the zone has no octet"),
+        Finding::Other => console::say(program, path, b"no valid setting"),
+    }
+}
+
+// One read, and how many octets it gave; none at the file's end.
+fn read_some(fd: i32, part: &mut [u8]) -> Filled
+    ensures { λ r. ⌜ r .size ≤ length (now (part .exit)) ⌝ }
+{
+    let got = libc::read(fd, part);
+    if got < 0 {
+        return Filled { read: false, size: 0 };
+    }
+    let n = io::count(got, part);
+    Filled { read: true, size: n }
+}
+
+// Reads until the area is full, the file ends or a read fails.
+fn fill(fd: i32, area: &mut [u8]) -> Filled
+    ensures { λ r. ⌜ r .size ≤ length (now (area .exit)) ⌝ }
+{
+    let mut n: usize = 0;
+    while n < area.len() {
+        let f = read_some(fd, &mut area[n..]);
+        let k = f.size;
+        if k == 0 {
+            return Filled { read: f.read, size: n };
+        }
+        n += k;
+    }
+    Filled { read: true, size: n }
+}
+
+// The setting of a file that is open for reading: one of zeros, and a message, where there is none.
+fn load_open(program: &[u8], path: &[u8], fd: i32) -> Setting {
+    let mut area = [0u8; 65537];
+    let f = fill(fd, &mut area);
+    let n = f.size;
+    if !f.read {
+        console::say_failed(program, path);
+        return no_setting();
+    }
+    if 65536 < n {
+        console::say(program, path, b"more than 65536 octets");
+        return no_setting();
+    }
+    let p = setting_text::parse(&area[..n]);
+    let found = p.finding;
+    say_finding(program, path, found);
+    p.setting
+}
+
+// A setting of zeros.
+fn no_setting() -> Setting {
+    let r = setting::no_reader();
+    r.setting
+}
+
+// The setting of a file: one of zeros, and a message, where there is none.
+fn load_file(program: &[u8], path: &[u8]) -> Setting {
+    let fd = os::open_read(path);
+    if fd < 0 {
+        console::say_failed(program, path);
+        return no_setting();
+    }
+    let s = load_open(program, path, fd);
+    libc::close(fd);
+    s
+}
+
 // Reads a setting from a file. Where it cannot, a message of this program says why.
 pub fn load(program: &[u8], path: &[u8]) -> Loaded
     ensures { λ r. ⌜ (r .good ≡ true → settingOk (r .setting) ≡ true) ⌝ }
 {
-    console::say(program, path, b"no setting");
-    let r = setting::no_reader();
-    let s = r.setting;
+    let s = load_file(program, path);
     let good = setting::setting_ok(s);
     Loaded {
         good: good,
