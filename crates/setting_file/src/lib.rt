@@ -44,7 +44,12 @@ fn say_line(program: &[u8], path: &[u8], line: usize, what: &[u8]) {
 // Says what word was expected at a line, or that the words fit no setting.
 fn say_word(program: &[u8], path: &[u8], line: usize, w: Wanted) {
     match w {
-        Wanted::Fact => say_line(program, path, line, b"expected frame, spacecraft, source, destination, insert, check, channel or lane"),
+        Wanted::Fact => say_line(
+            program,
+            path,
+            line,
+            b"expected frame, spacecraft, source, destination, insert, check, channel or lane",
+        ),
         Wanted::Length => say_line(program, path, line, b"expected the word length"),
         Wanted::Service => say_line(program, path, line, b"expected the word service"),
         Wanted::Count => say_line(program, path, line, b"expected the word count"),
@@ -63,11 +68,36 @@ fn say_word(program: &[u8], path: &[u8], line: usize, w: Wanted) {
 // Says which rule the line breaks together with the lines before it.
 fn say_rule(program: &[u8], path: &[u8], line: usize, w: Wanted) {
     match w {
-        Wanted::NewFact => say_line(program, path, line, b"expected a fact that was not said before"),
-        Wanted::NewChannel => say_line(program, path, line, b"expected a virtual channel and service that were not listed before"),
-        Wanted::SameOcf => say_line(program, path, line, b"expected the ocf of the other channel of this virtual channel"),
-        Wanted::ListedChannel => say_line(program, path, line, b"expected a channel that was listed before"),
-        Wanted::NewMap => say_line(program, path, line, b"expected a map that has no lane of this channel yet"),
+        Wanted::NewFact => say_line(
+            program,
+            path,
+            line,
+            b"expected a fact that was not said before",
+        ),
+        Wanted::NewChannel => say_line(
+            program,
+            path,
+            line,
+            b"expected a virtual channel and service that were not listed before",
+        ),
+        Wanted::SameOcf => say_line(
+            program,
+            path,
+            line,
+            b"expected the ocf of the other channel of this virtual channel",
+        ),
+        Wanted::ListedChannel => say_line(
+            program,
+            path,
+            line,
+            b"expected a channel that was listed before",
+        ),
+        Wanted::NewMap => say_line(
+            program,
+            path,
+            line,
+            b"expected a map that has no lane of this channel yet",
+        ),
         Wanted::FewerChannels => say_line(program, path, line, b"expected at most 8 channels"),
         Wanted::FewerLanes => say_line(program, path, line, b"expected at most 8 lanes"),
         _ => say_line(program, path, line, b"expected nothing else"),
@@ -93,7 +123,13 @@ fn say_finding(program: &[u8], path: &[u8], f: Finding) {
         Finding::Good => {}
         Finding::Line(n, w) => say_word(program, path, n, w),
         Finding::Lacks(m) => say_missing(program, path, m),
-        Finding::Zone(i) => console::say_at(program, path, b"channel", i as u64, b"the zone has no octet"),
+        Finding::Zone(i) => console::say_at(
+            program,
+            path,
+            b"channel",
+            i as u64,
+            b"the zone has no octet",
+        ),
         Finding::Other => console::say(program, path, b"no valid setting"),
     }
 }
@@ -104,10 +140,16 @@ fn read_some(fd: i32, part: &mut [u8]) -> Filled
 {
     let got = libc::read(fd, part);
     if got < 0 {
-        return Filled { read: false, size: 0 };
+        return Filled {
+            read: false,
+            size: 0,
+        };
     }
     let n = io::count(got, part);
-    Filled { read: true, size: n }
+    Filled {
+        read: true,
+        size: n,
+    }
 }
 
 // Reads until the area is full, the file ends or a read fails.
@@ -119,11 +161,17 @@ fn fill(fd: i32, area: &mut [u8]) -> Filled
         let f = read_some(fd, &mut area[n..]);
         let k = f.size;
         if k == 0 {
-            return Filled { read: f.read, size: n };
+            return Filled {
+                read: f.read,
+                size: n,
+            };
         }
         n += k;
     }
-    Filled { read: true, size: n }
+    Filled {
+        read: true,
+        size: n,
+    }
 }
 
 // The setting of a file that is open for reading: one of zeros, and a message, where there is none.

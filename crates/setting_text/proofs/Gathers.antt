@@ -1,10 +1,10 @@
 -- Laws of the lines of a text: there is room for what they list, and they are taken one after another.
-use Prim.Native.Nat.{ℕ, zero, suc, _+_, _-_, _≤_, _<_}
+use Prim.Native.Nat.{ℕ, _+_, _-_, _≤_, _<_}
 use mathlib.Core.Path.{_≡_, refl, sym, ap, _∙_}
 use mathlib.Core.Bool.{Bool, true, false, cond}
 use mathlib.Core.List.{List, [], _∷_}
 use native.Mathlib.Omega.{arith}
-use lib.ListN.{length, take, drop, length-take, length-drop, drop-of-length-le}
+use lib.ListN.{length, take, drop, length-drop, drop-of-length-le}
 use lib.Seq.{take-all, drop-drop}
 use borrow.Author.Tests.{le-leb, lt-leb}
 use Rattle.rules.specs.declared.Kind.{Kind}
@@ -24,7 +24,7 @@ use Rattle.setting_text.specs.declared.Form.{Form}
 use Rattle.setting_text.specs.declared.Form.the-variants as form
 use Rattle.setting_text.specs.declared.Draft.{Draft}
 use Rattle.setting_text.specs.declared.Gathered.{Gathered}
-use Rattle.setting_text.specs.Texts.{stops, until, cut, full, lines, said, words, first, others, same, Seen, start}
+use Rattle.setting_text.specs.Texts.{stops, until, cut, full, lines, said, words, first, same, Seen}
 use Rattle.setting_text.specs.Facts.{nothing, remade, single, listing, refuse, withLength, withCraft, withBit, withInsert, withCheck, withChannel, withLane, settled, once, lengthLine, craftLine, bitLine, insertLine, checkLine, ocfUnlike, addChannel, channelLine, addLane, addLaneOf, packetsLine, accessLine, kindLine, laneLine, formOf, takeForm, takeLine, gather, Gathering}
 use Rattle.setting_text.proofs.Texts.{pieces, cut-until}
 
@@ -193,8 +193,8 @@ module _ (t : List ℕ) (d : Draft) (n at : ℕ) (h : Taking t d n at) where
           room = rw here (line-room d (h .room) _);
           count = omega (arith, h .count);
           goes =
-            h .goes ∙ one ∙ cond-true (d′ .fits) (gather (n + 1) d′ (pieces (stops stop.Feed) (drop size (drop at t)))) (record { draft = d′; line = n }) f
-            ∙ gather-after (n + 1) d′ (drop size (drop at t)) f ∙ ap (λ (x : List ℕ). gather (n + 1) d′ (lines x)) past;
+              h .goes ∙ one ∙ cond-true (d′ .fits) (gather (n + 1) d′ (pieces (stops stop.Feed) (drop size (drop at t)))) (record { draft = d′; line = n }) f
+              ∙ gather-after (n + 1) d′ (drop size (drop at t)) f ∙ ap (λ (x : List ℕ). gather (n + 1) d′ (lines x)) past;
         }
       where
         past : drop 1 (drop size (drop at t)) ≡ drop (at + size + 1) t

@@ -1,8 +1,8 @@
 -- Laws of the line forms, in what a cursor sees after each of their words.
 use Prim.Native.Nat.{ℕ, _-_}
-use mathlib.Core.Path.{_≡_, refl, sym, ap, _∙_}
-use mathlib.Core.Bool.{Bool, true, false, cond}
-use mathlib.Core.List.{List, [], _∷_}
+use mathlib.Core.Path.{_≡_, sym, ap, _∙_}
+use mathlib.Core.Bool.{Bool, true, cond}
+use mathlib.Core.List.{List}
 use lib.ListN.{take, drop}
 use Rattle.rules.specs.declared.Kind.the-variants as kinds
 use Rattle.rules.specs.declared.Place.{Place}

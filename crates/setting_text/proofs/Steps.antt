@@ -1,8 +1,8 @@
 -- Laws of one word: where it stands in a line, and what a cursor sees after it.
-use Prim.Native.Nat.{ℕ, zero, suc, _+_, _-_, _≤_, _<_}
+use Prim.Native.Nat.{ℕ, _+_, _-_, _≤_, _<_}
 use mathlib.Core.Path.{_≡_, refl, sym, ap, _∙_}
 use mathlib.Core.Bool.{Bool, true, false, cond, _&&_, _||_}
-use mathlib.Core.List.{List, [], _∷_}
+use mathlib.Core.List.{List, []}
 use native.Mathlib.Omega.{arith}
 use lib.ListN.{length, take, drop, length-drop, drop-of-length-le}
 use lib.Seq.{take-all, drop-drop, drop-length}
@@ -29,12 +29,16 @@ module _ (l : List ℕ) (at : ℕ) where
     where
       here : drop (until (stops stop.Word) (drop at l)) (drop at l) ≡ drop (at + gap) l
       here = rw (sym (g ∙ ap (until (stops stop.Word)) (rest-is l at))) (drop-drop gap at l)
+
       long : until (stops stop.Blank) (drop (at + gap) l) ≡ size
       long = sym (z ∙ ap (until (stops stop.Blank)) (rest-is l (at + gap)))
+
       less : at + gap + size - (at + gap) ≡ size
       less = omega arith
+
       one : first (words (drop at l)) ≡ take (at + gap + size - (at + gap)) (drop (at + gap) l)
       one = front (drop at l) ∙ rw (here, long, less)
+
       two : others (words (drop at l)) ≡ words (drop (at + gap + size) l)
       two = after (drop at l) ∙ rw (here, long) (ap words (drop-drop size (at + gap) l))
 
@@ -86,6 +90,7 @@ number-most low high s = go (s .fits) (numeral low high w) (numeral-most low hig
   where
     w : List ℕ
     w = first (s .rest)
+
     go : (b ok : Bool) → (ok ≡ true → value 0 w ≤ high)
         → (cond b (cond ok (record { rest = others (s .rest); number = value 0 w; fits = true; wanted = want.Nothing }) (missed (want.Number low high) s)) (missed (s .wanted) s)) .number ≤ high
     go true true e = e refl

@@ -1,6 +1,6 @@
 -- Laws of lines, words and numbers, in the code's own tests.
-use Prim.Native.Nat.{ℕ, zero, suc, _+_, _-_, _*_, _≤_, _<_}
-use mathlib.Core.Path.{_≡_, refl, sym, ap, _∙_}
+use Prim.Native.Nat.{ℕ, suc, _+_, _-_, _*_, _≤_, _<_}
+use mathlib.Core.Path.{_≡_, refl, sym, ap}
 use mathlib.Core.Bool.{Bool, true, false, cond, not, _&&_, false≢true}
 use mathlib.Core.List.{List, [], _∷_}
 use native.Mathlib.Omega.{arith}
@@ -9,10 +9,9 @@ use lib.Seq.{drop-cons}
 use Rattle.rules.proofs.Tests.{split, and-right}
 use borrow.Author.Tests.{le-leb, lt-leb, eq-eqb, ne-eqb}
 use Rattle.rules.specs.Tests.{_≤?_, _=?_}
-use Rattle.setting_text.specs.declared.Stop.{Stop}
 use Rattle.setting_text.specs.declared.Stop.the-variants as stop
 use Rattle.setting_text.specs.declared.Wanted.{Wanted}
-use Rattle.setting_text.specs.Texts.{blank, stops, until, onto, cut, full, words, first, others, same, digit, digits, isNumber, value, numeral, numberFrom, numberOf, Seen, step, missed}
+use Rattle.setting_text.specs.Texts.{blank, stops, until, onto, cut, full, words, first, others, same, digit, digits, isNumber, value, numeral, numberFrom, numberOf, Seen, step}
 
 -- ---- where the first octet stands that passes
 

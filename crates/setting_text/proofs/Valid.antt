@@ -1,6 +1,6 @@
 -- A text that is found good gives a valid setting.
 use Prim.Native.Nat.{ℕ}
-use mathlib.Core.Path.{_≡_, refl, sym, ap, _∙_}
+use mathlib.Core.Path.{_≡_, refl}
 use mathlib.Core.Bool.{Bool, true, false, cond}
 use mathlib.Core.List.{List}
 use native.Mathlib.Omega.{arith}
@@ -8,7 +8,7 @@ use Rattle.rules.specs.declared.Setting.{Setting}
 use Rattle.rules.specs.declared.Place.{Place}
 use Rattle.rules.specs.declared.Place.the-variants.{At, Nowhere}
 use Rattle.rules.specs.Tests.{_=?_}
-use Rattle.rules.specs.Settings.{settingOk, noSetting}
+use Rattle.rules.specs.Settings.{settingOk}
 use Rattle.setting_text.specs.declared.Missing.{Missing}
 use Rattle.setting_text.specs.declared.Finding.{Finding}
 use Rattle.setting_text.specs.declared.Finding.the-variants as finds

@@ -1,7 +1,6 @@
 -- Worked texts, by computation: a good one gives the worked setting of document 01, and bad ones say where and what.
 use mathlib.Core.Path.{_≡_, refl}
-use mathlib.Core.List.{List, [], _∷_, _++_}
-use Prim.Native.Nat.{ℕ}
+use mathlib.Core.List.{_++_}
 use Prim.Native.String.{String}
 use Rattle.rules.specs.Listing.{text}
 use Rattle.rules.specs.Worked.{worked, packetLane}

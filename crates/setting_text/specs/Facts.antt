@@ -1,7 +1,7 @@
 -- The setting as a text: what each line says, and what a whole text is.
-use Prim.Native.Nat.{ℕ, zero, suc, _+_, _-_, _≤_}
+use Prim.Native.Nat.{ℕ, _+_, _-_, _≤_}
 use mathlib.Core.Path.{_≡_}
-use mathlib.Core.Bool.{Bool, true, false, cond, not, _&&_, Bool·beq}
+use mathlib.Core.Bool.{Bool, true, false, cond, not, Bool·beq}
 use mathlib.Core.List.{List, [], _∷_}
 use lib.ListN.{set}
 use Rattle.rules.specs.declared.Kind.{Kind}
@@ -19,7 +19,6 @@ use Rattle.rules.specs.Listing.{text}
 use Rattle.setting_text.specs.Texts.{lines, said, words, first, others, same, Seen, start, says, number, yesOrNo, end}
 use Rattle.setting_text.specs.declared.Wanted.{Wanted}
 use Rattle.setting_text.specs.declared.Wanted.the-variants as want
-use Rattle.setting_text.specs.declared.Missing.{Missing}
 use Rattle.setting_text.specs.declared.Missing.the-variants as lack
 use Rattle.setting_text.specs.declared.Finding.{Finding}
 use Rattle.setting_text.specs.declared.Finding.the-variants as finds

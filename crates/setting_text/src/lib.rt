@@ -1,13 +1,12 @@
 // A setting from its text: what each line says, the first bad line, and what a text lacks.
 ghost use mathlib.Core.Path.{_≡_};
 ghost use mathlib.Core.List.{List};
-ghost use mathlib.Core.Bool.{true, _&&_, _||_, cond};
+ghost use mathlib.Core.Bool.{_&&_, _||_, cond};
 ghost use Prim.Native.Nat.{ℕ, _≤_, _<_};
-ghost use lib.ListN.{length, drop};
+ghost use lib.ListN.{drop};
 ghost use Rattle.rules.specs.Tests.{_≤?_};
-ghost use Rattle.rules.specs.Settings.{settingOk, noSetting};
 ghost use Rattle.rules.specs.Refusals.{channelAt};
-ghost use Rattle.setting_text.specs.Texts.{blank, stops, Until, same, words, first, others, Seen, start, step, says, number, yesOrNo, end, seen, Word, numberOf};
+ghost use Rattle.setting_text.specs.Texts.{blank, stops, Until, same, words, others, step, says, number, yesOrNo, end, seen, Word, numberOf};
 ghost use Rattle.setting_text.specs.Facts.{nothing, refuse, lengthLine, craftLine, bitLine, insertLine, checkLine, withChannel, withLane, addChannel, ocfUnlike, channelLine, addLane, addLaneOf, channelOf, packetsLine, accessLine, kindLine, laneLine, listForm, formOf, takeForm, takeLine, Gathering, zoneless, judged, listsFound, allFound, found, answered, parsed};
 use rules::Channel;
 use rules::Kind;
@@ -891,11 +890,17 @@ fn answer(f: Finding, s: Setting) -> Parsed
     ensures { λ r. ⌜ r ≡ answered f s ⌝ }
 {
     if let Finding::Good = f {
-        return Parsed { finding: f, setting: s };
+        return Parsed {
+            finding: f,
+            setting: s,
+        };
     }
     let r = setting::no_reader();
     let none = r.setting;
-    Parsed { finding: f, setting: none }
+    Parsed {
+        finding: f,
+        setting: none,
+    }
 }
 
 // What a text is, and its setting if it is good.

@@ -1,49 +1,37 @@
+-- `setting_text::add_lane` meets its contract. Two tests, one after the other.
 use mathlib.Core.Path.{sym, _∙_}
 use borrow.Author.Tests.{le-leb, lt-leb}
 use Rattle.setting_text.specs.Facts.{addLane}
 use borrow.Author.Needs.{needs}
 use Rattle.setting_text.proofs.add_lane.Statement.{statement}
 use Rattle.setting_text.proofs.add_lane.Tie as tie
-use Rattle.setting_text.proofs.add_lane.Reads as reads
-use Rattle.setting_text.proofs.add_lane.Lts as lts
-use Rattle.setting.proofs.lane_at.Reads as lane-at-reads
-use Rattle.setting_text.proofs.put_lane.Reads as put-lane-reads
-use Rattle.setting_text.proofs.refused.Reads as refused-reads
 
--- src/lib.rt:562:9
 lane-at-requires : tie.Need-lane-at-requires
 lane-at-requires c κs = search needs
 
 enum-told : tie.Need-enum-told
 enum-told c = search needs
 
--- src/lib.rt:564:27
 enum-told-2 : tie.Need-enum-told-2
 enum-told-2 c = search needs
 
--- src/lib.rt:564:9
 refused-requires : tie.Need-refused-requires
 refused-requires c κs = search needs
 
--- src/lib.rt:564:9
 returns : tie.Need-returns
 unfolding addLane
 returns c = rw (sym (c .before .before .before .lane-at .ensures) ∙ c .before .enum-told2 .given .1) (c .refused .ensures)
 
--- src/lib.rt:567:9
 refused-requires-2 : tie.Need-refused-requires-2
 refused-requires-2 c κs = search needs
 
--- src/lib.rt:567:9
 returns-2 : tie.Need-returns-2
 unfolding addLane
 returns-2 c = rw (sym (c .before .before .before .before .before .lane-at .ensures) ∙ c .before .before .before .enum-told .given .1, le-leb _ _ (c .before .if1 .taken)) (c .refused2 .ensures)
 
--- src/lib.rt:569:5
 put-lane-requires : tie.Need-put-lane-requires
 put-lane-requires c κs = search needs
 
--- src/lib.rt:557:1
 returns-3 : tie.Need-returns-3
 unfolding addLane
 returns-3 c = rw (sym (c .before .before .before .before .before .lane-at .ensures) ∙ c .before .before .before .enum-told .given .1, lt-leb _ _ (c .before .if1 .left)) (c .put-lane .ensures)

@@ -1,27 +1,21 @@
+-- `setting_text::answer` meets its contract. Only a good text keeps its setting.
 use Rattle.rules.specs.Settings.{noReader}
 use Rattle.setting_text.specs.Facts.{answered}
 use Rattle.setting_text.proofs.Answers.{answered-other}
 use borrow.Author.Needs.{needs}
 use Rattle.setting_text.proofs.answer.Statement.{statement}
 use Rattle.setting_text.proofs.answer.Tie as tie
-use Rattle.setting_text.proofs.answer.Reads as reads
-use Rattle.setting_text.proofs.answer.Lts as lts
-use Rattle.setting.proofs.no_reader.Reads as no-reader-reads
 
--- src/lib.rt:873:9
 enum-told : tie.Need-enum-told
 enum-told c = search needs
 
--- src/lib.rt:873:9
 returns : tie.Need-returns
 unfolding answered
 returns c = rw (c .enum-told .given .1)
 
--- src/lib.rt:875:9
 no-reader-requires : tie.Need-no-reader-requires
 no-reader-requires c κs = search needs
 
--- src/lib.rt:869:1
 returns-2 : tie.Need-returns-2
 unfolding noReader
 returns-2 c = rw (c .before .no-reader .ensures) (answered-other _ _ (c .before .before .match .keys2))

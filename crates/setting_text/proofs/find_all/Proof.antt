@@ -1,42 +1,33 @@
+-- `setting_text::find_all` meets its contract. Five tests, one after another.
 use Rattle.setting_text.proofs.Texts.{not-true, not-false}
 use Rattle.setting_text.specs.Facts.{allFound}
 use borrow.Author.Needs.{needs}
 use Rattle.setting_text.proofs.find_all.Statement.{statement}
 use Rattle.setting_text.proofs.find_all.Tie as tie
-use Rattle.setting_text.proofs.find_all.Reads as reads
-use Rattle.setting_text.proofs.find_all.Lts as lts
-use Rattle.setting_text.proofs.find_lists.Reads as find-lists-reads
 
--- src/lib.rt:837:9
 returns : tie.Need-returns
 unfolding allFound
 returns c = rw (not-true (c .before .before .args .d .length) (c .if1 .taken))
 
--- src/lib.rt:840:9
 returns-2 : tie.Need-returns-2
 unfolding allFound
 returns-2 c = rw (not-false (c .before .before .before .before .args .d .length) (c .before .before .if1 .left), not-true (c .before .before .before .before .args .d .craft) (c .if2 .taken))
 
--- src/lib.rt:843:9
 returns-3 : tie.Need-returns-3
 unfolding allFound
 returns-3 c = rw (not-false (c .before .before .before .before .before .before .args .d .length) (c .before .before .before .before .if1 .left), not-false (c .before .before .before .before .before .before .args .d .craft) (c .before .before .if2 .left), not-true (c .before .before .before .before .before .before .args .d .bit) (c .if3 .taken))
 
--- src/lib.rt:846:9
 returns-4 : tie.Need-returns-4
 unfolding allFound
 returns-4 c = rw (not-false (c .before .before .before .before .before .before .before .before .args .d .length) (c .before .before .before .before .before .before .if1 .left), not-false (c .before .before .before .before .before .before .before .before .args .d .craft) (c .before .before .before .before .if2 .left), not-false (c .before .before .before .before .before .before .before .before .args .d .bit) (c .before .before .if3 .left), not-true (c .before .before .before .before .before .before .before .before .args .d .insert) (c .if4 .taken))
 
--- src/lib.rt:849:9
 returns-5 : tie.Need-returns-5
 unfolding allFound
 returns-5 c = rw (not-false (c .before .before .before .before .before .before .before .before .before .before .args .d .length) (c .before .before .before .before .before .before .before .before .if1 .left), not-false (c .before .before .before .before .before .before .before .before .before .before .args .d .craft) (c .before .before .before .before .before .before .if2 .left), not-false (c .before .before .before .before .before .before .before .before .before .before .args .d .bit) (c .before .before .before .before .if3 .left), not-false (c .before .before .before .before .before .before .before .before .before .before .args .d .insert) (c .before .before .if4 .left), not-true (c .before .before .before .before .before .before .before .before .before .before .args .d .check) (c .if5 .taken))
 
--- src/lib.rt:852:5
 find-lists-requires : tie.Need-find-lists-requires
 find-lists-requires c κs = search needs
 
--- src/lib.rt:832:1
 returns-6 : tie.Need-returns-6
 unfolding allFound
 returns-6 c = rw (not-false (c .before .before .before .before .before .before .before .before .before .before .before .before .args .d .length) (c .before .before .before .before .before .before .before .before .before .before .if1 .left), not-false (c .before .before .before .before .before .before .before .before .before .before .before .before .args .d .craft) (c .before .before .before .before .before .before .before .before .if2 .left), not-false (c .before .before .before .before .before .before .before .before .before .before .before .before .args .d .bit) (c .before .before .before .before .before .before .if3 .left), not-false (c .before .before .before .before .before .before .before .before .before .before .before .before .args .d .insert) (c .before .before .before .before .if4 .left), not-false (c .before .before .before .before .before .before .before .before .before .before .before .before .args .d .check) (c .before .before .if5 .left)) (c .find-lists .ensures)

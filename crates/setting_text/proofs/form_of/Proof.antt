@@ -1,3 +1,4 @@
+-- `setting_text::form_of` meets its contract. None, or the first of four words that it is, or one of the others.
 use Rattle.setting_text.proofs.Texts.{same-empty, same-some}
 use Rattle.rules.specs.Listing.{text}
 use Rattle.setting_text.specs.Facts.{formOf}
@@ -5,73 +6,54 @@ use mathlib.Core.Path.{sym, _∙_}
 use borrow.Author.Needs.{needs}
 use Rattle.setting_text.proofs.form_of.Statement.{statement}
 use Rattle.setting_text.proofs.form_of.Tie as tie
-use Rattle.setting_text.proofs.form_of.Reads as reads
-use Rattle.setting_text.proofs.form_of.Lts as lts
-use Rattle.setting_text.proofs.list_form.Reads as list-form-reads
-use Rattle.setting_text.proofs.same_word.Reads as same-word-reads
 
--- src/lib.rt:695:9
 returns : tie.Need-returns
 unfolding formOf text
 returns c = rw (same-empty _ (c .if1 .taken))
 
--- src/lib.rt:697:33
 slice-aggregate-same-word : tie.Need-slice-aggregate-same-word
 slice-aggregate-same-word c = search needs
 
--- src/lib.rt:697:9
 same-word-requires : tie.Need-same-word-requires
 same-word-requires c κs = search needs
 
--- src/lib.rt:699:9
 returns-2 : tie.Need-returns-2
 unfolding formOf text
 returns-2 c = rw (same-some _ (c .before .before .before .if1 .left), sym (c .before .same-word .ensures) ∙ c .if2 .taken)
 
--- src/lib.rt:701:33
 slice-aggregate-same-word-2 : tie.Need-slice-aggregate-same-word-2
 slice-aggregate-same-word-2 c = search needs
 
--- src/lib.rt:701:9
 same-word-requires-2 : tie.Need-same-word-requires-2
 same-word-requires-2 c κs = search needs
 
--- src/lib.rt:703:9
 returns-3 : tie.Need-returns-3
 unfolding formOf text
 returns-3 c = rw (same-some _ (c .before .before .before .before .before .before .if1 .left), sym (c .before .before .before .before .same-word .ensures) ∙ c .before .before .before .if2 .left, sym (c .before .same-word2 .ensures) ∙ c .if3 .taken)
 
--- src/lib.rt:705:34
 slice-aggregate-same-word-3 : tie.Need-slice-aggregate-same-word-3
 slice-aggregate-same-word-3 c = search needs
 
--- src/lib.rt:705:9
 same-word-requires-3 : tie.Need-same-word-requires-3
 same-word-requires-3 c κs = search needs
 
--- src/lib.rt:707:9
 returns-4 : tie.Need-returns-4
 unfolding formOf text
 returns-4 c = rw (same-some _ (c .before .before .before .before .before .before .before .before .before .if1 .left), sym (c .before .before .before .before .before .before .before .same-word .ensures) ∙ c .before .before .before .before .before .before .if2 .left, sym (c .before .before .before .before .same-word2 .ensures) ∙ c .before .before .before .if3 .left, sym (c .before .same-word3 .ensures) ∙ c .if4 .taken)
 
--- src/lib.rt:709:39
 slice-aggregate-same-word-4 : tie.Need-slice-aggregate-same-word-4
 slice-aggregate-same-word-4 c = search needs
 
--- src/lib.rt:709:9
 same-word-requires-4 : tie.Need-same-word-requires-4
 same-word-requires-4 c κs = search needs
 
--- src/lib.rt:711:9
 returns-5 : tie.Need-returns-5
 unfolding formOf text
 returns-5 c = rw (same-some _ (c .before .before .before .before .before .before .before .before .before .before .before .before .if1 .left), sym (c .before .before .before .before .before .before .before .before .before .before .same-word .ensures) ∙ c .before .before .before .before .before .before .before .before .before .if2 .left, sym (c .before .before .before .before .before .before .before .same-word2 .ensures) ∙ c .before .before .before .before .before .before .if3 .left, sym (c .before .before .before .before .same-word3 .ensures) ∙ c .before .before .before .if4 .left, sym (c .before .same-word4 .ensures) ∙ c .if5 .taken)
 
--- src/lib.rt:713:5
 list-form-requires : tie.Need-list-form-requires
 list-form-requires c κs = search needs
 
--- src/lib.rt:691:1
 returns-6 : tie.Need-returns-6
 unfolding formOf text
 returns-6 c = rw (same-some _ (c .before .before .before .before .before .before .before .before .before .before .before .before .before .if1 .left), sym (c .before .before .before .before .before .before .before .before .before .before .before .same-word .ensures) ∙ c .before .before .before .before .before .before .before .before .before .before .if2 .left, sym (c .before .before .before .before .before .before .before .before .same-word2 .ensures) ∙ c .before .before .before .before .before .before .before .if3 .left, sym (c .before .before .before .before .before .same-word3 .ensures) ∙ c .before .before .before .before .if4 .left, sym (c .before .before .same-word4 .ensures) ∙ c .before .if5 .left) (c .list-form .ensures)

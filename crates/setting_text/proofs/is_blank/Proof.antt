@@ -1,22 +1,17 @@
-use mathlib.Core.Path.{refl}
+-- `setting_text::is_blank` meets its contract. Each of three tests decides.
 use borrow.Author.Tests.{eq-eqb, ne-eqb}
 use Rattle.setting_text.specs.Texts.{blank}
 use Rattle.setting_text.proofs.is_blank.Statement.{statement}
 use Rattle.setting_text.proofs.is_blank.Tie as tie
-use Rattle.setting_text.proofs.is_blank.Reads as reads
-use Rattle.setting_text.proofs.is_blank.Lts as lts
 
--- src/lib.rt:128:9
 returns : tie.Need-returns
 unfolding blank
 returns c = rw (eq-eqb _ _ (c .if1 .taken))
 
--- src/lib.rt:131:9
 returns-2 : tie.Need-returns-2
 unfolding blank
 returns-2 c = rw (ne-eqb _ _ (c .before .if1 .left), eq-eqb _ _ (c .if2 .taken))
 
--- src/lib.rt:124:1
 returns-3 : tie.Need-returns-3
 unfolding blank
 returns-3 c = rw (ne-eqb _ _ (c .before .if1 .left), ne-eqb _ _ (c .if2 .left))

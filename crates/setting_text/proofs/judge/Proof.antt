@@ -1,40 +1,30 @@
+-- `setting_text::judge` meets its contract. A channel without zone, or the whole setting decides.
 use mathlib.Core.Path.{sym, _∙_}
 use Rattle.setting_text.specs.Facts.{judged}
 use borrow.Author.Needs.{needs}
 use Rattle.setting_text.proofs.judge.Statement.{statement}
 use Rattle.setting_text.proofs.judge.Tie as tie
-use Rattle.setting_text.proofs.judge.Reads as reads
-use Rattle.setting_text.proofs.judge.Lts as lts
-use Rattle.setting.proofs.setting_ok.Reads as setting-ok-reads
-use Rattle.setting_text.proofs.zoneless_at.Reads as zoneless-at-reads
 
--- src/lib.rt:802:9
 zoneless-at-requires : tie.Need-zoneless-at-requires
 zoneless-at-requires c κs = search needs
 
--- src/lib.rt:804:19
 enum-known-p : tie.Need-enum-known-p
 enum-known-p c = search needs
 
--- src/lib.rt:805:13
 returns : tie.Need-returns
 unfolding judged
 returns c = rw (sym (c .before .before .before .zoneless-at .ensures) ∙ c .before .p .given .1)
 
--- src/lib.rt:808:17
 enum-told : tie.Need-enum-told
 enum-told c = search needs
 
--- src/lib.rt:808:17
 setting-ok-requires : tie.Need-setting-ok-requires
 setting-ok-requires c κs = search needs
 
--- src/lib.rt:810:17
 returns-2 : tie.Need-returns-2
 unfolding judged
 returns-2 c = rw (sym (c .before .before .before .before .zoneless-at .ensures) ∙ c .before .before .enum-told .given .1, sym (c .before .setting-ok .ensures) ∙ c .if1 .taken)
 
--- src/lib.rt:812:13
 returns-3 : tie.Need-returns-3
 unfolding judged
 returns-3 c = rw (sym (c .before .before .before .before .zoneless-at .ensures) ∙ c .before .before .enum-told .given .1, sym (c .before .setting-ok .ensures) ∙ c .if1 .left)

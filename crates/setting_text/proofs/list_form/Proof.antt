@@ -1,66 +1,51 @@
+-- `setting_text::list_form` meets its contract. The first of four words that it is.
 use Rattle.rules.specs.Listing.{text}
 use Rattle.setting_text.specs.Facts.{listForm}
 use mathlib.Core.Path.{sym, _∙_}
 use borrow.Author.Needs.{needs}
 use Rattle.setting_text.proofs.list_form.Statement.{statement}
 use Rattle.setting_text.proofs.list_form.Tie as tie
-use Rattle.setting_text.proofs.list_form.Reads as reads
-use Rattle.setting_text.proofs.list_form.Lts as lts
-use Rattle.setting_text.proofs.same_word.Reads as same-word-reads
 
--- src/lib.rt:671:34
 slice-aggregate-same-word : tie.Need-slice-aggregate-same-word
 slice-aggregate-same-word c = search needs
 
--- src/lib.rt:671:9
 same-word-requires : tie.Need-same-word-requires
 same-word-requires c κs = search needs
 
--- src/lib.rt:673:9
 returns : tie.Need-returns
 unfolding listForm text
 returns c = rw (sym (c .before .same-word .ensures) ∙ c .if1 .taken)
 
--- src/lib.rt:675:33
 slice-aggregate-same-word-2 : tie.Need-slice-aggregate-same-word-2
 slice-aggregate-same-word-2 c = search needs
 
--- src/lib.rt:675:9
 same-word-requires-2 : tie.Need-same-word-requires-2
 same-word-requires-2 c κs = search needs
 
--- src/lib.rt:677:9
 returns-2 : tie.Need-returns-2
 unfolding listForm text
 returns-2 c = rw (sym (c .before .before .before .before .same-word .ensures) ∙ c .before .before .before .if1 .left, sym (c .before .same-word2 .ensures) ∙ c .if2 .taken)
 
--- src/lib.rt:679:35
 slice-aggregate-same-word-3 : tie.Need-slice-aggregate-same-word-3
 slice-aggregate-same-word-3 c = search needs
 
--- src/lib.rt:679:9
 same-word-requires-3 : tie.Need-same-word-requires-3
 same-word-requires-3 c κs = search needs
 
--- src/lib.rt:681:9
 returns-3 : tie.Need-returns-3
 unfolding listForm text
 returns-3 c = rw (sym (c .before .before .before .before .before .before .before .same-word .ensures) ∙ c .before .before .before .before .before .before .if1 .left, sym (c .before .before .before .before .same-word2 .ensures) ∙ c .before .before .before .if2 .left, sym (c .before .same-word3 .ensures) ∙ c .if3 .taken)
 
--- src/lib.rt:683:32
 slice-aggregate-same-word-4 : tie.Need-slice-aggregate-same-word-4
 slice-aggregate-same-word-4 c = search needs
 
--- src/lib.rt:683:9
 same-word-requires-4 : tie.Need-same-word-requires-4
 same-word-requires-4 c κs = search needs
 
--- src/lib.rt:685:9
 returns-4 : tie.Need-returns-4
 unfolding listForm text
 returns-4 c = rw (sym (c .before .before .before .before .before .before .before .before .before .before .same-word .ensures) ∙ c .before .before .before .before .before .before .before .before .before .if1 .left, sym (c .before .before .before .before .before .before .before .same-word2 .ensures) ∙ c .before .before .before .before .before .before .if2 .left, sym (c .before .before .before .before .same-word3 .ensures) ∙ c .before .before .before .if3 .left, sym (c .before .same-word4 .ensures) ∙ c .if4 .taken)
 
--- src/lib.rt:668:1
 returns-5 : tie.Need-returns-5
 unfolding listForm text
 returns-5 c = rw (sym (c .before .before .before .before .before .before .before .before .before .before .same-word .ensures) ∙ c .before .before .before .before .before .before .before .before .before .if1 .left, sym (c .before .before .before .before .before .before .before .same-word2 .ensures) ∙ c .before .before .before .before .before .before .if2 .left, sym (c .before .before .before .before .same-word3 .ensures) ∙ c .before .before .before .if3 .left, sym (c .before .same-word4 .ensures) ∙ c .if4 .left)

@@ -1,20 +1,16 @@
+-- `setting_text::moved` meets its contract. The word fits, it does not, or none did before.
 use Rattle.setting_text.specs.Texts.{seen, step, missed}
 use Rattle.setting_text.proofs.moved.Statement.{statement}
 use Rattle.setting_text.proofs.moved.Tie as tie
-use Rattle.setting_text.proofs.moved.Reads as reads
-use Rattle.setting_text.proofs.moved.Lts as lts
 
--- src/lib.rt:236:13
 returns : tie.Need-returns
 unfolding seen step
 returns c = λ l e. rw (c .before .if1 .taken, c .if2 .taken, e)
 
--- src/lib.rt:243:9
 returns-2 : tie.Need-returns-2
 unfolding seen step missed
 returns-2 c = λ l e. rw (c .before .if1 .taken, c .if2 .left)
 
--- src/lib.rt:231:1
 returns-3 : tie.Need-returns-3
 unfolding seen step missed
 returns-3 c = λ l e. rw (c .if1 .left)

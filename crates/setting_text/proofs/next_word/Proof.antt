@@ -1,63 +1,49 @@
+-- `setting_text::next_word` meets its contract. Blanks are passed over, and the word goes to the next blank.
 use Rattle.setting_text.proofs.Steps.{word-at, word-none}
 use native.Mathlib.Omega.{arith}
 use lib.ListN.{length-take, length-drop}
 use borrow.Author.Needs.{needs}
 use Rattle.setting_text.proofs.next_word.Statement.{statement}
 use Rattle.setting_text.proofs.next_word.Tie as tie
-use Rattle.setting_text.proofs.next_word.Reads as reads
-use Rattle.setting_text.proofs.next_word.Lts as lts
-use Rattle.setting_text.proofs.until_stop.Reads as until-stop-reads
 
--- src/lib.rt:190:9
 returns : tie.Need-returns
 returns c = word-none _ _ (c .if1 .taken)
 
--- src/lib.rt:192:16
 sub-rest : tie.Need-sub-rest
 sub-rest c = search needs
 
--- src/lib.rt:192:16
 part-rest-start : tie.Need-part-rest-start
 part-rest-start c = search needs
 
--- src/lib.rt:192:16
 part-rest-end : tie.Need-part-rest-end
 part-rest-end c = search needs
 
--- src/lib.rt:193:9
 until-stop-requires : tie.Need-until-stop-requires
 until-stop-requires c κs = search needs
 
--- src/lib.rt:194:16
 add-from : tie.Need-add-from
 add-from c = let h = simp (length-take, length-drop) at (c .until-stop .ensures .within) in search needs
 
--- src/lib.rt:195:16
 sub-tail : tie.Need-sub-tail
 sub-tail c = let h = simp (length-take, length-drop) at (c .until-stop .ensures .within) in search needs
 
--- src/lib.rt:195:16
 part-tail-start : tie.Need-part-tail-start
 part-tail-start c = let h = simp (length-take, length-drop) at (c .until-stop .ensures .within) in search needs
 
--- src/lib.rt:195:16
 part-tail-end : tie.Need-part-tail-end
 part-tail-end c = search needs
 
--- src/lib.rt:196:9
 until-stop-requires-2 : tie.Need-until-stop-requires-2
 until-stop-requires-2 c κs = search needs
 
--- src/lib.rt:199:13
 add-t11 : tie.Need-add-t11
-add-t11 c = 
+add-t11 c =
     let h = simp (length-take, length-drop) at (c .before .before .until-stop .ensures .within) in
     let k = simp (length-take, length-drop) at (c .until-stop2 .ensures .within) in
     search needs
 
--- src/lib.rt:185:1
 returns-2 : tie.Need-returns-2
-returns-2 c = 
+returns-2 c =
     let h = simp (length-take, length-drop) at (c .before .before .until-stop .ensures .within) in
     let k = simp (length-take, length-drop) at (c .until-stop2 .ensures .within) in
     word-at _ _ _ _ (c .before .before .until-stop .ensures .counts) (c .until-stop2 .ensures .counts) (omega arith)

@@ -1,6 +1,6 @@
-use Prim.Native.Nat.{_≤_, _-_, _+_}
-use mathlib.Core.Path.{_≡_, refl, sym, _∙_}
-use native.Mathlib.Omega.{arith}
+-- `setting_text::number_of` meets its contract. The digits before i stand for v, and v is at most 65,535.
+use Prim.Native.Nat.{_≤_, _-_}
+use mathlib.Core.Path.{_≡_, sym, _∙_}
 use native.Mathlib.Numerals.{add-one}
 use lib.ListN.{length, drop}
 use borrow.Author.Needs.{needs}
@@ -8,8 +8,6 @@ use Rattle.setting_text.specs.Texts.{numberOf, numberFrom}
 use Rattle.setting_text.proofs.Texts.{number-turn, number-low, number-high, number-large, number-end, number-some, number-none}
 use Rattle.setting_text.proofs.number_of.Statement.{statement}
 use Rattle.setting_text.proofs.number_of.Tie as tie
-use Rattle.setting_text.proofs.number_of.Reads as reads
-use Rattle.setting_text.proofs.number_of.Lts as lts
 
 abbrev Inv-loop : tie.InvT-loop
 Inv-loop word n v₀ i₀ v i = (i ≤ length word) × (n ≡ length word) × (v ≤ 65535) × (numberOf word ≡ numberFrom v (drop i word))
@@ -17,59 +15,45 @@ Inv-loop word n v₀ i₀ v i = (i ≤ length word) × (n ≡ length word) × (v
 abbrev μ-loop : tie.MeasureT-loop
 μ-loop word n v₀ i₀ v i = n - i
 
--- src/lib.rt:209:9
 returns : tie.Need-returns Inv-loop μ-loop
 returns c = sym (number-none _ (c .if1 .taken))
 
--- src/lib.rt:213:5
 loop-holds : tie.Need-loop-holds Inv-loop μ-loop
 loop-holds c = (search needs, search needs, search needs, number-some _ (search needs))
 
--- src/lib.rt:214:17
 shared-slice-read-x : tie.Need-shared-slice-read-x Inv-loop μ-loop
 shared-slice-read-x c = search needs
 
--- src/lib.rt:216:13
 returns-2 : tie.Need-returns-2 Inv-loop μ-loop
 returns-2 c = let w = c .before .before .before .before .before .args .word .now in let l = c .before .before .before in sym (l .loop .inv .3 ∙ number-low (l .loop .v) w (l .loop .i) (search needs) (c .if2 .taken))
 
--- src/lib.rt:219:13
 returns-3 : tie.Need-returns-3 Inv-loop μ-loop
 returns-3 c = let w = c .before .before .before .before .before .before .args .word .now in let l = c .before .before .before .before in sym (l .loop .inv .3 ∙ number-high (l .loop .v) w (l .loop .i) (search needs) (c .before .if2 .left) (c .if3 .taken))
 
--- src/lib.rt:221:13
 mul-v : tie.Need-mul-v Inv-loop μ-loop
 mul-v c = search needs
 
--- src/lib.rt:221:23
 cast-v : tie.Need-cast-v Inv-loop μ-loop
 cast-v c = search needs
 
--- src/lib.rt:221:23
 sub-v : tie.Need-sub-v Inv-loop μ-loop
 sub-v c = search needs
 
--- src/lib.rt:221:13
 add-v : tie.Need-add-v Inv-loop μ-loop
 add-v c = search needs
 
--- src/lib.rt:223:13
 returns-4 : tie.Need-returns-4 Inv-loop μ-loop
 returns-4 c = let w = c .before .before .before .before .before .before .before .args .word .now in let l = c .before .before .before .before .before in sym (l .loop .inv .3 ∙ number-turn (l .loop .v) w (l .loop .i) (search needs) (c .before .before .if2 .left) (c .before .if3 .left) ∙ number-large _ _ (c .if4 .taken))
 
--- src/lib.rt:225:9
 add-i : tie.Need-add-i Inv-loop μ-loop
 add-i c = search needs
 
--- src/lib.rt:213:5
 loop-less : tie.Need-loop-less Inv-loop μ-loop
 loop-less c = search needs
 
--- src/lib.rt:213:5
 loop-again : tie.Need-loop-again Inv-loop μ-loop
 loop-again c = let w = c .before .before .before .before .before .before .before .args .word .now in let l = c .before .before .before .before .before in (search needs, search needs, search needs, l .loop .inv .3 ∙ rw add-one (number-turn (l .loop .v) w (l .loop .i) (search needs) (c .before .before .if2 .left) (c .before .if3 .left)))
 
--- src/lib.rt:204:1
 returns-5 : tie.Need-returns-5 Inv-loop μ-loop
 returns-5 c = let w = c .before .before .before .args .word .now in let l = c .before in sym (l .loop .inv .3 ∙ number-end (l .loop .v) w (l .loop .i) (search needs) (l .loop .inv .2))
 

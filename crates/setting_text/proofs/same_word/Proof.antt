@@ -1,6 +1,6 @@
-use Prim.Native.Nat.{_≤_, _-_, _+_}
+-- `setting_text::same_word` meets its contract. The first i octets are the same, so the words are where their rests are.
+use Prim.Native.Nat.{_≤_, _-_}
 use mathlib.Core.Path.{_≡_, refl, sym, _∙_}
-use native.Mathlib.Omega.{arith}
 use native.Mathlib.Numerals.{add-one}
 use lib.ListN.{length, drop}
 use borrow.Author.Needs.{needs}
@@ -8,8 +8,6 @@ use Rattle.setting_text.specs.Texts.{same}
 use Rattle.setting_text.proofs.Texts.{same-unlike, same-turn, same-not, same-end}
 use Rattle.setting_text.proofs.same_word.Statement.{statement}
 use Rattle.setting_text.proofs.same_word.Tie as tie
-use Rattle.setting_text.proofs.same_word.Reads as reads
-use Rattle.setting_text.proofs.same_word.Lts as lts
 
 abbrev Inv-loop : tie.InvT-loop
 Inv-loop a b i₀ i = (i ≤ length a) × (length a ≡ length b) × (same a b ≡ same (drop i a) (drop i b))
@@ -17,39 +15,30 @@ Inv-loop a b i₀ i = (i ≤ length a) × (length a ≡ length b) × (same a b �
 abbrev μ-loop : tie.MeasureT-loop
 μ-loop a b i₀ i = length a - i
 
--- src/lib.rt:172:9
 returns : tie.Need-returns Inv-loop μ-loop
 returns c = sym (same-unlike _ _ (c .if1 .taken))
 
--- src/lib.rt:175:5
 loop-holds : tie.Need-loop-holds Inv-loop μ-loop
 loop-holds c = (search needs, search needs, refl)
 
--- src/lib.rt:176:12
 shared-slice-read-if2 : tie.Need-shared-slice-read-if2 Inv-loop μ-loop
 shared-slice-read-if2 c = search needs
 
--- src/lib.rt:176:20
 shared-slice-read-if2-2 : tie.Need-shared-slice-read-if2-2 Inv-loop μ-loop
 shared-slice-read-if2-2 c = search needs
 
--- src/lib.rt:177:13
 returns-2 : tie.Need-returns-2 Inv-loop μ-loop
 returns-2 c = let a = c .before .before .before .before .before .before .args in let l = c .before .before .before .before in sym (l .loop .inv .2 ∙ same-not (a .a .now) (a .b .now) (l .loop .i) (search needs) (search needs) (c .if2 .taken))
 
--- src/lib.rt:179:9
 add-i : tie.Need-add-i Inv-loop μ-loop
 add-i c = search needs
 
--- src/lib.rt:175:5
 loop-less : tie.Need-loop-less Inv-loop μ-loop
 loop-less c = search needs
 
--- src/lib.rt:175:5
 loop-again : tie.Need-loop-again Inv-loop μ-loop
 loop-again c = let a = c .before .before .before .before .before .before .args in let l = c .before .before .before .before in (search needs, search needs, l .loop .inv .2 ∙ rw add-one (same-turn (a .a .now) (a .b .now) (l .loop .i) (search needs) (search needs) (c .if2 .left)))
 
--- src/lib.rt:168:1
 returns-3 : tie.Need-returns-3 Inv-loop μ-loop
 returns-3 c = let a = c .before .before .before .args in let l = c .before in sym (l .loop .inv .2 ∙ same-end (a .a .now) (a .b .now) (l .loop .i) (search needs) (search needs))
 

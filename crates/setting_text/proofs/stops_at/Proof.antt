@@ -1,54 +1,41 @@
-use mathlib.Core.Bool.{Bool, not}
-use mathlib.Core.Path.{refl, sym, ap, _∙_}
-use mathlib.Core.Path.{refl, _∙_}
-use Rattle.setting_text.specs.Texts.{blank, stops}
+-- `setting_text::stops_at` meets its contract. In each case one test decides.
+use mathlib.Core.Bool.{not}
+use mathlib.Core.Path.{ap}
+use Rattle.setting_text.specs.Texts.{stops}
 use borrow.Author.Needs.{needs}
 use Rattle.setting_text.proofs.stops_at.Statement.{statement}
 use Rattle.setting_text.proofs.stops_at.Tie as tie
-use Rattle.setting_text.proofs.stops_at.Reads as reads
-use Rattle.setting_text.proofs.stops_at.Lts as lts
-use Rattle.setting_text.proofs.is_blank.Reads as is-blank-reads
 
--- src/lib.rt:141:23
 enum-told : tie.Need-enum-told
 enum-told c = search needs
 
--- src/lib.rt:142:23
 enum-told-2 : tie.Need-enum-told-2
 enum-told-2 c = search needs
 
--- src/lib.rt:143:24
 enum-told-3 : tie.Need-enum-told-3
 enum-told-3 c = search needs
 
--- src/lib.rt:143:24
 is-blank-requires : tie.Need-is-blank-requires
 is-blank-requires c κs = search needs
 
--- src/lib.rt:145:17
 enum-told-4 : tie.Need-enum-told-4
 enum-told-4 c = search needs
 
--- src/lib.rt:145:17
 is-blank-requires-2 : tie.Need-is-blank-requires-2
 is-blank-requires-2 c κs = search needs
 
--- src/lib.rt:146:13
 returns : tie.Need-returns
 unfolding stops
 returns c = rw (c .before .enum-told4 .given .1) (ap not (c .is-blank2 .ensures))
 
--- src/lib.rt:137:1
 returns-2 : tie.Need-returns-2
 unfolding stops
 returns-2 c = rw (c .enum-told .given .1)
 
--- src/lib.rt:137:1
 returns-3 : tie.Need-returns-3
 unfolding stops
 returns-3 c = rw (c .enum-told2 .given .1)
 
--- src/lib.rt:137:1
 returns-4 : tie.Need-returns-4
 unfolding stops
 returns-4 c = rw (c .before .enum-told3 .given .1) (c .is-blank .ensures)

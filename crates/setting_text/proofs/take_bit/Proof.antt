@@ -1,39 +1,29 @@
-use Rattle.setting_text.proofs.Lines.{said-twice}
+-- `setting_text::take_bit` meets its contract. The end, and no such fact before.
+use Rattle.setting_text.proofs.Lines.{said-twice, bit-line}
 use Rattle.rules.specs.Listing.{text}
-use Rattle.setting_text.proofs.Lines.{bit-line}
 use Rattle.setting_text.specs.Facts.{once, remade, single, withBit}
 use mathlib.Core.Path.{sym, _∙_}
 use borrow.Author.Needs.{needs}
 use Rattle.setting_text.proofs.take_bit.Statement.{statement}
 use Rattle.setting_text.proofs.take_bit.Tie as tie
-use Rattle.setting_text.proofs.take_bit.Reads as reads
-use Rattle.setting_text.proofs.take_bit.Lts as lts
-use Rattle.setting_text.proofs.line_end.Reads as line-end-reads
-use Rattle.setting_text.proofs.refused.Reads as refused-reads
 
--- src/lib.rt:401:9
 line-end-requires : tie.Need-line-end-requires
 line-end-requires c κs = search needs
 
--- src/lib.rt:404:13
 refused-requires : tie.Need-refused-requires
 refused-requires c κs = search needs
 
--- src/lib.rt:404:13
 returns : tie.Need-returns
 unfolding text
 returns c = c .refused .ensures ∙ sym (bit-line (c .before .before .before .before .before .args .d) (c .before .before .before .before .before .args .line .now) (c .before .before .before .before .before .args .c) _ (c .before .before .before .before .before .args .bit) (c .before .before .before .line-end .ensures) ∙ said-twice _ _ (c .before .before .before .line-end .result) _ (c .before .before .if1 .taken) (c .before .if2 .taken))
 
--- src/lib.rt:409:9
 returns-2 : tie.Need-returns-2
 unfolding once text remade single withBit
 returns-2 c = rw (bit-line (c .before .before .before .before .before .args .d) (c .before .before .before .before .before .args .line .now) (c .before .before .before .before .before .args .c) _ (c .before .before .before .before .before .args .bit) (c .before .before .before .line-end .ensures), c .before .before .if1 .taken, c .before .if2 .left)
 
--- src/lib.rt:412:5
 refused-requires-2 : tie.Need-refused-requires-2
 refused-requires-2 c κs = search needs
 
--- src/lib.rt:398:1
 returns-3 : tie.Need-returns-3
 unfolding once text
 returns-3 c = rw (bit-line (c .before .before .before .before .args .d) (c .before .before .before .before .args .line .now) (c .before .before .before .before .args .c) _ (c .before .before .before .before .args .bit) (c .before .before .line-end .ensures), c .before .if1 .left) (c .refused2 .ensures)

@@ -1,83 +1,59 @@
+-- `setting_text::take_channel` meets its contract. Four words with their numbers, and the end.
 use Rattle.rules.specs.Listing.{text}
-use mathlib.Core.Path.{sym, _∙_}
+use mathlib.Core.Path.{sym}
 use Rattle.setting_text.specs.Facts.{channelOf}
 use Rattle.setting_text.proofs.Lines.{channel-line}
 use borrow.Author.Needs.{needs}
 use Rattle.setting_text.proofs.take_channel.Statement.{statement}
 use Rattle.setting_text.proofs.take_channel.Tie as tie
-use Rattle.setting_text.proofs.take_channel.Reads as reads
-use Rattle.setting_text.proofs.take_channel.Lts as lts
-use Rattle.setting_text.proofs.add_channel.Reads as add-channel-reads
-use Rattle.setting_text.proofs.channel_of.Reads as channel-of-reads
-use Rattle.setting_text.proofs.line_end.Reads as line-end-reads
-use Rattle.setting_text.proofs.number_from.Reads as number-from-reads
-use Rattle.setting_text.proofs.refused.Reads as refused-reads
-use Rattle.setting_text.proofs.says_word.Reads as says-word-reads
-use Rattle.setting_text.proofs.yes_or_no.Reads as yes-or-no-reads
 
--- src/lib.rt:510:9
 number-from-requires : tie.Need-number-from-requires
 number-from-requires c κs = search needs
 
--- src/lib.rt:511:32
 slice-aggregate-says-word : tie.Need-slice-aggregate-says-word
 slice-aggregate-says-word c = search needs
 
--- src/lib.rt:511:9
 says-word-requires : tie.Need-says-word-requires
 says-word-requires c κs = search needs
 
--- src/lib.rt:512:9
 number-from-requires-2 : tie.Need-number-from-requires-2
 number-from-requires-2 c κs = search needs
 
--- src/lib.rt:513:32
 slice-aggregate-says-word-2 : tie.Need-slice-aggregate-says-word-2
 slice-aggregate-says-word-2 c = search needs
 
--- src/lib.rt:513:9
 says-word-requires-2 : tie.Need-says-word-requires-2
 says-word-requires-2 c κs = search needs
 
--- src/lib.rt:514:9
 number-from-requires-3 : tie.Need-number-from-requires-3
 number-from-requires-3 c κs = search needs
 
--- src/lib.rt:515:32
 slice-aggregate-says-word-3 : tie.Need-slice-aggregate-says-word-3
 slice-aggregate-says-word-3 c = search needs
 
--- src/lib.rt:515:9
 says-word-requires-3 : tie.Need-says-word-requires-3
 says-word-requires-3 c κs = search needs
 
--- src/lib.rt:516:9
 yes-or-no-requires : tie.Need-yes-or-no-requires
 yes-or-no-requires c κs = search needs
 
--- src/lib.rt:517:9
 line-end-requires : tie.Need-line-end-requires
 line-end-requires c κs = search needs
 
--- src/lib.rt:519:13
 channel-of-requires : tie.Need-channel-of-requires
 channel-of-requires c κs = (c .before .before .before .before .before .before .before .before .before .before .before .number-from .ensures .1, c .before .before .before .before .before .before .before .before .number-from2 .ensures .1)
 
--- src/lib.rt:520:9
 add-channel-requires : tie.Need-add-channel-requires
 unfolding channelOf
 add-channel-requires c κs = (c .before .before .before .before .before .before .before .before .before .before .before .before .before .before .pre, rw (c .channel-of .ensures) (c .before .before .before .before .before .before .before .before .before .number-from2 .ensures .1))
 
--- src/lib.rt:520:9
 returns : tie.Need-returns
 unfolding text
 returns c = rw (channel-line (c .before .before .before .before .before .before .before .before .before .before .before .before .before .before .before .args .d) (c .before .before .before .before .before .before .before .before .before .before .before .before .before .before .before .args .line .now) (c .before .before .before .before .before .before .before .before .before .before .before .before .before .before .before .args .c) _ _ _ _ _ _ _ _ (c .before .before .before .before .before .before .before .before .before .before .before .before .before .number-from .ensures .0) (c .before .before .before .before .before .before .before .before .before .before .before .says-word .ensures) (c .before .before .before .before .before .before .before .before .before .before .number-from2 .ensures .0) (c .before .before .before .before .before .before .before .before .says-word2 .ensures) (c .before .before .before .before .before .before .before .number-from3 .ensures .0) (c .before .before .before .before .before .says-word3 .ensures) (c .before .before .before .before .yes-or-no .ensures) (c .before .before .before .line-end .ensures), c .before .before .if1 .taken, sym (c .before .channel-of .ensures)) (c .add-channel .ensures)
 
--- src/lib.rt:523:5
 refused-requires : tie.Need-refused-requires
 refused-requires c κs = search needs
 
--- src/lib.rt:506:1
 returns-2 : tie.Need-returns-2
 unfolding text
 returns-2 c = rw (channel-line (c .before .before .before .before .before .before .before .before .before .before .before .before .before .before .args .d) (c .before .before .before .before .before .before .before .before .before .before .before .before .before .before .args .line .now) (c .before .before .before .before .before .before .before .before .before .before .before .before .before .before .args .c) _ _ _ _ _ _ _ _ (c .before .before .before .before .before .before .before .before .before .before .before .before .number-from .ensures .0) (c .before .before .before .before .before .before .before .before .before .before .says-word .ensures) (c .before .before .before .before .before .before .before .before .before .number-from2 .ensures .0) (c .before .before .before .before .before .before .before .says-word2 .ensures) (c .before .before .before .before .before .before .number-from3 .ensures .0) (c .before .before .before .before .says-word3 .ensures) (c .before .before .before .yes-or-no .ensures) (c .before .before .line-end .ensures), c .before .if1 .left) (c .refused .ensures)

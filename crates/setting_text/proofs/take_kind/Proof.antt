@@ -1,55 +1,40 @@
+-- `setting_text::take_kind` meets its contract. The next word decides.
 use Rattle.rules.specs.Listing.{text}
-use mathlib.Core.Path.{sym, _∙_}
+use mathlib.Core.Path.{sym}
 use Rattle.setting_text.specs.Texts.{seen}
 use Rattle.setting_text.specs.Facts.{kindLine}
 use borrow.Author.Needs.{needs}
 use Rattle.setting_text.proofs.take_kind.Statement.{statement}
 use Rattle.setting_text.proofs.take_kind.Tie as tie
-use Rattle.setting_text.proofs.take_kind.Reads as reads
-use Rattle.setting_text.proofs.take_kind.Lts as lts
-use Rattle.setting_text.proofs.next_word.Reads as next-word-reads
-use Rattle.setting_text.proofs.same_word.Reads as same-word-reads
-use Rattle.setting_text.proofs.take_access.Reads as take-access-reads
-use Rattle.setting_text.proofs.take_packets.Reads as take-packets-reads
 
--- src/lib.rt:630:9
 next-word-requires : tie.Need-next-word-requires
 next-word-requires c κs = search needs
 
--- src/lib.rt:633:16
 sub-word : tie.Need-sub-word
 sub-word c = search needs
 
--- src/lib.rt:633:16
 part-word-start : tie.Need-part-word-start
 part-word-start c = search needs
 
--- src/lib.rt:633:16
 part-word-end : tie.Need-part-word-end
 part-word-end c = search needs
 
--- src/lib.rt:634:35
 slice-aggregate-same-word : tie.Need-slice-aggregate-same-word
 slice-aggregate-same-word c = search needs
 
--- src/lib.rt:634:9
 same-word-requires : tie.Need-same-word-requires
 same-word-requires c κs = search needs
 
--- src/lib.rt:636:9
 take-packets-requires : tie.Need-take-packets-requires
 take-packets-requires c κs = search needs
 
--- src/lib.rt:636:9
 returns : tie.Need-returns
 unfolding text kindLine seen
 returns c = rw (c .before .before .before .before .before .next-word .ensures .word, sym (c .before .before .same-word .ensures), c .before .if1 .taken) (c .take-packets .ensures)
 
--- src/lib.rt:638:5
 take-access-requires : tie.Need-take-access-requires
 take-access-requires c κs = search needs
 
--- src/lib.rt:626:1
 returns-2 : tie.Need-returns-2
 unfolding text kindLine seen
 returns-2 c = rw (c .before .before .before .before .before .next-word .ensures .word, sym (c .before .before .same-word .ensures), c .before .if1 .left) (c .take-access .ensures)

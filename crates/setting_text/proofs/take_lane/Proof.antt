@@ -1,61 +1,44 @@
+-- `setting_text::take_lane` meets its contract. Three words with their numbers; the rest goes by what the lane carries.
 use Rattle.rules.specs.Listing.{text}
-use mathlib.Core.Path.{sym, _∙_}
+use mathlib.Core.Path.{sym}
 use Rattle.setting_text.proofs.Lines.{lane-line}
 use borrow.Author.Needs.{needs}
 use Rattle.setting_text.proofs.take_lane.Statement.{statement}
 use Rattle.setting_text.proofs.take_lane.Tie as tie
-use Rattle.setting_text.proofs.take_lane.Reads as reads
-use Rattle.setting_text.proofs.take_lane.Lts as lts
-use Rattle.setting_text.proofs.listed_at.Reads as listed-at-reads
-use Rattle.setting_text.proofs.number_from.Reads as number-from-reads
-use Rattle.setting_text.proofs.says_word.Reads as says-word-reads
-use Rattle.setting_text.proofs.take_kind.Reads as take-kind-reads
 
--- src/lib.rt:656:32
 slice-aggregate-says-word : tie.Need-slice-aggregate-says-word
 slice-aggregate-says-word c = search needs
 
--- src/lib.rt:656:9
 says-word-requires : tie.Need-says-word-requires
 says-word-requires c κs = search needs
 
--- src/lib.rt:657:9
 number-from-requires : tie.Need-number-from-requires
 number-from-requires c κs = search needs
 
--- src/lib.rt:658:32
 slice-aggregate-says-word-2 : tie.Need-slice-aggregate-says-word-2
 slice-aggregate-says-word-2 c = search needs
 
--- src/lib.rt:658:9
 says-word-requires-2 : tie.Need-says-word-requires-2
 says-word-requires-2 c κs = search needs
 
--- src/lib.rt:659:9
 number-from-requires-2 : tie.Need-number-from-requires-2
 number-from-requires-2 c κs = search needs
 
--- src/lib.rt:660:32
 slice-aggregate-says-word-3 : tie.Need-slice-aggregate-says-word-3
 slice-aggregate-says-word-3 c = search needs
 
--- src/lib.rt:660:9
 says-word-requires-3 : tie.Need-says-word-requires-3
 says-word-requires-3 c κs = search needs
 
--- src/lib.rt:661:9
 number-from-requires-3 : tie.Need-number-from-requires-3
 number-from-requires-3 c κs = search needs
 
--- src/lib.rt:663:9
 listed-at-requires : tie.Need-listed-at-requires
 listed-at-requires c κs = (c .before .before .before .before .before .before .before .before .before .before .before .pre .0, c .before .before .before .before .before .before .before .number-from .ensures .1, c .before .before .before .before .number-from2 .ensures .1)
 
--- src/lib.rt:664:5
 take-kind-requires : tie.Need-take-kind-requires
 take-kind-requires c κs = (c .before .before .before .before .before .before .before .before .before .before .before .before .pre .1, c .before .before .number-from3 .ensures .1)
 
--- src/lib.rt:652:1
 returns : tie.Need-returns
 unfolding text
 returns c = rw (lane-line (c .before .before .before .before .before .before .before .before .before .before .before .before .before .args .d) (c .before .before .before .before .before .before .before .before .before .before .before .before .before .args .line .now) (c .before .before .before .before .before .before .before .before .before .before .before .before .before .args .c) _ _ _ _ _ _ (c .before .before .before .before .before .before .before .before .before .before .says-word .ensures) (c .before .before .before .before .before .before .before .before .before .number-from .ensures .0) (c .before .before .before .before .before .before .before .says-word2 .ensures) (c .before .before .before .before .before .before .number-from2 .ensures .0) (c .before .before .before .before .says-word3 .ensures) (c .before .before .before .number-from3 .ensures .0), sym (c .before .listed-at .ensures)) (c .take-kind .ensures)

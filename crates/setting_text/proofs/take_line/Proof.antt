@@ -1,49 +1,35 @@
+-- `setting_text::take_line` meets its contract. The part before the comment, its first word, and what follows that.
 use mathlib.Core.Path.{sym}
 use lib.Seq.{length-take-le}
 use Rattle.setting_text.proofs.Lines.{take-line}
 use borrow.Author.Needs.{needs}
 use Rattle.setting_text.proofs.take_line.Statement.{statement}
 use Rattle.setting_text.proofs.take_line.Tie as tie
-use Rattle.setting_text.proofs.take_line.Reads as reads
-use Rattle.setting_text.proofs.take_line.Lts as lts
-use Rattle.setting_text.proofs.form_of.Reads as form-of-reads
-use Rattle.setting_text.proofs.next_word.Reads as next-word-reads
-use Rattle.setting_text.proofs.take_form.Reads as take-form-reads
-use Rattle.setting_text.proofs.until_stop.Reads as until-stop-reads
 
--- src/lib.rt:740:9
 until-stop-requires : tie.Need-until-stop-requires
 until-stop-requires c κs = search needs
 
--- src/lib.rt:741:9
 slice-aggregate-words : tie.Need-slice-aggregate-words
 slice-aggregate-words c = sym (length-take-le _ _ (c .before .until-stop .ensures .within))
 
--- src/lib.rt:742:9
 next-word-requires : tie.Need-next-word-requires
 next-word-requires c κs = search needs
 
--- src/lib.rt:745:16
 sub-word : tie.Need-sub-word
 sub-word c = search needs
 
--- src/lib.rt:745:16
 part-word-start : tie.Need-part-word-start
 part-word-start c = search needs
 
--- src/lib.rt:745:16
 part-word-end : tie.Need-part-word-end
 part-word-end c = search needs
 
--- src/lib.rt:746:9
 form-of-requires : tie.Need-form-of-requires
 form-of-requires c κs = search needs
 
--- src/lib.rt:753:5
 take-form-requires : tie.Need-take-form-requires
 take-form-requires c κs = search needs
 
--- src/lib.rt:736:1
 returns : tie.Need-returns
 returns c = rw (take-line (c .before .before .before .before .before .before .before .args .d) (c .before .before .before .before .before .before .before .args .line .now) _ _ _ _ (c .before .before .before .before .before .until-stop .ensures .counts) (c .before .before .before .next-word .ensures) (c .before .form-of .ensures)) (c .take-form .ensures)
 

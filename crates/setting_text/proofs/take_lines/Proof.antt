@@ -1,17 +1,12 @@
+-- `setting_text::take_lines` meets its contract. The lines before octet `at` were taken.
 use Prim.Native.Nat.{_-_}
 use mathlib.Core.Path.{sym}
-use native.Mathlib.Omega.{arith}
 use borrow.Author.Needs.{needs}
 use lib.ListN.{length, length-take, length-drop}
 use lib.Seq.{length-take-le}
 use Rattle.setting_text.proofs.Gathers.{Taking, begins, turn, ends, stops-here}
 use Rattle.setting_text.proofs.take_lines.Statement.{statement}
 use Rattle.setting_text.proofs.take_lines.Tie as tie
-use Rattle.setting_text.proofs.take_lines.Reads as reads
-use Rattle.setting_text.proofs.take_lines.Lts as lts
-use Rattle.setting_text.proofs.no_draft.Reads as no-draft-reads
-use Rattle.setting_text.proofs.take_line.Reads as take-line-reads
-use Rattle.setting_text.proofs.until_stop.Reads as until-stop-reads
 
 abbrev Inv-loop : tie.InvT-loop
 Inv-loop octets d₀ n₀ at₀ d n at = Taking octets d n at
@@ -19,63 +14,48 @@ Inv-loop octets d₀ n₀ at₀ d n at = Taking octets d n at
 abbrev μ-loop : tie.MeasureT-loop
 μ-loop octets d₀ n₀ at₀ d n at = length octets - at
 
--- src/lib.rt:760:9
 no-draft-requires : tie.Need-no-draft-requires Inv-loop μ-loop
 no-draft-requires c κs = search needs
 
--- src/lib.rt:763:5
 loop-holds : tie.Need-loop-holds Inv-loop μ-loop
 loop-holds c = begins _ _ (c .no-draft .ensures)
 
--- src/lib.rt:764:20
 sub-rest : tie.Need-sub-rest Inv-loop μ-loop
 sub-rest c = search needs
 
--- src/lib.rt:764:20
 part-rest-start : tie.Need-part-rest-start Inv-loop μ-loop
 part-rest-start c = search needs
 
--- src/lib.rt:764:20
 part-rest-end : tie.Need-part-rest-end Inv-loop μ-loop
 part-rest-end c = search needs
 
--- src/lib.rt:765:13
 until-stop-requires : tie.Need-until-stop-requires Inv-loop μ-loop
 until-stop-requires c κs = search needs
 
--- src/lib.rt:766:13
 slice-aggregate-line : tie.Need-slice-aggregate-line Inv-loop μ-loop
 slice-aggregate-line c = sym (length-take-le _ _ (c .before .until-stop .ensures .within))
 
--- src/lib.rt:767:13
 take-line-requires : tie.Need-take-line-requires Inv-loop μ-loop
 take-line-requires c κs = (c .before .before .before .before .loop .inv .room .channels, c .before .before .before .before .loop .inv .room .lanes)
 
--- src/lib.rt:770:13
 add-n : tie.Need-add-n Inv-loop μ-loop
 add-n c = search needs
 
--- src/lib.rt:771:18
 add-at : tie.Need-add-at Inv-loop μ-loop
 add-at c = let h = simp (length-take, length-drop) at (c .before .before .before .until-stop .ensures .within) in search needs
 
--- src/lib.rt:771:18
 add-at-2 : tie.Need-add-at-2 Inv-loop μ-loop
 add-at-2 c = let h = simp (length-take, length-drop) at (c .before .before .before .until-stop .ensures .within) in search needs
 
--- src/lib.rt:763:5
 loop-less : tie.Need-loop-less Inv-loop μ-loop
 loop-less c = search needs
 
--- src/lib.rt:763:5
 loop-again : tie.Need-loop-again Inv-loop μ-loop
 loop-again c = turn _ _ _ _ (c .before .before .before .before .before .before .loop .inv) _ _ (c .before .before .before .until-stop .ensures .counts) (c .before .take-line .ensures) (c .if1 .taken)
 
--- src/lib.rt:773:13
 returns : tie.Need-returns Inv-loop μ-loop
 returns c = stops-here _ _ _ _ (c .before .before .before .before .before .before .loop .inv) _ _ (c .before .before .before .until-stop .ensures .counts) (c .before .take-line .ensures) (c .if1 .left)
 
--- src/lib.rt:757:1
 returns-2 : tie.Need-returns-2 Inv-loop μ-loop
 returns-2 c = ends _ _ _ _ (c .before .loop .inv) (c .loop-test .left)
 

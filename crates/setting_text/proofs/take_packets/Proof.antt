@@ -1,55 +1,38 @@
+-- `setting_text::take_packets` meets its contract. Two words and a number, and the end.
 use Rattle.rules.specs.Listing.{text}
-use mathlib.Core.Path.{sym, _∙_}
 use Rattle.setting_text.proofs.Lines.{packets-line}
 use borrow.Author.Needs.{needs}
 use Rattle.setting_text.proofs.take_packets.Statement.{statement}
 use Rattle.setting_text.proofs.take_packets.Tie as tie
-use Rattle.setting_text.proofs.take_packets.Reads as reads
-use Rattle.setting_text.proofs.take_packets.Lts as lts
-use Rattle.setting_text.proofs.add_lane_of.Reads as add-lane-of-reads
-use Rattle.setting_text.proofs.line_end.Reads as line-end-reads
-use Rattle.setting_text.proofs.number_from.Reads as number-from-reads
-use Rattle.setting_text.proofs.refused.Reads as refused-reads
-use Rattle.setting_text.proofs.says_word.Reads as says-word-reads
 
--- src/lib.rt:597:32
 slice-aggregate-says-word : tie.Need-slice-aggregate-says-word
 slice-aggregate-says-word c = search needs
 
--- src/lib.rt:597:9
 says-word-requires : tie.Need-says-word-requires
 says-word-requires c κs = search needs
 
--- src/lib.rt:598:32
 slice-aggregate-says-word-2 : tie.Need-slice-aggregate-says-word-2
 slice-aggregate-says-word-2 c = search needs
 
--- src/lib.rt:598:9
 says-word-requires-2 : tie.Need-says-word-requires-2
 says-word-requires-2 c κs = search needs
 
--- src/lib.rt:599:9
 number-from-requires : tie.Need-number-from-requires
 number-from-requires c κs = search needs
 
--- src/lib.rt:600:9
 line-end-requires : tie.Need-line-end-requires
 line-end-requires c κs = search needs
 
--- src/lib.rt:602:9
 add-lane-of-requires : tie.Need-add-lane-of-requires
 add-lane-of-requires c κs = search needs
 
--- src/lib.rt:602:9
 returns : tie.Need-returns
 unfolding text
 returns c = rw (packets-line (c .before .before .before .before .before .before .before .before .before .args .d) (c .before .before .before .before .before .before .before .before .before .args .line .now) (c .before .before .before .before .before .before .before .before .before .args .c) (c .before .before .before .before .before .before .before .before .before .args .p) (c .before .before .before .before .before .before .before .before .before .args .map) _ _ _ _ (c .before .before .before .before .before .before .says-word .ensures) (c .before .before .before .before .says-word2 .ensures) (c .before .before .before .number-from .ensures .0) (c .before .before .line-end .ensures), c .before .if1 .taken) (c .add-lane-of .ensures)
 
--- src/lib.rt:605:5
 refused-requires : tie.Need-refused-requires
 refused-requires c κs = search needs
 
--- src/lib.rt:593:1
 returns-2 : tie.Need-returns-2
 unfolding text
 returns-2 c = rw (packets-line (c .before .before .before .before .before .before .before .before .before .args .d) (c .before .before .before .before .before .before .before .before .before .args .line .now) (c .before .before .before .before .before .before .before .before .before .args .c) (c .before .before .before .before .before .before .before .before .before .args .p) (c .before .before .before .before .before .before .before .before .before .args .map) _ _ _ _ (c .before .before .before .before .before .before .says-word .ensures) (c .before .before .before .before .says-word2 .ensures) (c .before .before .before .number-from .ensures .0) (c .before .before .line-end .ensures), c .before .if1 .left) (c .refused .ensures)

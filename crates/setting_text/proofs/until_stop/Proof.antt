@@ -1,5 +1,6 @@
+-- `setting_text::until_stop` meets its contract. No octet before i is one of these, so what is counted is i and what is counted from there.
 use Prim.Native.Nat.{_≤_, _-_, _+_}
-use mathlib.Core.Path.{_≡_, refl, sym, _∙_}
+use mathlib.Core.Path.{_≡_, sym, _∙_}
 use native.Mathlib.Omega.{arith}
 use native.Mathlib.Numerals.{add-one}
 use lib.ListN.{length, drop}
@@ -8,9 +9,6 @@ use Rattle.setting_text.specs.Texts.{stops, until}
 use Rattle.setting_text.proofs.Texts.{until-turn, until-found, until-none}
 use Rattle.setting_text.proofs.until_stop.Statement.{statement}
 use Rattle.setting_text.proofs.until_stop.Tie as tie
-use Rattle.setting_text.proofs.until_stop.Reads as reads
-use Rattle.setting_text.proofs.until_stop.Lts as lts
-use Rattle.setting_text.proofs.stops_at.Reads as stops-at-reads
 
 abbrev Inv-loop : tie.InvT-loop
 Inv-loop octets s i₀ i = (i ≤ length octets) × (until (stops s) octets ≡ i + until (stops s) (drop i octets))
@@ -18,45 +16,37 @@ Inv-loop octets s i₀ i = (i ≤ length octets) × (until (stops s) octets ≡ 
 abbrev μ-loop : tie.MeasureT-loop
 μ-loop octets s i₀ i = length octets - i
 
--- src/lib.rt:156:5
 loop-holds : tie.Need-loop-holds Inv-loop μ-loop
 loop-holds c = (search needs, omega arith)
 
--- src/lib.rt:157:17
 shared-slice-read-x : tie.Need-shared-slice-read-x Inv-loop μ-loop
 shared-slice-read-x c = search needs
 
--- src/lib.rt:158:13
 stops-at-requires : tie.Need-stops-at-requires Inv-loop μ-loop
 stops-at-requires c κs = search needs
 
--- src/lib.rt:160:13
 returns : tie.Need-returns Inv-loop μ-loop
-returns c = 
+returns c =
     let a = c .before .before .before .before .before .before .args in
     let l = c .before .before .before .before in
     let z = until-found (stops (a .s)) (a .octets .now) (l .loop .i) (c .before .before .before .loop-test .taken) (sym (c .before .stops-at .ensures) ∙ c .if1 .taken) in
     record { counts = omega (arith, l .loop .inv .1, z); within = l .loop .inv .0 }
 
--- src/lib.rt:162:9
 add-i : tie.Need-add-i Inv-loop μ-loop
 add-i c = search needs
 
--- src/lib.rt:156:5
 loop-less : tie.Need-loop-less Inv-loop μ-loop
 loop-less c = search needs
 
--- src/lib.rt:156:5
 loop-again : tie.Need-loop-again Inv-loop μ-loop
-loop-again c = 
+loop-again c =
     let a = c .before .before .before .before .before .before .args in
     let l = c .before .before .before .before in
     let z = until-turn (stops (a .s)) (a .octets .now) (l .loop .i) (c .before .before .before .loop-test .taken) (sym (c .before .stops-at .ensures) ∙ c .if1 .left) in
     (search needs, rw add-one (omega (arith, l .loop .inv .1, z)))
 
--- src/lib.rt:152:1
 returns-2 : tie.Need-returns-2 Inv-loop μ-loop
-returns-2 c = 
+returns-2 c =
     let l = c .before in
     let z = until-none (stops (c .before .before .before .args .s)) (c .before .before .before .args .octets .now) (l .loop .i) (c .loop-test .left) in
     record { counts = omega (arith, l .loop .inv .1, z); within = l .loop .inv .0 }

@@ -1,61 +1,43 @@
+-- `setting_text::yes_or_no` meets its contract. The next word is held against both.
 use Rattle.rules.specs.Listing.{text}
 use Rattle.setting_text.proofs.Steps.{yes-step}
 use borrow.Author.Needs.{needs}
 use Rattle.setting_text.proofs.yes_or_no.Statement.{statement}
 use Rattle.setting_text.proofs.yes_or_no.Tie as tie
-use Rattle.setting_text.proofs.yes_or_no.Reads as reads
-use Rattle.setting_text.proofs.yes_or_no.Lts as lts
-use Rattle.setting_text.proofs.either.Reads as either-reads
-use Rattle.setting_text.proofs.moved.Reads as moved-reads
-use Rattle.setting_text.proofs.next_word.Reads as next-word-reads
-use Rattle.setting_text.proofs.same_word.Reads as same-word-reads
-use Rattle.setting_text.proofs.yes_number.Reads as yes-number-reads
 
--- src/lib.rt:320:9
 next-word-requires : tie.Need-next-word-requires
 next-word-requires c κs = search needs
 
--- src/lib.rt:323:16
 sub-word : tie.Need-sub-word
 sub-word c = search needs
 
--- src/lib.rt:323:16
 part-word-start : tie.Need-part-word-start
 part-word-start c = search needs
 
--- src/lib.rt:323:16
 part-word-end : tie.Need-part-word-end
 part-word-end c = search needs
 
--- src/lib.rt:324:31
 slice-aggregate-same-word : tie.Need-slice-aggregate-same-word
 slice-aggregate-same-word c = search needs
 
--- src/lib.rt:324:9
 same-word-requires : tie.Need-same-word-requires
 same-word-requires c κs = search needs
 
--- src/lib.rt:325:30
 slice-aggregate-same-word-2 : tie.Need-slice-aggregate-same-word-2
 slice-aggregate-same-word-2 c = search needs
 
--- src/lib.rt:325:9
 same-word-requires-2 : tie.Need-same-word-requires-2
 same-word-requires-2 c κs = search needs
 
--- src/lib.rt:326:9
 yes-number-requires : tie.Need-yes-number-requires
 yes-number-requires c κs = search needs
 
--- src/lib.rt:327:9
 either-requires : tie.Need-either-requires
 either-requires c κs = search needs
 
--- src/lib.rt:328:5
 moved-requires : tie.Need-moved-requires
 moved-requires c κs = search needs
 
--- src/lib.rt:317:1
 returns : tie.Need-returns
 unfolding text
 returns c = yes-step _ _ _ _ _ (c .before .before .before .before .before .before .before .before .next-word .ensures) _ _ _ _ (c .before .before .before .before .before .same-word .ensures) (c .before .before .before .same-word2 .ensures) (c .before .before .yes-number .ensures) (c .before .either .ensures) (c .moved .ensures)

@@ -1,6 +1,7 @@
+-- `setting_text::zoneless_at` meets its contract. Each channel before i has a zone.
 use Prim.Native.Nat.{ℕ, _-_, _<_}
 use mathlib.Core.Bool.{false}
-use mathlib.Core.Path.{_≡_, sym, ap, _∙_}
+use mathlib.Core.Path.{_≡_, sym, _∙_}
 use borrow.Author.Needs.{needs}
 use borrow.Author.Tests.{eq-eqb, ne-eqb}
 use borrow.Author.Count.{below-none, below-more}
@@ -10,9 +11,6 @@ use Rattle.setting.proofs.Loops.{finds, misses}
 use Rattle.setting_text.specs.Facts.{zoneless}
 use Rattle.setting_text.proofs.zoneless_at.Statement.{statement}
 use Rattle.setting_text.proofs.zoneless_at.Tie as tie
-use Rattle.setting_text.proofs.zoneless_at.Reads as reads
-use Rattle.setting_text.proofs.zoneless_at.Lts as lts
-use Rattle.setting.proofs.zone_of.Reads as zone-of-reads
 
 abbrev Inv-loop : tie.InvT-loop
 Inv-loop s n i₀ i = (k : ℕ) → k < i → (zone s (channel s k) =? 0) ≡ false
@@ -20,40 +18,31 @@ Inv-loop s n i₀ i = (k : ℕ) → k < i → (zone s (channel s k) =? 0) ≡ fa
 abbrev μ-loop : tie.MeasureT-loop
 μ-loop s n i₀ i = n - i
 
--- src/lib.rt:786:5
 loop-holds : tie.Need-loop-holds Inv-loop μ-loop
 loop-holds c = below-none _
 
--- src/lib.rt:787:17
 mul-c : tie.Need-mul-c Inv-loop μ-loop
 mul-c c = search needs
 
--- src/lib.rt:787:17
 element-copy-out-c : tie.Need-element-copy-out-c Inv-loop μ-loop
 element-copy-out-c c = search needs
 
--- src/lib.rt:788:13
 zone-of-requires : tie.Need-zone-of-requires Inv-loop μ-loop
 zone-of-requires c κs = search needs
 
--- src/lib.rt:790:13
 returns : tie.Need-returns Inv-loop μ-loop
 unfolding zoneless
 returns c = finds _ _ _ (c .before .before .before .loop-test .taken) (eq-eqb _ _ (sym (c .before .zone-of .ensures) ∙ c .if1 .taken)) (c .before .before .before .before .loop .inv)
 
--- src/lib.rt:792:9
 add-i : tie.Need-add-i Inv-loop μ-loop
 add-i c = search needs
 
--- src/lib.rt:786:5
 loop-less : tie.Need-loop-less Inv-loop μ-loop
 loop-less c = search needs
 
--- src/lib.rt:786:5
 loop-again : tie.Need-loop-again Inv-loop μ-loop
 loop-again c = below-more _ _ (c .before .before .before .before .loop .inv) (ne-eqb _ _ (λ e. c .if1 .left (c .before .zone-of .ensures ∙ e)))
 
--- src/lib.rt:780:1
 returns-2 : tie.Need-returns-2 Inv-loop μ-loop
 unfolding zoneless
 returns-2 c = misses _ _ _ (c .loop-test .left) (c .before .loop .inv)
