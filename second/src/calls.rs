@@ -141,7 +141,7 @@ impl ReaderSlots {
 }
 
 /// The setting said so far, both ends, and the areas.
-struct Session {
+struct Ends {
     said: Said,
     writer: WriterSlots,
     reader: ReaderSlots,
@@ -151,9 +151,9 @@ struct Session {
     held: Vec<u8>,
 }
 
-impl Session {
-    fn new(said: Said) -> Session {
-        Session {
+impl Ends {
+    fn new(said: Said) -> Ends {
+        Ends {
             said,
             writer: WriterSlots::default(),
             reader: ReaderSlots::default(),
@@ -271,7 +271,7 @@ impl Session {
         match (word, numbers) {
             ("setting", &[length, spacecraft, bit, insert, check, listed, numbered]) => {
                 let front = [length, spacecraft % 65_536, bit % 256, insert, u64::from(check == 1), listed, numbered];
-                *self = Session::new(Said { front, ..Said::default() });
+                *self = Ends::new(Said { front, ..Said::default() });
             }
             ("channel", &[slot, virtual_channel, service, octets, ocf]) => {
                 put(&mut self.said.channels, slot, [virtual_channel % 256, service % 256, octets, u64::from(ocf == 1)]);
@@ -351,11 +351,11 @@ pub fn setting_lines(setting: &Setting) -> String {
 
 /// Obeys a script; each call's first line begins with the script's line.
 pub fn run(input: impl BufRead, out: &mut impl Write) -> Result<(), String> {
-    let mut session = Session::new(Said::default());
+    let mut ends = Ends::new(Said::default());
     for (place, line) in input.lines().enumerate() {
         let line = line.map_err(|error| error.to_string())?;
         let number = place + 1;
-        let printed = session.obey(&words(&line)).map_err(|expected| format!("line {number}: expected {expected}"))?;
+        let printed = ends.obey(&words(&line)).map_err(|expected| format!("line {number}: expected {expected}"))?;
         if !printed.is_empty() {
             write!(out, "{number} {printed}").map_err(|error| error.to_string())?;
         }
