@@ -19,7 +19,8 @@ use Rattle.unpack_text.specs.declared.Tally.{Tally}
 use Rattle.unpack_text.specs.Totals.{tallied, noTally}
 use Rattle.unpack_text.specs.Lines.{Wrote, frameLine}
 use Rattle.unpack_text.proofs.Placed.{placed-is}
-use Rattle.unpacking.specs.Stages.{Stage, got, ruled, told, advanced, through, begun, Reached, Took, Turned}
+use Rattle.unpacking.specs.declared.Turn.{Turn}
+use Rattle.unpacking.specs.Stages.{Stage, got, ruled, told, advanced, through, begun, Reached, Took, Turned, Finished}
 
 -- ---- stages
 
@@ -33,16 +34,23 @@ unfolding advanced got
 advanced-valid g f ok = read-valid (g .reader) f (g .held) (g .units) (g .records) ok
 
 -- Before the first frame.
-pub begins : (s : Setting) (l : Listener) (t : Tally) → settingOk s ≡ true → l ≡ setUpReader s → t ≡ noTally
-    → Reached s 0 (record { reader = l .state; held = replicate 65536 0; units = replicate 12288 0; records = replicate 9600 0; totals = t })
+begins : (s : Setting) → settingOk s ≡ true
+    → Reached s 0 (record { reader = (setUpReader s) .state; held = replicate 65536 0; units = replicate 12288 0; records = replicate 9600 0; totals = noTally })
 unfolding through begun
-begins s l t ok e q =
+begins s ok =
     record {
       frames = [];
       many = refl;
-      stage = rw (e, q);
-      valid = ap (λ (x : Listener). readerOk (x .state)) (e ∙ setup-accepted s ok .0) ∙ setup-accepted s ok .2;
+      stage = refl;
+      valid = ap (λ (x : Listener). readerOk (x .state)) (setup-accepted s ok .0) ∙ setup-accepted s ok .2;
     }
+
+pub begins-turn : (s : Setting) (u : Turn) → settingOk s ≡ true
+    → u ≡ record { state = (setUpReader s) .state; totals = noTally; count = 0; more = true; good = true }
+    → (u .count ≡ 0) × Reached s 0 (record { reader = u .state; held = replicate 65536 0; units = replicate 12288 0; records = replicate 9600 0; totals = u .totals })
+begins-turn s u ok e =
+    subst (λ (x : Turn). (x .count ≡ 0) × Reached s 0 (record { reader = x .state; held = replicate 65536 0; units = replicate 12288 0; records = replicate 9600 0; totals = x .totals }))
+    (sym e) (refl, begins s ok)
 
 -- After one more.
 pub goes : {s : Setting} {k : ℕ} {g : Stage} {f area : List ℕ} {g′ : Stage} {area′ : List ℕ} {v : Verdict} {units octets end : ℕ}
@@ -94,3 +102,7 @@ module _ (k : ℕ) (r : Reader) (t : Tally) (f h u c area : List ℕ) where
         gave = ap (λ (x : Answer). x .units) a;
         long = ap (λ (x : Answer). x .octets) a;
       }
+
+-- Where the frames end, the areas may go.
+pub finished : {s : Setting} {k n : ℕ} {g : Stage} → Reached s k g → n ≡ k → Finished s n (g .reader) (g .totals)
+finished {s} {k} {n} {g} p e = record { held = g .held; units = g .units; records = g .records; reached = subst (λ (i : ℕ). Reached s i g) (sym e) p }

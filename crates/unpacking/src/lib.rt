@@ -10,6 +10,8 @@ ghost use mathlib.Core.Bool.{true};
 ghost use Prim.Native.Nat.{_+_, _*_, _≤_};
 ghost use lib.ListN.{length};
 ghost use Rattle.rules.specs.Settings.{settingOk, readerOk};
+ghost use Rattle.rules.specs.Calls.{setUpReader};
+ghost use Rattle.unpack_text.specs.Totals.{noTally};
 ghost use Rattle.unpack_text.specs.Lines.{Wrote};
 ghost use Rattle.unpacking.specs.Names.{suffix};
 ghost use Rattle.unpacking.specs.Stages.{Reached, Took, Room, Turned, Finished};
@@ -165,28 +167,6 @@ fn output_of(v: Verdict) -> usize {
     }
 }
 
-// Writes the units and the records that a frame gave.
-fn write_units(
-    fds: [i32; 9],
-    i: usize,
-    units: &[u8],
-    records: &[u8],
-    name: &mut [u8],
-    n: usize,
-    lanes: usize,
-) -> bool
-    requires { ⌜ n + 30 ≤ length (now name) ⌝ }
-{
-    if units.len() == 0 {
-        return true;
-    }
-    let good = write_to(fds, i, units, name, n, lanes);
-    if good {
-        return write_to(fds, lanes, records, name, n, lanes);
-    }
-    false
-}
-
 // Prints a frame's line, and writes the units and the records that it gave.
 fn put_out(
     line: &[u8],
@@ -202,7 +182,13 @@ fn put_out(
 {
     let printed = print(line);
     if printed {
-        return write_units(fds, i, units, records, name, n, lanes);
+        if units.len() == 0 {
+            return true;
+        }
+        let good = write_to(fds, i, units, name, n, lanes);
+        if good {
+            return write_to(fds, lanes, records, name, n, lanes);
+        }
     }
     false
 }
@@ -274,7 +260,6 @@ fn turn_frame(
     fd: i32,
     recording: &[u8],
     frame: &mut [u8],
-    size: usize,
     held: &mut [u8],
     units: &mut [u8],
     records: &mut [u8],
@@ -283,9 +268,10 @@ fn turn_frame(
     name: &mut [u8],
     n: usize,
 ) -> Turn
-    requires { ⌜ Reached s k (record { reader = r; held = now held; units = now units; records = now records; totals = t }) × Room k (now units) (now records) (now area) (now name) n × (size ≤ length (now frame)) ⌝ }
+    requires { ⌜ Reached s k (record { reader = r; held = now held; units = now units; records = now records; totals = t }) × Room k (now units) (now records) (now area) (now name) n × (s .length ≤ length (now frame)) ⌝ }
     ensures { λ u. ⌜ Turned s k (u .count) (u .more) (record { reader = u .state; held = now (held .exit); units = now (units .exit); records = now (records .exit); totals = u .totals }) ⌝ }
 {
+    let size = s.length;
     let came = read_frame(fd, frame, size);
     if came.failed {
         console::say_failed(b"unpack", recording);
@@ -325,6 +311,22 @@ fn turn_frame(
     )
 }
 
+// Before the first frame.
+fn first_turn(s: Setting) -> Turn
+    ensures { λ u. ⌜ u ≡ record { state = (setUpReader s) .state; totals = noTally; count = 0; more = true; good = true } ⌝ }
+{
+    let l = reader::set_up(s);
+    let state = l.state;
+    let totals = unpack_text::no_tally();
+    Turn {
+        state: state,
+        totals: totals,
+        count: 0,
+        more: true,
+        good: true,
+    }
+}
+
 // Takes the recording's frames to its end, or to the first failure, which it says. A proved loop has to end: this one counts
 // its frames, to a number that no run reaches.
 fn take_all(s: Setting, fd: i32, recording: &[u8], fds: [i32; 9], name: &mut [u8], n: usize) -> Turn
@@ -336,22 +338,19 @@ fn take_all(s: Setting, fd: i32, recording: &[u8], fds: [i32; 9], name: &mut [u8
     let mut records = [0u8; 9600];
     let mut frame = [0u8; 4096];
     let mut area = [0u8; 176];
-    let l = reader::set_up(s);
-    let mut state = l.state;
-    let mut totals = unpack_text::no_tally();
-    let size = s.length;
-    let mut good = true;
+    let mut u = first_turn(s);
     let mut k: u64 = 0;
     while k < 18446744073709551615 {
-        let u = turn_frame(
+        let r = u.state;
+        let t = u.totals;
+        u = turn_frame(
             s,
             k,
-            state,
-            totals,
+            r,
+            t,
             fd,
             recording,
             &mut frame,
-            size,
             &mut held,
             &mut units,
             &mut records,
@@ -360,23 +359,12 @@ fn take_all(s: Setting, fd: i32, recording: &[u8], fds: [i32; 9], name: &mut [u8
             name,
             n,
         );
-        let after = u.state;
-        state = after;
-        let counted = u.totals;
-        totals = counted;
-        good = u.good;
         k = u.count;
         if u.more {} else {
             break;
         }
     }
-    Turn {
-        state: state,
-        totals: totals,
-        count: k,
-        more: false,
-        good: good,
-    }
+    u
 }
 
 // ---- totals
