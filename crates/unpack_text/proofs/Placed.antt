@@ -1,10 +1,8 @@
 -- The class of a read's answer and the frame's header say whose the frame is: what the rules' verdict says.
 use Prim.Native.Nat.{ℕ, zero, suc}
-use mathlib.Core.Path.{_≡_, refl, sym, _∙_}
+use mathlib.Core.Path.{_≡_, refl, sym}
 use mathlib.Core.Bool.{Bool, true, false, cond, not}
 use mathlib.Core.List.{List}
-use native.Mathlib.Omega.{arith}
-use Rattle.rules.specs.declared.Class.{Class}
 use Rattle.rules.specs.declared.Place.{Place}
 use Rattle.rules.specs.declared.Reader.{Reader}
 use Rattle.rules.specs.declared.Setting.{Setting}
@@ -54,9 +52,6 @@ verdict-again : (r : Reader) (f h u c : List ℕ) → judged (r .setting) f (ref
 unfolding verdict judge
 verdict-again r f h u c = by (readerOk r) (areasShort h u c)
   where
-    s : Setting
-    s = r .setting
-
     by : (a b : Bool) → judged (r .setting) f (refusalIn (cond (not a) (Verdict.Refused 1) (cond b (Verdict.Refused 2) (judged (r .setting) f (given (refusals (r .setting) f))))))
         ≡ cond (not a) (Verdict.Refused 1) (cond b (Verdict.Refused 2) (judged (r .setting) f (given (refusals (r .setting) f))))
     by true true = unfold judged refusalIn in refl

@@ -1,7 +1,7 @@
 -- Texts of bounded length, put one after another.
 use Prim.Native.Nat.{ℕ, _+_, _≤_}
-use mathlib.Core.Path.{_≡_, refl, sym, subst}
-use mathlib.Core.List.{List, [], _∷_, _++_}
+use mathlib.Core.Path.{_≡_, sym, subst}
+use mathlib.Core.List.{List, _++_}
 use lib.ListN.{length, length-append}
 use native.Mathlib.Omega.{arith}
 use Rattle.rules.specs.declared.Class.{Class}

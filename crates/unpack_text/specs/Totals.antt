@@ -1,6 +1,6 @@
 -- The totals of a recording, frame by frame.
 use Prim.Native.Nat.{ℕ, zero, suc, _+_, min}
-use mathlib.Core.List.{List, [], _∷_}
+use mathlib.Core.List.{List}
 use lib.ListN.{getD, set, replicate}
 use Rattle.rules.specs.declared.Answer.{Answer}
 use Rattle.rules.specs.declared.Class.{Class}

@@ -2,12 +2,12 @@
 ghost use mathlib.Core.Path.{_≡_};
 ghost use mathlib.Core.List.{_++_};
 ghost use Prim.Native.Nat.{_+_, _≤_};
-ghost use lib.ListN.{length, getD, set};
+ghost use lib.ListN.{length, getD};
 ghost use Rattle.rules.specs.Settings.{lane};
 ghost use Rattle.rules.specs.Frames.{vc, map, bypass};
 ghost use Rattle.rules.specs.Refusals.{channelAt, laneAt, onChannel, passed, judged};
 ghost use Rattle.rules.specs.Calls.{classRefusal};
-ghost use Rattle.rules.specs.Listing.{text, decimal};
+ghost use Rattle.rules.specs.Listing.{decimal};
 ghost use Rattle.header.specs.Heads.{headOf};
 ghost use Rattle.unpack_text.specs.Totals.{add, classed, summed, laneAfter, channelAfter, inLane, inChannel, lanesAfter, channelsAfter, tallied, noTally, heldIn};
 ghost use Rattle.unpack_text.specs.Lines.{Wrote, third, givenText, restText, frameLine, laneLine, channelLine, classesText, sumsText, totalLine, title};

@@ -1,9 +1,9 @@
 -- From frame to frame.
-use Prim.Native.Nat.{ℕ, suc, _+_, _*_, _≤_, _<_}
+use Prim.Native.Nat.{ℕ, _+_, _*_, _≤_}
 use mathlib.Core.Path.{_≡_, refl, sym, ap, ap₂, subst, _∙_}
 use mathlib.Core.Bool.{Bool, true, false, false≢true}
 use mathlib.Core.List.{List, [], _∷_, _++_}
-use lib.ListN.{length, length-append, replicate}
+use lib.ListN.{length-append, replicate}
 use native.Mathlib.Omega.{arith}
 use Rattle.rules.specs.declared.Answer.{Answer}
 use Rattle.rules.specs.declared.Listener.{Listener}
@@ -11,7 +11,7 @@ use Rattle.rules.specs.declared.Reader.{Reader}
 use Rattle.rules.specs.declared.Setting.{Setting}
 use Rattle.rules.specs.declared.Taken.{Taken}
 use Rattle.rules.specs.declared.Verdict.{Verdict}
-use Rattle.rules.specs.Settings.{settingOk, readerOk, freshReader}
+use Rattle.rules.specs.Settings.{settingOk, readerOk}
 use Rattle.rules.specs.Refusals.{judged}
 use Rattle.rules.specs.Calls.{setUpReader, Got, read, verdict, classRefusal}
 use Rattle.rules.proofs.Calls.{setup-accepted, read-valid, Small, read-fits}

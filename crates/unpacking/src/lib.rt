@@ -2,12 +2,13 @@
 // units by lane, records, a line a frame and totals.
 //
 // Proved: before each frame, state, areas and totals are those to which the rules' `read` comes from a fresh state over as
-// many frames, and the state is valid (`Reached`); so they are where the recording ends (`take_all`); the octets put for printing of frame k are its line, of the rules' verdict
-// and answer (`take_frame`); a name is its prefix and suffix (`put_name`). Shown by runs: that the frames are those of the
-// recording and that what is put is written, for no contract can speak of what a call of the system reads or writes.
+// many frames, and the state is valid (`Reached`); state and totals are so too where the frames end (`take_all`). The octets
+// put for printing of frame k are its line, of the rules' verdict and answer (`take_frame`), and a name is its prefix and
+// suffix (`put_name`). Shown by runs: that the frames are those of the recording and that what is put is written, for no
+// contract can speak of what a call of the system reads or writes.
 ghost use mathlib.Core.Path.{_≡_};
 ghost use mathlib.Core.Bool.{true};
-ghost use Prim.Native.Nat.{_+_, _*_, _≤_};
+ghost use Prim.Native.Nat.{_+_, _≤_};
 ghost use lib.ListN.{length};
 ghost use Rattle.rules.specs.Settings.{settingOk, readerOk};
 ghost use Rattle.rules.specs.Calls.{setUpReader};
