@@ -1,0 +1,5 @@
+// A good file, then one with an idle packet: nothing is written.
+
+fn main() {
+    packing::run();
+}
