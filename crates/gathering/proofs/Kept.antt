@@ -5,13 +5,13 @@ use native.Mathlib.Nat.{le-refl, sub-zero}
 use native.Mathlib.Omega.{arith}
 use mathlib.Core.Bool.{Bool, true, false, cond, _&&_}
 use mathlib.Core.List.{List, [], _∷_, _++_}
-use lib.ListN.{length, getD, take, drop, length-append, length-drop}
-use lib.Seq.{length-take-le, take-all, take-take, take-add, take-at, drop-at, drop-drop, getD-take}
-use borrow.Author.Tests.{leb-true, leb-false, le-leb, lt-leb, eq-eqb, ne-eqb, le-ltb}
+use lib.ListN.{length, take, drop, length-append, length-drop}
+use lib.Seq.{length-take-le, take-all, take-add, take-at, drop-at, drop-drop, getD-take}
+use borrow.Author.Tests.{leb-true, le-leb, eq-eqb, ne-eqb, le-ltb}
 use Rattle.rules.specs.declared.Kind.the-variants.{Packets}
 use Rattle.rules.specs.declared.Measure.{Measure}
 use Rattle.rules.specs.declared.Measure.the-variants.{Lacks, Packet, Idle, Unreadable}
-use Rattle.rules.specs.Tests.{_≤?_, _=?_, all}
+use Rattle.rules.specs.Tests.{_≤?_, all}
 use Rattle.rules.specs.Areas.{joined}
 use Rattle.rules.specs.Packets.{measured, measure, whole, packetsUpTo, packets}
 use Rattle.rules.specs.Writing.{noneAbove, batchOk}

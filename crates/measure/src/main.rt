@@ -6,7 +6,6 @@ use rules::Channel;
 use rules::Kind;
 use rules::Lane;
 use rules::Outcome;
-use rules::Reader;
 use rules::Setting;
 use rules::Writer;
 

@@ -9,7 +9,6 @@ ghost use lib.ListN.{length};
 ghost use Rattle.io.specs.Counts.{Counts};
 ghost use Rattle.packing.specs.Words.{begins as beginsWith, lane, nameOf};
 use gathering::Wrong;
-use rules::Channel;
 use rules::Kind;
 use rules::Lane;
 use rules::Outcome;
@@ -443,7 +442,7 @@ fn unit_on(
 // ---- the setting's lanes
 
 // A lane of the setting, by its number; a lane of zeros where there is none.
-fn lane_at(s: Setting, l: usize) -> Lane {
+fn lane_of(s: Setting, l: usize) -> Lane {
     if l < 8 {
         return s.lanes[l];
     }
@@ -477,7 +476,7 @@ fn file_on(writing: bool, c: Course, l: usize, path: &[u8], insert: &[u8], ocf: 
     }
     let w = c.state;
     let s = w.setting;
-    let a = lane_at(s, l);
+    let a = lane_of(s, l);
     let o = ocf_of(s, a);
     let n = within(o, ocf);
     let kind = a.kind;

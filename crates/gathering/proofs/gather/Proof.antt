@@ -2,16 +2,13 @@
 use mathlib.Core.Path.{_≡_, sym, _∙_}
 use Prim.Native.Nat.{_+_, _-_, _≤_}
 use native.Mathlib.Omega.{arith}
-use lib.ListN.{length, drop}
+use lib.ListN.{length}
 use borrow.Author.Needs.{needs}
 use Rattle.packets.proofs.Batches.{none-here, long-here, cut-here, more-here}
 use Rattle.gathering.specs.Gathering.{gathered}
 use Rattle.gathering.proofs.Turns.{more, from-none, at-end, no-packet, too-long, no-room, one-more}
 use Rattle.gathering.proofs.gather.Statement.{statement}
 use Rattle.gathering.proofs.gather.Tie as tie
-use Rattle.gathering.proofs.gather.Reads as reads
-use Rattle.gathering.proofs.gather.Lts as lts
-use Rattle.packets.proofs.measure_at.Reads as measure-at-reads
 
 abbrev Inv-loop : tie.InvT-loop
 Inv-loop s longest i₀ i = (i ≤ length s) × (i ≤ 32768) × (gathered longest s ≡ i + more longest s i)
@@ -19,31 +16,24 @@ Inv-loop s longest i₀ i = (i ≤ length s) × (i ≤ 32768) × (gathered longe
 abbrev μ-loop : tie.MeasureT-loop
 μ-loop s longest i₀ i = length s - i
 
--- src/lib.rt:25:5
 loop-holds : tie.Need-loop-holds Inv-loop μ-loop
 loop-holds c = (search needs, search needs, from-none (c .before .args .longest) (c .before .args .s .now))
 
--- src/lib.rt:26:37
 sub-measure-at : tie.Need-sub-measure-at Inv-loop μ-loop
 sub-measure-at c = search needs
 
--- src/lib.rt:26:37
 part-measure-at-start : tie.Need-part-measure-at-start Inv-loop μ-loop
 part-measure-at-start c = search needs
 
--- src/lib.rt:26:37
 part-measure-at-end : tie.Need-part-measure-at-end Inv-loop μ-loop
 part-measure-at-end c = search needs
 
--- src/lib.rt:26:13
 measure-at-requires : tie.Need-measure-at-requires Inv-loop μ-loop
 measure-at-requires c κs = search needs
 
--- src/lib.rt:27:29
 enum-known-m : tie.Need-enum-known-m Inv-loop μ-loop
 enum-known-m c = search needs
 
--- src/lib.rt:28:13
 returns : tie.Need-returns Inv-loop μ-loop
 returns c =
     let top = c .before .before .before .before in
@@ -51,11 +41,9 @@ returns c =
     let none = none-here (a .s .now) (top .loop .i) _ (c .before .measure-at .ensures) (c .match .keys2) in
     (sym (top .loop .inv .2 ∙ no-packet (a .longest) (a .s .now) (top .loop .i) none), search needs)
 
--- src/lib.rt:30:12
 sub-if1 : tie.Need-sub-if1 Inv-loop μ-loop
 sub-if1 c = search needs
 
--- src/lib.rt:31:13
 returns-2 : tie.Need-returns-2 Inv-loop μ-loop
 returns-2 c =
     let told = c .before .before in
@@ -64,7 +52,6 @@ returns-2 c =
     let cut = cut-here (a .s .now) (top .loop .i) _ (told .before .before .measure-at .ensures) _ (told .m .given .1) (c .if1 .taken) in
     (sym (top .loop .inv .2 ∙ no-packet (a .longest) (a .s .now) (top .loop .i) cut), search needs)
 
--- src/lib.rt:34:13
 returns-3 : tie.Need-returns-3 Inv-loop μ-loop
 returns-3 c =
     let told = c .before .before .before in
@@ -73,11 +60,9 @@ returns-3 c =
     let whole = more-here (a .s .now) (top .loop .i) _ (told .before .before .measure-at .ensures) _ (told .m .given .1) (c .before .if1 .left) in
     (sym (top .loop .inv .2 ∙ too-long (a .longest) (a .s .now) (top .loop .i) _ (c .before .if1 .left) whole (c .if2 .taken)), search needs)
 
--- src/lib.rt:36:12
 sub-if3 : tie.Need-sub-if3 Inv-loop μ-loop
 sub-if3 c = search needs
 
--- src/lib.rt:37:13
 returns-4 : tie.Need-returns-4 Inv-loop μ-loop
 returns-4 c =
     let told = c .before .before .before .before in
@@ -86,11 +71,9 @@ returns-4 c =
     let whole = more-here (a .s .now) (top .loop .i) _ (told .before .before .measure-at .ensures) _ (told .m .given .1) (c .before .before .if1 .left) in
     (sym (top .loop .inv .2 ∙ no-room (a .longest) (a .s .now) (top .loop .i) _ (c .before .before .if1 .left) whole (c .if3 .taken)), search needs)
 
--- src/lib.rt:39:9
 add-i : tie.Need-add-i Inv-loop μ-loop
 add-i c = search needs
 
--- src/lib.rt:25:5
 loop-less : tie.Need-loop-less Inv-loop μ-loop
 loop-less c =
     let told = c .before .before .before .before in
@@ -98,7 +81,6 @@ loop-less c =
     let long = long-here (top .before .before .args .s .now) (top .loop .i) _ (told .before .before .measure-at .ensures) _ (told .m .given .1) in
     omega arith
 
--- src/lib.rt:25:5
 loop-again : tie.Need-loop-again Inv-loop μ-loop
 loop-again c =
     let told = c .before .before .before .before in
@@ -107,7 +89,6 @@ loop-again c =
     let whole = more-here (a .s .now) (top .loop .i) _ (told .before .before .measure-at .ensures) _ (told .m .given .1) (c .before .before .if1 .left) in
     (search needs, search needs, top .loop .inv .2 ∙ one-more (a .longest) (a .s .now) (top .loop .i) _ (c .before .before .if1 .left) whole (c .before .if2 .left) (c .if3 .left))
 
--- src/lib.rt:20:1
 returns-5 : tie.Need-returns-5 Inv-loop μ-loop
 returns-5 c =
     let top = c .before in

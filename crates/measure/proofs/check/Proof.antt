@@ -1,16 +1,10 @@
 -- The frames are counted, and the area keeps its length.
 use mathlib.Core.Path.{_≡_}
-use Prim.Native.Nat.{_-_, _≤_}
+use Prim.Native.Nat.{_-_}
 use lib.ListN.{length}
 use borrow.Author.Needs.{needs}
 use Rattle.measure.proofs.check.Statement.{statement}
 use Rattle.measure.proofs.check.Tie as tie
-use Rattle.measure.proofs.check.Reads as reads
-use Rattle.measure.proofs.check.Lts as lts
-use Rattle.fecf.proofs.check_of.Reads as check-of-reads
-use Rattle.measure.proofs.next.Reads as next-reads
-use Rattle.measure.proofs.plus.Reads as plus-reads
-use Rattle.measure.proofs.tell.Reads as tell-reads
 
 abbrev Inv-loop : tie.InvT-loop
 Inv-loop area₀ k₀ sum₀ area k sum = length area ≡ length area₀
@@ -18,55 +12,42 @@ Inv-loop area₀ k₀ sum₀ area k sum = length area ≡ length area₀
 abbrev μ-loop : tie.MeasureT-loop
 μ-loop area₀ k₀ sum₀ area k sum = 18446744073709551615 - k
 
--- src/main.rt:129:5
 loop-holds : tie.Need-loop-holds Inv-loop μ-loop
 loop-holds c = search needs
 
--- src/main.rt:130:13
 next-requires : tie.Need-next-requires Inv-loop μ-loop
 next-requires c κs = search needs
 
--- src/main.rt:132:13
 tell-requires : tie.Need-tell-requires Inv-loop μ-loop
 tell-requires c κs = search needs
 
--- src/main.rt:133:13
 same-length : tie.Need-same-length Inv-loop μ-loop
 same-length c = search needs
 
--- src/main.rt:133:13
 returns : tie.Need-returns Inv-loop μ-loop
 returns c = search needs
 
--- src/main.rt:135:13
 check-of-requires : tie.Need-check-of-requires Inv-loop μ-loop
 check-of-requires c κs = search needs
 
--- src/main.rt:136:25
 cast-plus : tie.Need-cast-plus Inv-loop μ-loop
 cast-plus c = search needs
 
--- src/main.rt:136:9
 plus-requires : tie.Need-plus-requires Inv-loop μ-loop
 plus-requires c κs = search needs
 
--- src/main.rt:137:9
 add-k : tie.Need-add-k Inv-loop μ-loop
 add-k c = search needs
 
--- src/main.rt:129:5
 loop-less : tie.Need-loop-less Inv-loop μ-loop
 loop-less c = search needs
 
--- src/main.rt:129:5
 loop-again : tie.Need-loop-again Inv-loop μ-loop
 loop-again c = search needs
 
--- src/main.rt:126:1
 same-length-2 : tie.Need-same-length-2 Inv-loop μ-loop
 same-length-2 c = search needs
 
--- src/main.rt:126:1
 returns-2 : tie.Need-returns-2 Inv-loop μ-loop
 returns-2 c = search needs
 

@@ -1,16 +1,10 @@
 -- The frames are counted, and the area keeps its length.
 use mathlib.Core.Path.{_≡_}
-use Prim.Native.Nat.{_-_, _≤_}
+use Prim.Native.Nat.{_-_}
 use lib.ListN.{length}
 use borrow.Author.Needs.{needs}
 use Rattle.measure.proofs.pass.Statement.{statement}
 use Rattle.measure.proofs.pass.Tie as tie
-use Rattle.measure.proofs.pass.Reads as reads
-use Rattle.measure.proofs.pass.Lts as lts
-use Rattle.measure.proofs.next.Reads as next-reads
-use Rattle.measure.proofs.plus.Reads as plus-reads
-use Rattle.measure.proofs.tell.Reads as tell-reads
-use Rattle.measure.proofs.wide.Reads as wide-reads
 
 abbrev Inv-loop : tie.InvT-loop
 Inv-loop area₀ k₀ sum₀ area k sum = length area ≡ length area₀
@@ -18,55 +12,42 @@ Inv-loop area₀ k₀ sum₀ area k sum = length area ≡ length area₀
 abbrev μ-loop : tie.MeasureT-loop
 μ-loop area₀ k₀ sum₀ area k sum = 18446744073709551615 - k
 
--- src/main.rt:112:5
 loop-holds : tie.Need-loop-holds Inv-loop μ-loop
 loop-holds c = search needs
 
--- src/main.rt:113:13
 next-requires : tie.Need-next-requires Inv-loop μ-loop
 next-requires c κs = search needs
 
--- src/main.rt:115:13
 tell-requires : tie.Need-tell-requires Inv-loop μ-loop
 tell-requires c κs = search needs
 
--- src/main.rt:116:13
 same-length : tie.Need-same-length Inv-loop μ-loop
 same-length c = search needs
 
--- src/main.rt:116:13
 returns : tie.Need-returns Inv-loop μ-loop
 returns c = search needs
 
--- src/main.rt:119:34
 slice-read-wide : tie.Need-slice-read-wide Inv-loop μ-loop
 slice-read-wide c = search needs
 
--- src/main.rt:119:29
 wide-requires : tie.Need-wide-requires Inv-loop μ-loop
 wide-requires c κs = search needs
 
--- src/main.rt:119:13
 plus-requires : tie.Need-plus-requires Inv-loop μ-loop
 plus-requires c κs = search needs
 
--- src/main.rt:121:9
 add-k : tie.Need-add-k Inv-loop μ-loop
 add-k c = search needs
 
--- src/main.rt:112:5
 loop-less : tie.Need-loop-less Inv-loop μ-loop
 loop-less c = search needs
 
--- src/main.rt:112:5
 loop-again : tie.Need-loop-again Inv-loop μ-loop
 loop-again c = search needs
 
--- src/main.rt:109:1
 same-length-2 : tie.Need-same-length-2 Inv-loop μ-loop
 same-length-2 c = search needs
 
--- src/main.rt:109:1
 returns-2 : tie.Need-returns-2 Inv-loop μ-loop
 returns-2 c = search needs
 

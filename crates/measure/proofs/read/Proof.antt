@@ -1,19 +1,10 @@
 -- The frames are counted, and the areas keep their lengths.
 use mathlib.Core.Path.{_≡_}
-use Prim.Native.Nat.{_-_, _≤_}
+use Prim.Native.Nat.{_-_}
 use lib.ListN.{length}
 use borrow.Author.Needs.{needs}
 use Rattle.measure.proofs.read.Statement.{statement}
 use Rattle.measure.proofs.read.Tie as tie
-use Rattle.measure.proofs.read.Reads as reads
-use Rattle.measure.proofs.read.Lts as lts
-use Rattle.measure.proofs.next.Reads as next-reads
-use Rattle.measure.proofs.plus.Reads as plus-reads
-use Rattle.measure.proofs.setting_of.Reads as setting-of-reads
-use Rattle.measure.proofs.tell.Reads as tell-reads
-use Rattle.measure.proofs.worth.Reads as worth-reads
-use Rattle.reader.proofs.read.Reads as read-reads
-use Rattle.reader.proofs.set_up.Reads as set-up-reads
 
 abbrev Inv-loop : tie.InvT-loop
 Inv-loop size area₀ held₀ units₀ records₀ state₀ k₀ sum₀ area held units records state k sum = (length area ≡ length area₀) × (length held ≡ 65536) × (length units ≡ 12288) × (length records ≡ 9600)
@@ -21,75 +12,57 @@ Inv-loop size area₀ held₀ units₀ records₀ state₀ k₀ sum₀ area held
 abbrev μ-loop : tie.MeasureT-loop
 μ-loop size area₀ held₀ units₀ records₀ state₀ k₀ sum₀ area held units records state k sum = 18446744073709551615 - k
 
--- src/main.rt:151:9
 setting-of-requires : tie.Need-setting-of-requires Inv-loop μ-loop
 setting-of-requires c κs = search needs
 
--- src/main.rt:152:9
 set-up-requires : tie.Need-set-up-requires Inv-loop μ-loop
 set-up-requires c κs = search needs
 
--- src/main.rt:156:5
 loop-holds : tie.Need-loop-holds Inv-loop μ-loop
 loop-holds c = search needs
 
--- src/main.rt:157:13
 next-requires : tie.Need-next-requires Inv-loop μ-loop
 next-requires c κs = search needs
 
--- src/main.rt:159:13
 tell-requires : tie.Need-tell-requires Inv-loop μ-loop
 tell-requires c κs = search needs
 
--- src/main.rt:160:13
 same-length : tie.Need-same-length Inv-loop μ-loop
 same-length c = search needs
 
--- src/main.rt:160:13
 returns : tie.Need-returns Inv-loop μ-loop
 returns c = search needs
 
--- src/main.rt:162:43
 slice-aggregate-read : tie.Need-slice-aggregate-read Inv-loop μ-loop
 slice-aggregate-read c = search needs
 
--- src/main.rt:162:54
 slice-aggregate-read-2 : tie.Need-slice-aggregate-read-2 Inv-loop μ-loop
 slice-aggregate-read-2 c = search needs
 
--- src/main.rt:162:66
 slice-aggregate-read-3 : tie.Need-slice-aggregate-read-3 Inv-loop μ-loop
 slice-aggregate-read-3 c = search needs
 
--- src/main.rt:162:13
 read-requires : tie.Need-read-requires Inv-loop μ-loop
 read-requires c κs = search needs
 
--- src/main.rt:166:13
 worth-requires : tie.Need-worth-requires Inv-loop μ-loop
 worth-requires c κs = search needs
 
--- src/main.rt:167:9
 plus-requires : tie.Need-plus-requires Inv-loop μ-loop
 plus-requires c κs = search needs
 
--- src/main.rt:168:9
 add-k : tie.Need-add-k Inv-loop μ-loop
 add-k c = search needs
 
--- src/main.rt:156:5
 loop-less : tie.Need-loop-less Inv-loop μ-loop
 loop-less c = search needs
 
--- src/main.rt:156:5
 loop-again : tie.Need-loop-again Inv-loop μ-loop
 loop-again c = search needs
 
--- src/main.rt:147:1
 same-length-2 : tie.Need-same-length-2 Inv-loop μ-loop
 same-length-2 c = search needs
 
--- src/main.rt:147:1
 returns-2 : tie.Need-returns-2 Inv-loop μ-loop
 returns-2 c = search needs
 

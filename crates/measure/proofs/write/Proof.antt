@@ -1,18 +1,10 @@
 -- The batches are counted, and the areas keep their lengths.
 use mathlib.Core.Path.{_≡_}
-use Prim.Native.Nat.{_-_, _≤_}
+use Prim.Native.Nat.{_-_}
 use lib.ListN.{length}
 use borrow.Author.Needs.{needs}
 use Rattle.measure.proofs.write.Statement.{statement}
 use Rattle.measure.proofs.write.Tie as tie
-use Rattle.measure.proofs.write.Reads as reads
-use Rattle.measure.proofs.write.Lts as lts
-use Rattle.io.proofs.buffer.Reads as buffer-reads
-use Rattle.measure.proofs.next.Reads as next-reads
-use Rattle.measure.proofs.setting_of.Reads as setting-of-reads
-use Rattle.measure.proofs.tell.Reads as tell-reads
-use Rattle.measure.proofs.write_batch.Reads as write-batch-reads
-use Rattle.writer.proofs.set_up.Reads as set-up-reads
 
 abbrev Inv-loop : tie.InvT-loop
 Inv-loop size batch₀ area₀ course₀ k₀ batch area course k = (length batch ≡ 32768) × (length area ≡ 4096)
@@ -20,59 +12,45 @@ Inv-loop size batch₀ area₀ course₀ k₀ batch area course k = (length batc
 abbrev μ-loop : tie.MeasureT-loop
 μ-loop size batch₀ area₀ course₀ k₀ batch area course k = 18446744073709551615 - k
 
--- src/main.rt:235:20
 buffer-requires : tie.Need-buffer-requires Inv-loop μ-loop
 buffer-requires c κs = search needs
 
--- src/main.rt:236:9
 setting-of-requires : tie.Need-setting-of-requires Inv-loop μ-loop
 setting-of-requires c κs = search needs
 
--- src/main.rt:237:9
 set-up-requires : tie.Need-set-up-requires Inv-loop μ-loop
 set-up-requires c κs = search needs
 
--- src/main.rt:246:5
 loop-holds : tie.Need-loop-holds Inv-loop μ-loop
 loop-holds c = search needs
 
--- src/main.rt:247:25
 slice-aggregate-next : tie.Need-slice-aggregate-next Inv-loop μ-loop
 slice-aggregate-next c = search needs
 
--- src/main.rt:247:13
 next-requires : tie.Need-next-requires Inv-loop μ-loop
 next-requires c κs = search needs
 
--- src/main.rt:251:43
 slice-aggregate-write-batch : tie.Need-slice-aggregate-write-batch Inv-loop μ-loop
 slice-aggregate-write-batch c = search needs
 
--- src/main.rt:251:51
 slice-aggregate-write-batch-2 : tie.Need-slice-aggregate-write-batch-2 Inv-loop μ-loop
 slice-aggregate-write-batch-2 c = search needs
 
--- src/main.rt:251:13
 write-batch-requires : tie.Need-write-batch-requires Inv-loop μ-loop
 write-batch-requires c κs = search needs
 
--- src/main.rt:253:9
 add-k : tie.Need-add-k Inv-loop μ-loop
 add-k c = search needs
 
--- src/main.rt:246:5
 loop-less : tie.Need-loop-less Inv-loop μ-loop
 loop-less c = search needs
 
--- src/main.rt:246:5
 loop-again : tie.Need-loop-again Inv-loop μ-loop
 loop-again c = search needs
 
--- src/main.rt:255:5
 tell-requires : tie.Need-tell-requires Inv-loop μ-loop
 tell-requires c κs = search needs
 
--- src/main.rt:233:1
 returns : tie.Need-returns Inv-loop μ-loop
 returns c = search needs
 

@@ -1,13 +1,10 @@
 -- The frames are counted, and the area keeps its length.
 use mathlib.Core.Path.{_≡_}
-use Prim.Native.Nat.{_-_, _≤_}
+use Prim.Native.Nat.{_-_}
 use lib.ListN.{length}
 use borrow.Author.Needs.{needs}
 use Rattle.measure.proofs.write_batch.Statement.{statement}
 use Rattle.measure.proofs.write_batch.Tie as tie
-use Rattle.measure.proofs.write_batch.Reads as reads
-use Rattle.measure.proofs.write_batch.Lts as lts
-use Rattle.measure.proofs.write_next.Reads as write-next-reads
 
 abbrev Inv-loop : tie.InvT-loop
 Inv-loop size batch area₀ course₀ k₀ area course k = length area ≡ length area₀
@@ -15,51 +12,39 @@ Inv-loop size batch area₀ course₀ k₀ area course k = length area ≡ lengt
 abbrev μ-loop : tie.MeasureT-loop
 μ-loop size batch area₀ course₀ k₀ area course k = 32768 - k
 
--- src/main.rt:217:5
 loop-holds : tie.Need-loop-holds Inv-loop μ-loop
 loop-holds c = search needs
 
--- src/main.rt:218:13
 write-next-requires : tie.Need-write-next-requires Inv-loop μ-loop
 write-next-requires c κs = search needs
 
--- src/main.rt:221:12
 element-copy-out-if1 : tie.Need-element-copy-out-if1 Inv-loop μ-loop
 element-copy-out-if1 c = search needs
 
--- src/main.rt:222:13
 same-length : tie.Need-same-length Inv-loop μ-loop
 same-length c = search needs
 
--- src/main.rt:222:13
 returns : tie.Need-returns Inv-loop μ-loop
 returns c = search needs
 
--- src/main.rt:225:13
 same-length-2 : tie.Need-same-length-2 Inv-loop μ-loop
 same-length-2 c = search needs
 
--- src/main.rt:225:13
 returns-2 : tie.Need-returns-2 Inv-loop μ-loop
 returns-2 c = search needs
 
--- src/main.rt:227:9
 add-k : tie.Need-add-k Inv-loop μ-loop
 add-k c = search needs
 
--- src/main.rt:217:5
 loop-less : tie.Need-loop-less Inv-loop μ-loop
 loop-less c = search needs
 
--- src/main.rt:217:5
 loop-again : tie.Need-loop-again Inv-loop μ-loop
 loop-again c = search needs
 
--- src/main.rt:214:1
 same-length-3 : tie.Need-same-length-3 Inv-loop μ-loop
 same-length-3 c = search needs
 
--- src/main.rt:214:1
 returns-3 : tie.Need-returns-3 Inv-loop μ-loop
 returns-3 c = search needs
 

@@ -7,8 +7,6 @@ use Rattle.packing.specs.Words.{begins as beginsWith}
 use Rattle.packing.proofs.Words.{from, begins-end, begins-short, begins-other, begins-more}
 use Rattle.packing.proofs.begins.Statement.{statement}
 use Rattle.packing.proofs.begins.Tie as tie
-use Rattle.packing.proofs.begins.Reads as reads
-use Rattle.packing.proofs.begins.Lts as lts
 
 abbrev Inv-loop : tie.InvT-loop
 Inv-loop s word i₀ i = beginsWith word s ≡ from word s i
@@ -16,48 +14,39 @@ Inv-loop s word i₀ i = beginsWith word s ≡ from word s i
 abbrev μ-loop : tie.MeasureT-loop
 μ-loop s word i₀ i = length word - i
 
--- src/lib.rt:33:5
 loop-holds : tie.Need-loop-holds Inv-loop μ-loop
 loop-holds c = refl
 
--- src/lib.rt:35:13
 returns : tie.Need-returns Inv-loop μ-loop
 returns c =
     let top = c .before .before in
     let a = top .before .args in
     sym (top .loop .inv ∙ begins-short (a .word .now) (a .s .now) (top .loop .i) (c .before .loop-test .taken) (c .if1 .taken))
 
--- src/lib.rt:37:12
 shared-slice-read-if2 : tie.Need-shared-slice-read-if2 Inv-loop μ-loop
 shared-slice-read-if2 c = search needs
 
--- src/lib.rt:37:20
 shared-slice-read-if2-2 : tie.Need-shared-slice-read-if2-2 Inv-loop μ-loop
 shared-slice-read-if2-2 c = search needs
 
--- src/lib.rt:38:13
 returns-2 : tie.Need-returns-2 Inv-loop μ-loop
 returns-2 c =
     let top = c .before .before .before .before .before in
     let a = top .before .args in
     sym (top .loop .inv ∙ begins-other (a .word .now) (a .s .now) (top .loop .i) (c .before .before .before .before .loop-test .taken) (c .before .before .before .if1 .left) (c .if2 .taken))
 
--- src/lib.rt:40:9
 add-i : tie.Need-add-i Inv-loop μ-loop
 add-i c = search needs
 
--- src/lib.rt:33:5
 loop-less : tie.Need-loop-less Inv-loop μ-loop
 loop-less c = search needs
 
--- src/lib.rt:33:5
 loop-again : tie.Need-loop-again Inv-loop μ-loop
 loop-again c =
     let top = c .before .before .before .before .before in
     let a = top .before .args in
     top .loop .inv ∙ begins-more (a .word .now) (a .s .now) (top .loop .i) (c .before .before .before .before .loop-test .taken) (c .before .before .before .if1 .left) (c .if2 .left)
 
--- src/lib.rt:29:1
 returns-3 : tie.Need-returns-3 Inv-loop μ-loop
 returns-3 c =
     let top = c .before in

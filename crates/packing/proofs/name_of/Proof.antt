@@ -1,45 +1,34 @@
+-- The words are tried in the definition's order.
 use mathlib.Core.Path.{sym, _∙_}
 use Rattle.rules.specs.Listing.{text}
 use Rattle.packing.specs.Words.{nameOf}
 use borrow.Author.Needs.{needs}
 use Rattle.packing.proofs.name_of.Statement.{statement}
 use Rattle.packing.proofs.name_of.Tie as tie
-use Rattle.packing.proofs.name_of.Reads as reads
-use Rattle.packing.proofs.name_of.Lts as lts
-use Rattle.packing.proofs.begins.Reads as begins-reads
-use Rattle.packing.proofs.lane_named.Reads as lane-named-reads
 
--- src/lib.rt:70:28
 slice-aggregate-begins : tie.Need-slice-aggregate-begins
 slice-aggregate-begins c = search needs
 
--- src/lib.rt:70:9
 begins-requires : tie.Need-begins-requires
 begins-requires c κs = search needs
 
--- src/lib.rt:72:9
 returns : tie.Need-returns
 unfolding nameOf text
 returns c = rw (sym (c .before .begins .ensures) ∙ c .if1 .taken)
 
--- src/lib.rt:74:25
 slice-aggregate-begins-2 : tie.Need-slice-aggregate-begins-2
 slice-aggregate-begins-2 c = search needs
 
--- src/lib.rt:74:9
 begins-requires-2 : tie.Need-begins-requires-2
 begins-requires-2 c κs = search needs
 
--- src/lib.rt:76:9
 returns-2 : tie.Need-returns-2
 unfolding nameOf text
 returns-2 c = rw (sym (c .before .before .before .before .begins .ensures) ∙ c .before .before .before .if1 .left, sym (c .before .begins2 .ensures) ∙ c .if2 .taken)
 
--- src/lib.rt:78:5
 lane-named-requires : tie.Need-lane-named-requires
 lane-named-requires c κs = search needs
 
--- src/lib.rt:67:1
 returns-3 : tie.Need-returns-3
 unfolding nameOf text
 returns-3 c = c .lane-named .ensures ∙ rw (sym (c .before .before .before .before .before .begins .ensures) ∙ c .before .before .before .before .if1 .left, sym (c .before .before .begins2 .ensures) ∙ c .before .if2 .left)

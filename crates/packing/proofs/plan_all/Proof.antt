@@ -1,13 +1,8 @@
 -- The arguments are counted.
-use mathlib.Core.Path.{_≡_}
-use Prim.Native.Nat.{_-_, _≤_}
-use lib.ListN.{length}
+use Prim.Native.Nat.{_-_}
 use borrow.Author.Needs.{needs}
 use Rattle.packing.proofs.plan_all.Statement.{statement}
 use Rattle.packing.proofs.plan_all.Tie as tie
-use Rattle.packing.proofs.plan_all.Reads as reads
-use Rattle.packing.proofs.plan_all.Lts as lts
-use Rattle.packing.proofs.plan_next.Reads as plan-next-reads
 
 abbrev Inv-loop : tie.InvT-loop
 Inv-loop n numbered plan₀ i₀ plan i = Unit {0}
@@ -15,31 +10,24 @@ Inv-loop n numbered plan₀ i₀ plan i = Unit {0}
 abbrev μ-loop : tie.MeasureT-loop
 μ-loop n numbered plan₀ i₀ plan i = n - i
 
--- src/lib.rt:586:5
 loop-holds : tie.Need-loop-holds Inv-loop μ-loop
 loop-holds c = search needs
 
--- src/lib.rt:587:13
 plan-next-requires : tie.Need-plan-next-requires Inv-loop μ-loop
 plan-next-requires c κs = search needs
 
--- src/lib.rt:592:9
 add-i : tie.Need-add-i Inv-loop μ-loop
 add-i c = search needs
 
--- src/lib.rt:586:5
 loop-less : tie.Need-loop-less Inv-loop μ-loop
 loop-less c = search needs
 
--- src/lib.rt:586:5
 loop-again : tie.Need-loop-again Inv-loop μ-loop
 loop-again c = search needs
 
--- src/lib.rt:579:1
 returns : tie.Need-returns Inv-loop μ-loop
 returns c = search needs
 
--- src/lib.rt:579:1
 returns-2 : tie.Need-returns-2 Inv-loop μ-loop
 returns-2 c = search needs
 
