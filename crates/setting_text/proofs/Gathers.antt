@@ -25,7 +25,8 @@ use Rattle.setting_text.specs.declared.Form.the-variants as form
 use Rattle.setting_text.specs.declared.Draft.{Draft}
 use Rattle.setting_text.specs.declared.Gathered.{Gathered}
 use Rattle.setting_text.specs.Texts.{stops, until, cut, full, lines, said, words, first, same, Seen}
-use Rattle.setting_text.specs.Facts.{nothing, remade, single, listing, refuse, withLength, withCraft, withBit, withInsert, withCheck, withChannel, withLane, settled, once, lengthLine, craftLine, bitLine, insertLine, checkLine, ocfUnlike, addChannel, channelLine, addLane, addLaneOf, packetsLine, accessLine, kindLine, laneLine, formOf, takeForm, takeLine, gather, Gathering}
+use Rattle.setting_text.specs.Facts.{nothing, remade, single, listing, refuse, withLength, withCraft, withBit, withInsert, withCheck, withChannel, withLane, settled, once, lengthLine, craftLine, bitLine, insertLine, checkLine, ocfUnlike, addChannel, channelLine, addLane, addLaneOf, packetsLine, accessLine, kindLine, laneLine, formOf, takeForm, takeLine, gather}
+use Rattle.setting_text.specs.Places.{Gathering}
 use Rattle.setting_text.proofs.Texts.{pieces, cut-until}
 
 -- ---- room

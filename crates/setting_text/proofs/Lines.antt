@@ -13,7 +13,8 @@ use Rattle.setting_text.specs.declared.Form.{Form}
 use Rattle.setting_text.specs.declared.Cursor.{Cursor}
 use Rattle.setting_text.specs.declared.Draft.{Draft}
 use Rattle.setting_text.specs.declared.Wanted.the-variants as want
-use Rattle.setting_text.specs.Texts.{stops, until, said, start, Word, seen, says, number, yesOrNo, end}
+use Rattle.setting_text.specs.Texts.{stops, until, said, start, says, number, yesOrNo, end}
+use Rattle.setting_text.specs.Places.{Word, seen}
 use Rattle.setting_text.specs.Facts.{refuse, settled, once, withLength, withCraft, withBit, withInsert, withCheck, lengthLine, craftLine, bitLine, insertLine, checkLine, addChannel, channelOf, channelLine, addLaneOf, packetsLine, accessLine, kindLine, laneLine, formOf, takeForm, takeLine}
 use Rattle.rules.specs.Tests.{_=?_}
 

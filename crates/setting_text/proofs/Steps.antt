@@ -14,7 +14,8 @@ use Rattle.setting_text.specs.declared.Stop.the-variants as stop
 use Rattle.setting_text.specs.declared.Cursor.{Cursor}
 use Rattle.setting_text.specs.declared.Wanted.{Wanted}
 use Rattle.setting_text.specs.declared.Wanted.the-variants as want
-use Rattle.setting_text.specs.Texts.{stops, until, cut, full, words, first, others, same, Word, Seen, seen, missed, step, says, number, isNumber, numeral, value, numberOf, yesOrNo, end}
+use Rattle.setting_text.specs.Texts.{stops, until, cut, full, words, first, others, same, Seen, missed, step, says, number, isNumber, numeral, value, yesOrNo, end}
+use Rattle.setting_text.specs.Places.{Word, seen, numberOf}
 use Rattle.setting_text.proofs.Texts.{front, after, step-number}
 
 -- All that follows `at`, as a part of the line.

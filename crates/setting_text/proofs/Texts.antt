@@ -11,7 +11,8 @@ use borrow.Author.Tests.{le-leb, lt-leb, eq-eqb, ne-eqb}
 use Rattle.rules.specs.Tests.{_≤?_, _=?_}
 use Rattle.setting_text.specs.declared.Stop.the-variants as stop
 use Rattle.setting_text.specs.declared.Wanted.{Wanted}
-use Rattle.setting_text.specs.Texts.{blank, stops, until, onto, cut, full, words, first, others, same, digit, digits, isNumber, value, numeral, numberFrom, numberOf, Seen, step}
+use Rattle.setting_text.specs.Texts.{blank, stops, until, onto, cut, full, words, first, others, same, digit, digits, isNumber, value, numeral, Seen, step}
+use Rattle.setting_text.specs.Places.{numberFrom, numberOf}
 
 -- ---- where the first octet stands that passes
 

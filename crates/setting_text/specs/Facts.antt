@@ -320,8 +320,3 @@ unfoldable pub parsed : List ℕ → Parsed
 parsed t =
     let g : Gathered = gather 1 nothing (lines t) in
     answered (found g) (g .draft .setting)
-
--- All lines were taken, and there is room for what they list.
-pub record Gathering (t : List ℕ) (g : Gathered) : Type 0 where
-  pub gathered : g ≡ gather 1 nothing (lines t)
-  pub room : g .draft .setting .listed ≤ 8

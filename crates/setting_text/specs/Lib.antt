@@ -1,2 +1,3 @@
 pub mod Texts
 pub mod Facts
+pub mod Places

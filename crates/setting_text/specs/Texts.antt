@@ -8,7 +8,6 @@ use Rattle.rules.specs.Tests.{_≤?_, _=?_}
 use Rattle.rules.specs.Listing.{text}
 use Rattle.setting_text.specs.declared.Stop.{Stop}
 use Rattle.setting_text.specs.declared.Stop.the-variants as stop
-use Rattle.setting_text.specs.declared.Cursor.{Cursor}
 use Rattle.setting_text.specs.declared.Wanted.{Wanted}
 use Rattle.setting_text.specs.declared.Wanted.the-variants as want
 
@@ -29,11 +28,6 @@ stops stop.Word x = not (blank x)
 unfoldable pub until : (ℕ → Bool) → List ℕ → ℕ
 until p [] = 0
 until p (x ∷ xs) = cond (p x) 0 (suc (until p xs))
-
--- So many they are, and there are so many.
-pub record Until (k : Stop) (xs : List ℕ) (n : ℕ) : Type 0 where
-  pub counts : n ≡ until (stops k) xs
-  pub within : n ≤ length xs
 
 -- One octet more at the front of the first piece.
 unfoldable pub onto : ℕ → List (List ℕ) → List (List ℕ)
@@ -140,23 +134,3 @@ yesOrNo s =
 -- No word is left.
 unfoldable pub end : Seen → Seen
 end s = step (same (first (s .rest)) []) 0 want.End s
-
--- ---- a place in a line
-
--- What a cursor has before it.
-unfoldable pub seen : List ℕ → Cursor → Seen
-seen l c = record { rest = words (drop (c .at) l); number = c .number; fits = c .fits; wanted = c .wanted }
-
--- The next word of the octets from `at` on stands from `from` to `to`; where there is none, it is empty.
-pub record Word (l : List ℕ) (at from to : ℕ) : Type 0 where
-  pub word : first (words (drop at l)) ≡ take (to - from) (drop from l)
-  pub after : others (words (drop at l)) ≡ words (drop to l)
-  pub forward : from ≤ to
-  pub within : to ≤ length l
-
--- A number up to 65,535 that a word stands for, and 65,536 where it stands for none.
-unfoldable pub numberFrom : ℕ → List ℕ → ℕ
-numberFrom n w = cond (digits w && value n w ≤? 65535) (value n w) 65536
-
-unfoldable pub numberOf : List ℕ → ℕ
-numberOf w = cond (isNumber w) (numberFrom 0 w) 65536

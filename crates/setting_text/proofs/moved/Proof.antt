@@ -1,5 +1,6 @@
 -- `setting_text::moved` meets its contract. The word fits, it does not, or none did before.
-use Rattle.setting_text.specs.Texts.{seen, step, missed}
+use Rattle.setting_text.specs.Texts.{step, missed}
+use Rattle.setting_text.specs.Places.{seen}
 use Rattle.setting_text.proofs.moved.Statement.{statement}
 use Rattle.setting_text.proofs.moved.Tie as tie
 

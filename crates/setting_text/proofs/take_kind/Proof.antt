@@ -1,7 +1,7 @@
 -- `setting_text::take_kind` meets its contract. The next word decides.
 use Rattle.rules.specs.Listing.{text}
 use mathlib.Core.Path.{sym}
-use Rattle.setting_text.specs.Texts.{seen}
+use Rattle.setting_text.specs.Places.{seen}
 use Rattle.setting_text.specs.Facts.{kindLine}
 use borrow.Author.Needs.{needs}
 use Rattle.setting_text.proofs.take_kind.Statement.{statement}
