@@ -19,7 +19,8 @@ use Rattle.rules.specs.Settings.{noLane, channel, lane, expect, heldBy, readerO
 use Rattle.rules.specs.Reading.{missing, expected, emptied, lost, lanesOf, gapBy, gap}
 use Rattle.rules.specs.Octets.{num}
 use Rattle.rules.proofs.Octets.{octets-each, octets-take, octets-drop, num-below}
-use Rattle.rules.proofs.Valid.{Good, GoodReader, good-reader}
+use Rattle.rules.specs.Valid.{Good, GoodReader}
+use Rattle.rules.proofs.Valid.{good-reader}
 
 -- ---- counts of n octets
 

@@ -8,7 +8,8 @@ use Rattle.rules.specs.declared.Place.the-variants.{At}
 use Rattle.rules.specs.Settings.{channel, lane, zone, settingOk}
 use Rattle.rules.specs.Refusals.{channelAt, laneAt}
 use Rattle.rules.proofs.Tests.{found-at}
-use Rattle.rules.proofs.Valid.{Good, good}
+use Rattle.rules.specs.Valid.{Good}
+use Rattle.rules.proofs.Valid.{good}
 
 -- A place that was found.
 pub lane-found : (s : Setting) (c m l : ℕ) → laneAt s c m ≡ At l → l < s .numbered

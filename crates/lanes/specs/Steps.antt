@@ -8,8 +8,7 @@ use Rattle.rules.specs.declared.Place.{Place}
 use Rattle.rules.specs.declared.Info.{Info}
 use Rattle.rules.specs.Areas.{laid, joined}
 use Rattle.rules.specs.Reading.{Made, recordsFrom}
-use Rattle.rules.proofs.Valid.{least}
-use Rattle.rules.proofs.Judged.{Inside}
+use Rattle.rules.specs.Valid.{least, Inside}
 use Rattle.handing.specs.declared.Led.{Led}
 
 -- What it is lent: areas of the paper's sizes, and a zone and held octets as a valid state and a frame that is Read have them.

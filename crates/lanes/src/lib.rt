@@ -5,7 +5,7 @@ ghost use Prim.Native.Nat.{_+_, _≤_};
 ghost use lib.ListN.{length, getD, take};
 ghost use Rattle.rules.specs.Packets.{measure};
 ghost use Rattle.rules.specs.Reading.{lead, packetLane, portion, accessLane, laneStep};
-ghost use Rattle.rules.proofs.Judged.{Inside};
+ghost use Rattle.rules.specs.Valid.{Inside};
 ghost use Rattle.handing.specs.Hands.{Ready, Went};
 ghost use Rattle.lanes.specs.Steps.{Lent, Stepped};
 use handing::Led;

@@ -18,7 +18,7 @@ use Rattle.rules.specs.Frames.{pointerTo, pointsTo}
 use Rattle.rules.specs.Writing.{batchOk, unitsOf, frames, zoneOf, ruleOf, startFrom, offsetOf, inside, pointerOf}
 use Rattle.rules.specs.Reading.{laneStep, packetLane, accessLane}
 use Rattle.rules.proofs.Tests.{all-at}
-use Rattle.rules.proofs.Valid.{least}
+use Rattle.rules.specs.Valid.{least}
 use Rattle.link.specs.Due.{spans, ending}
 use Rattle.link.proofs.Whole.{Batch, packet-batch}
 use Rattle.link.proofs.Spans.{Filled, yields, yield, heldFrom, held-over}

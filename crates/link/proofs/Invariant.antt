@@ -18,7 +18,7 @@ use Rattle.rules.specs.Writing.{batchOk, unitsOf, frames, zoneOf, ruleOf, point
 use Rattle.rules.specs.Reading.{missing, expected, Made, laneStep}
 use Rattle.rules.proofs.Tests.{same, and-left, and-right}
 use Rattle.rules.proofs.Counts.{missing-unknown, missing-gone, expected-below, one-further, none-further}
-use Rattle.rules.proofs.Valid.{least}
+use Rattle.rules.specs.Valid.{least}
 use Rattle.link.specs.Due.{spans, ending}
 use Rattle.link.specs.Demand.{fewGone}
 use Rattle.link.proofs.Spans.{Yield, yields, yield, heldFrom, held-none, ends-same}

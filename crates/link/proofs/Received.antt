@@ -26,9 +26,10 @@ use Rattle.rules.specs.Refusals.{refusals, judged, judge}
 use Rattle.rules.specs.Calls.{Got, areasShort, laidOut, madeBy, readOn, onVerdict, verdict, read}
 use Rattle.rules.proofs.Tests.{split, and-left, and-right}
 use Rattle.rules.proofs.Areas.{length-laid, laid-at, laid-before, laid-after}
-use Rattle.rules.proofs.Valid.{Good, GoodReader, good-reader, least}
+use Rattle.rules.specs.Valid.{Good, GoodReader, least}
+use Rattle.rules.proofs.Valid.{good-reader}
 use Rattle.rules.proofs.Lanes.{lane-below}
-use Rattle.rules.proofs.Calls.{read-valid, read-fits}
+use Rattle.rules.proofs.Calls.{verdict-cond, read-valid, read-fits}
 use Rattle.rules.proofs.Written.{FrameBack}
 use Rattle.link.specs.Link.{Lent, unitsBy, handed}
 use Rattle.link.specs.Due.{placeOf}
@@ -49,8 +50,8 @@ module _ (r : Reader) (f h : List ℕ) (a : Lent) (no : given (refusals (r .sett
   refused n = record { state = refl; area = refl; none = λ l. refl }
 
   pub stray : Untouched (read r f h (a .units) (a .records))
-  unfolding read verdict judge judged
-  stray = go (readerOk r) (areasShort h (a .units) (a .records)) (given (refusals (r .setting) f)) no
+  unfolding read judge judged
+  stray = rw (verdict-cond r f h (a .units) (a .records)) (go (readerOk r) (areasShort h (a .units) (a .records)) (given (refusals (r .setting) f)) no)
     where
       go : (p q : Bool) (n : ℕ) → n ≢ 0
           → Untouched (onVerdict (cond (not p) (Verdict.Refused 1) (cond q (Verdict.Refused 2) (judged (r .setting) f n))) r f h (a .units) (a .records))
@@ -207,9 +208,9 @@ module _ (s : Setting) (es : List Expect) (hs h : List ℕ) (a : Lent) (i v : �
 
     read-is : read (reader s es hs) f h (a .units) (a .records)
         ≡ laidOut g i v (madeBy g i (channelOf s i) f h) h (a .units) (a .records)
-    unfolding read verdict onVerdict readOn
+    unfolding read onVerdict readOn
     read-is =
-        rw (ok, enough-areas h a full lent, back .read)
+        rw (verdict-cond (reader s es hs) f h (a .units) (a .records), ok, enough-areas h a full lent, back .read)
         (ap (λ (x : ℕ). laidOut (gap (reader s es hs) c x) i x (madeBy (gap (reader s es hs) c x) i (channelOf s i) f h) h (a .units) (a .records)) (back .count))
 
     made-is : madeBy g i (channelOf s i) f h ≡ made b k

@@ -20,7 +20,7 @@ use Rattle.rules.specs.Reading.{expected, Made}
 use Rattle.rules.specs.Refusals.{refusals}
 use Rattle.rules.specs.Calls.{writeRefusals, written, write, Got, read}
 use Rattle.rules.proofs.Tests.{and-left, and-right}
-use Rattle.rules.proofs.Valid.{Good}
+use Rattle.rules.specs.Valid.{Good}
 use Rattle.rules.proofs.Calls.{Accepted, none-refused, accepted}
 use Rattle.rules.proofs.Written.{FrameBack, write-back}
 use Rattle.link.specs.Link.{Lent, Arrival, Passage, Kept, Gone, Call, called, Frame, frameBy, sent, arriving, arrivals, reads, handedOut}

@@ -16,7 +16,8 @@ use Rattle.rules.specs.Frames.{pointsTo}
 use Rattle.rules.specs.Writing.{frames, zoneOf, ruleOf, pointerOf}
 use Rattle.rules.specs.Reading.{missing, expected, Made, laneStep}
 use Rattle.rules.proofs.Tests.{same}
-use Rattle.rules.proofs.Valid.{Good, good-channelOf, least}
+use Rattle.rules.specs.Valid.{Good, least}
+use Rattle.rules.proofs.Valid.{good-channelOf}
 use Rattle.rules.proofs.Written.{zone-small}
 use Rattle.link.specs.Link.{Call, Frame, frameBy}
 use Rattle.link.specs.Due.{kept, placeOf, clean, dueIn}

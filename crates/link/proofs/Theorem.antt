@@ -20,7 +20,8 @@ use Rattle.rules.specs.Writing.{unitsOf}
 use Rattle.rules.specs.Calls.{setUpReader, setUpWriter}
 use Rattle.rules.proofs.Tests.{split}
 use Rattle.rules.proofs.Octets.{pow256-pos}
-use Rattle.rules.proofs.Valid.{Good, good}
+use Rattle.rules.specs.Valid.{Good}
+use Rattle.rules.proofs.Valid.{good}
 use Rattle.rules.proofs.States.{fresh-reader}
 use Rattle.rules.proofs.Calls.{setup-accepted}
 use Rattle.link.specs.Link.{Call, Frame, frameBy, sent, arrivals, reads, handedOut}

@@ -12,6 +12,8 @@ use Rattle.rules.specs.declared.Reader.{Reader}
 use Rattle.rules.specs.declared.Setting.{Setting}
 use Rattle.rules.specs.declared.Verdict.{Verdict}
 use Rattle.rules.specs.Calls.{setUpReader, Got, read, onVerdict, verdict, readOn, laidOut}
+use Rattle.rules.specs.Promises.{ReaderStarts}
+use Rattle.rules.proofs.Promises.{reader-starts-is}
 use Rattle.rules.specs.Listing.{line, lines}
 use Rattle.rules.specs.Worked.{worked, packetLane}
 use Rattle.rules.specs.Settings.{settingOk, rangesOk, channelsOk, channelOk, channelsAgree, lanesOk, laneOk, lanesDiffer, kindOk, zone, freshReader, noReader, noSetting}
@@ -88,6 +90,6 @@ unfolding GoesOn
 goes-none P = tt
 
 -- The program's set-up stands before the first frame.
-pub begins-from : (s : Setting) (l : Listener) → s ≡ worked packetLane → l ≡ setUpReader s → Reached 0 (l .state) (replicate 65536 0) (replicate 12288 0) (replicate 9600 0)
+pub begins-from : (s : Setting) (l : Listener) → s ≡ worked packetLane → ReaderStarts s l → Reached 0 (l .state) (replicate 65536 0) (replicate 12288 0) (replicate 9600 0)
 begins-from s l e q =
-    subst (λ (x : Listener). Reached 0 (x .state) (replicate 65536 0) (replicate 12288 0) (replicate 9600 0)) (sym (q ∙ ap setUpReader e)) begins
+    subst (λ (x : Listener). Reached 0 (x .state) (replicate 65536 0) (replicate 12288 0) (replicate 9600 0)) (sym (reader-starts-is s l q ∙ ap setUpReader e)) begins

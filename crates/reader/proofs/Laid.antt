@@ -20,8 +20,7 @@ use Rattle.rules.specs.Settings.{lane, channelOf, heldBy, zone}
 use Rattle.rules.specs.Frames.{pointsTo, pointerIn, ruleIn, zoneIn, countIn}
 use Rattle.rules.specs.Calls.{Got, laidOut, madeBy, readOn}
 use Rattle.rules.proofs.Areas.{laid-part}
-use Rattle.rules.proofs.Valid.{GoodKind}
-use Rattle.rules.proofs.Judged.{Inside}
+use Rattle.rules.specs.Valid.{GoodKind, Inside}
 use Rattle.rules.proofs.Lanes.{lane-total, lane-below, total}
 use Rattle.handing.specs.declared.Led.{Led}
 use Rattle.lanes.specs.Steps.{Lent, Stepped}

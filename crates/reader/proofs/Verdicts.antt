@@ -18,24 +18,29 @@ use Rattle.rules.specs.Calls.{Got, areasShort, readOn, onVerdict, verdict, read
 use borrow.Author.Tests.{not-false}
 use Rattle.rules.proofs.Tests.{or-none}
 use Rattle.rules.proofs.States.{reader-ok, gap-setting, good-gap}
-use Rattle.rules.proofs.Judged.{Reads}
-use Rattle.rules.proofs.Calls.{Ordered, Ruled, verdict-facts}
+use Rattle.rules.specs.Valid.{Reads}
+use Rattle.rules.specs.Promises.{ReadGives}
+use Rattle.rules.proofs.Promises.{Keeps, read-by}
+use Rattle.rules.proofs.Calls.{Ordered, Ruled, verdict-cond, verdict-facts}
 use Rattle.reader.specs.Reads.{verdictOf, OnLane}
 use Rattle.gaps.proofs.Gaps.{gap-small}
 
--- Areas that a read leaves as they were.
-pub untouched-areas : (h u c : List ℕ) {t t′ : Taken} → t ≡ t′
-    → _≡_ {A = Got} (record { taken = t; heldArea = h; unitArea = u; recordArea = c }) (record { taken = t′; heldArea = h; unitArea = u; recordArea = c })
-untouched-areas h u c e = ap (λ (x : Taken). record { taken = x; heldArea = h; unitArea = u; recordArea = c }) e
-
 module _ (r : Reader) (f h u c : List ℕ) where
   pub verdict-is : (v w : Verdict) → v ≡ verdictOf r f (length h) (length u) (length c) → v ≡ w → verdict r f h u c ≡ w
-  unfolding verdict areasShort
-  verdict-is v w e q = sym e ∙ q
+  unfolding areasShort
+  verdict-is v w e q = verdict-cond r f h u c ∙ sym e ∙ q
 
-  pub read-as : (w : Verdict) → verdict r f h u c ≡ w → onVerdict w r f h u c ≡ read r f h u c
+  -- What a case of the verdict makes keeps the promise.
+  kept : (w : Verdict) → verdict r f h u c ≡ w → (x : Got) → x ≡ onVerdict w r f h u c → Keeps r f h u c x
   unfolding read
-  read-as w e = ap (λ (v : Verdict). onVerdict v r f h u c) (sym e)
+  kept w e x q = read-by r f h u c x (q ∙ ap (λ (v : Verdict). onVerdict v r f h u c) (sym e))
+
+  -- Where that leaves the areas as they were.
+  pub areas-kept : (w : Verdict) (t t′ : Taken) → verdict r f h u c ≡ w → t ≡ t′
+      → record { taken = t′; heldArea = h; unitArea = u; recordArea = c } ≡ onVerdict w r f h u c → ReadGives r f h u c t h u c
+  areas-kept w t t′ e q o =
+      kept w e (record { taken = t; heldArea = h; unitArea = u; recordArea = c })
+      (ap (λ (x : Taken). record { taken = x; heldArea = h; unitArea = u; recordArea = c }) q ∙ o)
 
   facts : (w : Verdict) → verdict r f h u c ≡ w → Ruled r f h u c w
   facts w e = rw (sym e) (verdict-facts r f h u c)
@@ -75,8 +80,9 @@ module _ (r : Reader) (f h u c : List ℕ) where
           records = a .2;
         }
 
-    pub read-on-lane : (x : Got) → x ≡ readOn g l (channelOf (g .state .setting) l) f h u c → x ≡ read r f h u c
+    pub lane-kept : (x : Got) → x ≡ readOn g l (channelOf (g .state .setting) l) f h u c → Keeps r f h u c x
     unfolding onVerdict
-    read-on-lane x q =
-        q ∙ ap (λ (s : Setting). readOn g l (channelOf s l) f h u c) setting-same
-        ∙ ap (λ (y : Gap). readOn y l (channelOf (r .setting) l) f h u c) eg ∙ read-as (Verdict.Read l) e
+    lane-kept x q =
+        kept (Verdict.Read l) e x
+        (q ∙ ap (λ (s : Setting). readOn g l (channelOf s l) f h u c) setting-same
+        ∙ ap (λ (y : Gap). readOn y l (channelOf (r .setting) l) f h u c) eg)

@@ -16,8 +16,7 @@ use Rattle.rules.specs.Tests.{_<?_, _≠?_}
 use Rattle.rules.specs.Settings.{readerOk}
 use Rattle.rules.specs.Refusals.{judge}
 use Rattle.rules.specs.Calls.{counted}
-use Rattle.rules.proofs.Valid.{GoodReader}
-use Rattle.rules.proofs.Judged.{Reads}
+use Rattle.rules.specs.Valid.{GoodReader, Reads}
 use Rattle.handing.specs.declared.Led.{Led}
 
 -- The paper's record fields of lane l, lane a on channel ch, and a count.

@@ -7,7 +7,8 @@ ghost use Rattle.rules.specs.Settings.{readerOk, channel, lane, channelOf};
 ghost use Rattle.rules.specs.Octets.{bits};
 ghost use Rattle.rules.specs.Frames.{countIn, pointsTo};
 ghost use Rattle.rules.specs.Reading.{gap, laneStep};
-ghost use Rattle.rules.specs.Calls.{readOn, read, setUpReader, bare};
+ghost use Rattle.rules.specs.Calls.{readOn, bare};
+ghost use Rattle.rules.specs.Promises.{ReaderStarts, ReadGives};
 ghost use Rattle.lanes.specs.Steps.{Lent, Stepped};
 ghost use Rattle.reader.specs.Reads.{infoFor, takenOf, countedOf, shortOf, verdictOf, OnLane};
 use handing::Led;
@@ -135,7 +136,7 @@ fn read_on(
 
 // A fresh reader of this setting, or refusal 1 and a state of zeros.
 pub fn set_up(s: Setting) -> Listener
-    ensures { λ r. ⌜ r ≡ setUpReader s ⌝ }
+    ensures { λ r. ⌜ ReaderStarts s r ⌝ }
 {
     let ok = setting::setting_ok(s);
     if ok {
@@ -238,7 +239,7 @@ fn lane_gap(r: Reader, l: usize, frame: &[u8]) -> Gap
 
 // Reads one frame into the areas lent, or refuses it and changes nothing.
 pub fn read(r: Reader, frame: &[u8], held: &mut [u8], units: &mut [u8], records: &mut [u8]) -> Taken
-    ensures { λ t. ⌜ record { taken = t; heldArea = now (held .exit); unitArea = now (units .exit); recordArea = now (records .exit) } ≡ read r (now (frame .entry)) (now (held .entry)) (now (units .entry)) (now (records .entry)) ⌝ }
+    ensures { λ t. ⌜ ReadGives r (now (frame .entry)) (now (held .entry)) (now (units .entry)) (now (records .entry)) t (now (held .exit)) (now (units .exit)) (now (records .exit)) ⌝ }
 {
     let v = verdict_of(r, frame, held.len(), units.len(), records.len());
     match v {

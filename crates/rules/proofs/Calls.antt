@@ -1,5 +1,4 @@
--- The calls: outcomes allowed for one input are equal; a refusal changes nothing; a valid state stays valid; units and records of any
--- frame fit their areas.
+-- The calls: a refusal changes nothing; a valid state stays valid; units and records of any frame fit their areas.
 use mathlib.Core.Path.{_≡_, refl, sym, ap, _∙_, subst}
 use mathlib.Core.Logic.{_≢_}
 use Prim.Native.Nat.{ℕ, zero, suc, _+_, _-_, _*_, _≤_, _<_}
@@ -27,28 +26,14 @@ use Rattle.rules.specs.Settings.{channel, lane, channelOf, heldBy, numbe
 use Rattle.rules.specs.Frames.{countIn, ruleIn, pointerIn, zoneIn, pointsTo}
 use Rattle.rules.specs.Writing.{batchOk, frames}
 use Rattle.rules.specs.Reading.{gap, Made, laneStep}
-use Rattle.rules.specs.Refusals.{judge}
-use Rattle.rules.specs.Calls.{setUpReader, setUpWriter, Sent, writeRefusals, written, write, Got, areasShort, bare, laidOut, madeBy, readOn, onVerdict, verdict, read}
+use Rattle.rules.specs.Refusals.{refusals, judged, judge}
+use Rattle.rules.specs.Calls.{setUpReader, setUpWriter, Sent, writeRefusals, written, write, Got, areasShort, bare, laidOut, madeBy, readOn, onVerdict, readRefusals, verdict, read}
 use Rattle.rules.proofs.Tests.{or-none, given-zero}
-use Rattle.rules.proofs.Valid.{Good, GoodChannel, GoodKind, GoodReader, good-reader, GoodWriter, good-writer, good-channelOf}
+use Rattle.rules.specs.Valid.{Good, GoodChannel, GoodKind, GoodReader, GoodWriter, Reads}
+use Rattle.rules.proofs.Valid.{good-reader, good-writer, good-channelOf}
 use Rattle.rules.proofs.Lanes.{total, lane-total, lane-below, lane-few}
-use Rattle.rules.proofs.Judged.{Judged, Reads, judge-facts}
+use Rattle.rules.proofs.Judged.{Judged, judge-facts}
 use Rattle.rules.proofs.States.{reader-ok, writer-ok, fresh-reader, fresh-writer, no-reader, no-writer, gap-setting, good-gap, good-held, frames-few, GoodBatch, good-batch, good-after}
-
--- ---- outcomes allowed for one input are equal
-
-pub reader-setup-once : (s : Setting) (a b : Listener) → a ≡ setUpReader s → b ≡ setUpReader s → a ≡ b
-reader-setup-once s a b p q = p ∙ sym q
-
-pub writer-setup-once : (s : Setting) (a b : Sender) → a ≡ setUpWriter s → b ≡ setUpWriter s → a ≡ b
-writer-setup-once s a b p q = p ∙ sym q
-
-pub write-once : (w : Writer) (l : ℕ) (batch insert ocf area : List ℕ) (a b : Sent) → a ≡ write w l batch insert ocf area
-    → b ≡ write w l batch insert ocf area → a ≡ b
-write-once w l batch insert ocf area a b p q = p ∙ sym q
-
-pub read-once : (r : Reader) (f h u c : List ℕ) (a b : Got) → a ≡ read r f h u c → b ≡ read r f h u c → a ≡ b
-read-once r f h u c a b p q = p ∙ sym q
 
 -- ---- set-up
 
@@ -152,9 +137,19 @@ module _ (r : Reader) (f h u c : List ℕ) where
   ruled (Verdict.Counted k) o = o
   ruled (Verdict.Read l) o = o
 
+  -- The table's first two rows come before the frame's own.
+  pub verdict-cond : verdict r f h u c ≡ cond (not (readerOk r)) (Verdict.Refused 1) (cond (areasShort h u c) (Verdict.Refused 2) (judge (r .setting) f))
+  unfolding verdict readRefusals given judged judge
+  verdict-cond = go (readerOk r) (areasShort h u c)
+    where
+      go : (a b : Bool) → judged (r .setting) f (cond (not a) 1 (cond b 2 (given (refusals (r .setting) f))))
+          ≡ cond (not a) (Verdict.Refused 1) (cond b (Verdict.Refused 2) (judge (r .setting) f))
+      go true true = refl
+      go true false = refl
+      go false b = refl
+
   pub verdict-facts : Ruled r f h u c (verdict r f h u c)
-  unfolding verdict
-  verdict-facts = go (readerOk r) refl (areasShort h u c) refl
+  verdict-facts = rw verdict-cond (go (readerOk r) refl (areasShort h u c) refl)
     where
       go : (a : Bool) → readerOk r ≡ a → (b : Bool) → areasShort h u c ≡ b
           → Ruled r f h u c (cond (not a) (Verdict.Refused 1) (cond b (Verdict.Refused 2) (judge (r .setting) f)))

@@ -17,6 +17,7 @@ use Rattle.rules.specs.Octets.{num, bits, flag}
 use Rattle.rules.specs.Settings.{channel, lane, channelOf, zone}
 use Rattle.rules.specs.Frames.{version, craft, sourceBit, vc, map, endOfHeader, lengthField, bypass, command, spare, ocfFlag, countLength, ruleIn, upidIn, pointerIn, checkHolds, pointsTo}
 use Rattle.rules.specs.Refusals.{channelAt, laneAt, ruleFits, dataWrong, refusalsAt, refusals, onChannel, passed, judged, judge}
+use Rattle.rules.specs.Valid.{Inside, Reads}
 use Rattle.rules.proofs.Tests.{and-left, and-right, or-none, Found, first-found, given-skip, given-none, given-zero}
 
 -- ---- the rows of the table, none of which applies
@@ -67,17 +68,6 @@ module _ {s : Setting} {f : List ℕ} {p : Place} where
       }
 
 -- ---- the verdict
-
--- The place that a pointer points to, if any, is in a zone of z octets.
-abbrev pub Inside : ℕ → Place → Type 0
-Inside z (At i) = i < z
-Inside z Nowhere = Unit {0}
-
-pub record Reads (s : Setting) (f : List ℕ) (l : ℕ) : Type 0 where
-  pub numbered : l < s .numbered
-  pub whole : length f ≡ s .length
-  pub rule : ruleFits ((lane s l) .kind) (ruleIn s (channelOf s l) f) ≡ true
-  pub pointer : Inside (zone s (channelOf s l)) (pointsTo (pointerIn s (channelOf s l) f))
 
 abbrev pub Judged : Setting → List ℕ → Verdict → Type 0
 Judged s f (Refused n) = Unit {0}

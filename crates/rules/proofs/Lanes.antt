@@ -23,7 +23,7 @@ use Rattle.rules.specs.Areas.{joined}
 use Rattle.rules.specs.Packets.{sized, measured, measure}
 use Rattle.rules.specs.Reading.{Made, nothing, holds, drops, fills, hands, idles, both, become, endFate, joinedFate, leadFate, lead, sizedNext, nextOf, front, walkUpTo, walk, packetLane, unitFate, followFate, portion, accessLane, laneStep}
 use Rattle.rules.proofs.Areas.{joined-append}
-use Rattle.rules.proofs.Valid.{least}
+use Rattle.rules.specs.Valid.{least}
 
 -- ---- what the decisions can be: to show something of one, show it of each case with what holds there
 

@@ -8,5 +8,6 @@ pub mod Lanes
 pub mod Judged
 pub mod States
 pub mod Calls
+pub mod Promises
 pub mod Written
 pub mod Worked

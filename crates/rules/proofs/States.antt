@@ -25,7 +25,8 @@ use Rattle.rules.specs.Reading.{missing, expected, emptied, lost, lanesO
 use Rattle.rules.proofs.Tests.{all-at, all-cons, all-nil, at-every}
 use Rattle.rules.proofs.Octets.{pow256-pos}
 use Rattle.rules.proofs.Counts.{expected-below}
-use Rattle.rules.proofs.Valid.{Good, good, GoodKind, some-longest, GoodReader, GoodWriter}
+use Rattle.rules.specs.Valid.{Good, GoodKind, GoodReader, GoodWriter}
+use Rattle.rules.proofs.Valid.{good, some-longest}
 
 -- ---- a state is valid when each fact holds
 

@@ -1,4 +1,4 @@
--- What a valid setting and a valid state say, fact by fact.
+-- The rules of a valid setting and a valid state give each fact that they are made of.
 use mathlib.Core.Path.{_≡_, refl, sym, ap, ap₂, _∙_}
 use Prim.Native.Nat.{ℕ, zero, suc, _+_, _-_, _^_, _≤_, _<_}
 use native.Mathlib.Omega.{arith}
@@ -17,19 +17,10 @@ use Rattle.rules.specs.declared.Place.the-variants.{At, Nowhere}
 use Rattle.rules.specs.Tests.{all, every, _=?_, _≠?_}
 use Rattle.rules.specs.Settings.{channel, lane, channelOf, expect, heldBy, count, number, zone, rangesOk, channelOk, channelsAgree, channelsOk, kindOk, laneOk, lanesDiffer, lanesOk, settingOk, readerOk, writerOk}
 use Rattle.rules.specs.Refusals.{channelAt, laneAt}
+use Rattle.rules.specs.Valid.{least, GoodKind, GoodChannel, GoodLane, Good, GoodReader, GoodWriter}
 use Rattle.rules.proofs.Tests.{and-left, and-right, all-at, every-at, first-at}
 
 -- ---- a lane's kind
-
--- The least that a lane's longest unit may be.
-abbrev pub least : Kind → ℕ
-least Packets = 7
-least Access = 1
-
-pub record GoodKind (k : Kind) (longest protocol : ℕ) : Type 0 where
-  pub enough : least k ≤ longest
-  pub most : longest ≤ 8192
-  pub upid : protocol ≤ 30
 
 pub good-kind : (k : Kind) (longest upid : ℕ) → kindOk k longest upid ≡ true → GoodKind k longest upid
 unfolding kindOk
@@ -43,34 +34,7 @@ pub some-longest : (k : Kind) (longest upid : ℕ) → GoodKind k longest upid �
 some-longest Packets longest upid g = omega (arith, g .enough)
 some-longest Access longest upid g = g .enough
 
--- ---- the setting
-
-pub record GoodChannel (s : Setting) (c : ℕ) : Type 0 where
-  pub vc : (channel s c) .vc ≤ 62
-  pub service : (channel s c) .service ≤ 1
-  pub one : 1 ≤ (channel s c) .octets
-  pub seven : (channel s c) .octets ≤ 7
-  pub room : 1 ≤ zone s (channel s c)
-  pub found : channelAt s ((channel s c) .vc) ((channel s c) .service) ≡ At c
-
-pub record GoodLane (s : Setting) (l : ℕ) : Type 0 where
-  pub channel : (lane s l) .channel < s .listed
-  pub map : (lane s l) .map ≤ 15
-  pub kind : GoodKind ((lane s l) .kind) ((lane s l) .longest) ((lane s l) .upid)
-  pub found : laneAt s ((lane s l) .channel) ((lane s l) .map) ≡ At l
-
-pub record Good (s : Setting) : Type 0 where
-  pub low : 32 ≤ s .length
-  pub high : s .length ≤ 4096
-  pub craft : s .craft ≤ 65535
-  pub bit : s .bit ≤ 1
-  pub insert : s .insert ≤ 64
-  pub listed : s .listed ≤ 8
-  pub numbered : s .numbered ≤ 8
-  pub channels : (c : ℕ) → c < s .listed → GoodChannel s c
-  pub lanes : (l : ℕ) → l < s .numbered → GoodLane s l
-
--- ---- look-up finds a listed channel and a numbered lane: no earlier one is like it
+-- ---- the setting: look-up finds a listed channel and a numbered lane: no earlier one is like it
 
 same-pair : ℕ → ℕ → ℕ → ℕ → Bool
 same-pair a b x y = a =? x && b =? y
@@ -150,12 +114,6 @@ good-channelOf {s} g l h = g .channels ((lane s l) .channel) (g .lanes l h .chan
 
 -- ---- states
 
-pub record GoodReader (r : Reader) : Type 0 where
-  pub ok : settingOk (r .setting) ≡ true
-  pub setting : Good (r .setting)
-  pub counts : (c : ℕ) → c < r .setting .listed → (expect r c) .count < 256 ^ (channel (r .setting) c) .octets
-  pub held : (l : ℕ) → l < r .setting .numbered → heldBy r l < (lane (r .setting) l) .longest
-
 pub good-reader : (r : Reader) → readerOk r ≡ true → GoodReader r
 unfolding readerOk
 good-reader r e =
@@ -165,12 +123,6 @@ good-reader r e =
       counts = λ c h. ltb-true _ _ (every-at _ (r .setting .listed) (all-at _ 1 e) c h);
       held = λ l h. ltb-true _ _ (every-at _ (r .setting .numbered) (all-at _ 2 e) l h);
     }
-
-pub record GoodWriter (w : Writer) : Type 0 where
-  pub ok : settingOk (w .setting) ≡ true
-  pub setting : Good (w .setting)
-  pub counts : (c : ℕ) → c < w .setting .listed → count w c < 256 ^ (channel (w .setting) c) .octets
-  pub numbers : (l : ℕ) → l < w .setting .numbered → number w l ≤ 32767
 
 pub good-writer : (w : Writer) → writerOk w ≡ true → GoodWriter w
 unfolding writerOk

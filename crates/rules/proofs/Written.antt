@@ -28,7 +28,8 @@ use Rattle.rules.specs.Refusals.{channelAt, laneAt, ruleFits, dataWrong,
 use Rattle.rules.specs.Calls.{writeRefusals, written, write}
 use Rattle.rules.proofs.Areas.{laid-front, laid-behind}
 use Rattle.rules.proofs.Octets.{flag-small, length-be, num-be-below, Fit, bits-back, check-below}
-use Rattle.rules.proofs.Valid.{Good, good, GoodChannel, GoodLane, good-channelOf}
+use Rattle.rules.specs.Valid.{Good, GoodChannel, GoodLane}
+use Rattle.rules.proofs.Valid.{good, good-channelOf}
 use Rattle.rules.proofs.Judged.{Clear, none-given}
 use Rattle.rules.proofs.Calls.{Accepted, none-refused, accepted}
 

@@ -24,7 +24,7 @@ use Rattle.rules.specs.Settings.{channel, lane, channelOf, heldBy, count
 use Rattle.rules.specs.Frames.{countIn, ruleIn, pointerIn, zoneIn, pointsTo}
 use Rattle.rules.specs.Writing.{batchOk, frames, frameOf, writerAfter}
 use Rattle.rules.specs.Reading.{gap, Made, laneStep, recordsFrom, infoOf}
-use Rattle.rules.specs.Refusals.{judge}
+use Rattle.rules.specs.Refusals.{refusals, judged}
 
 -- ---- the paper's number for each case of an answer; 0 where none is refused
 
@@ -155,8 +155,18 @@ onVerdict (Verdict.Read l) r f h u c =
     readOn (gap r ((lane (r .setting) l) .channel) (countIn (channelOf (r .setting) l) f)) l (channelOf (r .setting) l) f h u c
 
 -- "Reader 1 to 12."
+unfoldable pub readRefusals : Reader → List ℕ → List ℕ → List ℕ → List ℕ → List Refusal
+readRefusals r f h u c =
+    -- "setting or state not valid"
+    refuse 1 (not (readerOk r))
+    -- "an area is too short (held area: not 65,536; ...)"
+    ∷ refuse 2 (areasShort h u c)
+    -- the frame's own, 3 to 12
+    ∷ refusals (r .setting) f
+
+-- What the checks say of a read.
 unfoldable pub verdict : Reader → List ℕ → List ℕ → List ℕ → List ℕ → Verdict
-verdict r f h u c = cond (not (readerOk r)) (Verdict.Refused 1) (cond (areasShort h u c) (Verdict.Refused 2) (judge (r .setting) f))
+verdict r f h u c = judged (r .setting) f (given (readRefusals r f h u c))
 
 unfoldable pub read : Reader → List ℕ → List ℕ → List ℕ → List ℕ → Got
 read r f h u c = onVerdict (verdict r f h u c) r f h u c

@@ -10,7 +10,9 @@ pub mod Packets
 pub mod Writing
 pub mod Reading
 pub mod Refusals
+pub mod Valid
 pub mod Calls
+pub mod Promises
 pub mod Worked
 pub mod Listing
 pub mod Errors

@@ -14,7 +14,8 @@ use Rattle.rules.specs.Areas.{laid}
 use Rattle.rules.specs.Settings.{lane, channelOf, count, number, zone, ocfOctets, checkOctets, writerOk}
 use Rattle.rules.specs.Writing.{frames, frameOf, numberAfter, countAfter, writerAfter}
 use Rattle.rules.specs.Calls.{Sent, writeRefusals, written, write}
-use Rattle.rules.proofs.Valid.{Good, GoodWriter, good-writer, good-channelOf}
+use Rattle.rules.specs.Valid.{Good, GoodWriter}
+use Rattle.rules.proofs.Valid.{good-writer, good-channelOf}
 use Rattle.rules.proofs.Calls.{Accepted, none-refused}
 use Rattle.rules.proofs.Written.{zone-small}
 use Rattle.frames.specs.declared.Line.{Line}

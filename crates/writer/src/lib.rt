@@ -5,7 +5,8 @@ ghost use Prim.Native.Nat.{_<_};
 ghost use Rattle.rules.specs.Tests.{given};
 ghost use Rattle.rules.specs.Settings.{channelOf, number, zone, writerOk};
 ghost use Rattle.rules.specs.Writing.{frames, numberAfter, writerAfter};
-ghost use Rattle.rules.specs.Calls.{setUpWriter, writeRefusals, write};
+ghost use Rattle.rules.specs.Calls.{writeRefusals};
+ghost use Rattle.rules.specs.Promises.{WriterStarts, WriteGives};
 ghost use Rattle.writer.specs.Lines.{lineOf, lateRefusals, batchRefusals};
 use frames::Line;
 use rules::Outcome;
@@ -122,7 +123,7 @@ fn refusal(w: Writer, l: usize, batch: &[u8], insert: &[u8], ocf: &[u8], area: &
 
 // A fresh writer of this setting, or refusal 1 and a state of zeros.
 pub fn set_up(s: Setting) -> Sender
-    ensures { λ r. ⌜ r ≡ setUpWriter s ⌝ }
+    ensures { λ r. ⌜ WriterStarts s r ⌝ }
 {
     let ok = setting::setting_ok(s);
     if ok {
@@ -148,7 +149,7 @@ pub fn write(
     ocf: &[u8],
     area: &mut [u8],
 ) -> Sender
-    ensures { λ r. ⌜ record { sender = r; area = now (area .exit) } ≡ write w l (now (batch .entry)) (now (insert .entry)) (now (ocf .entry)) (now (area .entry)) ⌝ }
+    ensures { λ r. ⌜ WriteGives w l (now (batch .entry)) (now (insert .entry)) (now (ocf .entry)) (now (area .entry)) r (now (area .exit)) ⌝ }
 {
     let n = refusal(w, l, batch, insert, ocf, area);
     if n == 0 {

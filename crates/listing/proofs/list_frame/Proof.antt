@@ -1,5 +1,6 @@
 -- The read, the opening and the line, one after another.
 use native.Mathlib.Omega.{arith}
+use Rattle.rules.proofs.Promises.{read-is}
 use Rattle.listing.proofs.Texts.{length-opening, listed}
 use borrow.Author.Needs.{needs}
 use Rattle.listing.proofs.list_frame.Statement.{statement}
@@ -34,7 +35,7 @@ same-length-4 c = search needs
 returns : tie.Need-returns
 returns c =
     let a = c .before .before .before .before .before .before .before .before .before .before .before .before .before .before .before .before .before .before .before .before .before .before .before .before .before .args in
-    listed (a .k) _ (c .before .before .before .before .before .before .before .before .before .before .before .before .before .before .before .before .read .result) _ _ _ (a .area .now) _ _ _ _ (c .before .before .before .before .before .before .before .before .before .before .before .before .before .before .before .before .before .before .before .before .before .before .before .before .before .pre .1) (c .before .before .before .before .before .before .before .before .before .before .before .before .before .before .before .before .read .ensures) (c .before .before .before .before .before .before .put-opening .ensures) (c .before .before .put-line .ensures)
+    listed (a .k) _ (c .before .before .before .before .before .before .before .before .before .before .before .before .before .before .before .before .read .result) _ _ _ (a .area .now) _ _ _ _ (c .before .before .before .before .before .before .before .before .before .before .before .before .before .before .before .before .before .before .before .before .before .before .before .before .before .pre .1) (read-is _ _ _ _ _ _ (c .before .before .before .before .before .before .before .before .before .before .before .before .before .before .before .before .read .ensures)) (c .before .before .before .before .before .before .put-opening .ensures) (c .before .before .put-line .ensures)
 
 pub list-frame-spec : {M : Type 1} → statement M
 list-frame-spec =

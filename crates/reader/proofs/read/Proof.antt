@@ -1,7 +1,7 @@
 -- `reader::read` meets its contract: each case of the verdict makes what the rule makes of it.
 use mathlib.Core.Path.{_≡_, refl, sym, ap, _∙_}
 use Rattle.rules.specs.Calls.{onVerdict}
-use Rattle.reader.proofs.Verdicts.{verdict-is, read-as, untouched-areas, counts, lanes, on-lane, read-on-lane}
+use Rattle.reader.proofs.Verdicts.{verdict-is, areas-kept, counts, lanes, on-lane, lane-kept}
 use borrow.Author.Needs.{needs}
 use Rattle.reader.proofs.read.Statement.{statement}
 use Rattle.reader.proofs.read.Tie as tie
@@ -50,21 +50,21 @@ unfolding onVerdict
 returns c =
     let a = c .before .before .before .before .before .before .before .before .before .args in
     let e = verdict-is (a .r) (a .frame .now) (a .held .now) (a .units .now) (a .records .now) _ _ (c .before .before .before .before .verdict-of .ensures) (c .before .before .v .given .1) in
-    untouched-areas (a .held .now) (a .units .now) (a .records .now) (c .untouched .ensures) ∙ read-as (a .r) (a .frame .now) (a .held .now) (a .units .now) (a .records .now) _ e
+    areas-kept (a .r) (a .frame .now) (a .held .now) (a .units .now) (a .records .now) _ _ _ e (c .untouched .ensures) refl
 
 returns-2 : tie.Need-returns-2
 unfolding onVerdict
 returns-2 c =
     let a = c .before .before .before .before .before .before .before .before .args in
     let e = verdict-is (a .r) (a .frame .now) (a .held .now) (a .units .now) (a .records .now) _ _ (c .before .before .before .verdict-of .ensures) (c .before .enum-told .given .1) in
-    untouched-areas (a .held .now) (a .units .now) (a .records .now) (c .untouched2 .ensures) ∙ read-as (a .r) (a .frame .now) (a .held .now) (a .units .now) (a .records .now) _ e
+    areas-kept (a .r) (a .frame .now) (a .held .now) (a .units .now) (a .records .now) _ _ _ e (c .untouched2 .ensures) refl
 
 returns-3 : tie.Need-returns-3
 unfolding onVerdict
 returns-3 c =
     let a = c .before .before .before .before .before .before .before .before .before .args in
     let e = verdict-is (a .r) (a .frame .now) (a .held .now) (a .units .now) (a .records .now) _ _ (c .before .before .before .before .verdict-of .ensures) (c .before .before .v2 .given .1) in
-    untouched-areas (a .held .now) (a .units .now) (a .records .now) (c .count-on .ensures) ∙ read-as (a .r) (a .frame .now) (a .held .now) (a .units .now) (a .records .now) _ e
+    areas-kept (a .r) (a .frame .now) (a .held .now) (a .units .now) (a .records .now) _ _ _ e (c .count-on .ensures) refl
 
 same-length : tie.Need-same-length
 same-length c = search needs
@@ -79,7 +79,7 @@ returns-4 : tie.Need-returns-4
 returns-4 c =
     let a = c .before .before .before .before .before .before .before .before .before .before .before .before .before .before .before .before .before .before .before .args in
     let e = verdict-is (a .r) (a .frame .now) (a .held .now) (a .units .now) (a .records .now) _ _ (c .before .before .before .before .before .before .before .before .before .before .before .before .before .before .verdict-of .ensures) (c .before .before .before .before .before .before .before .before .before .before .before .before .v3 .given .1) in
-    read-on-lane (a .r) (a .frame .now) (a .held .now) (a .units .now) (a .records .now) _ _ e (c .before .before .before .before .before .before .before .before .before .before .lane-gap .ensures) _ (c .before .before .before .before .before .before .read-on .ensures)
+    lane-kept (a .r) (a .frame .now) (a .held .now) (a .units .now) (a .records .now) _ _ e (c .before .before .before .before .before .before .before .before .before .before .lane-gap .ensures) _ (c .before .before .before .before .before .before .read-on .ensures)
 
 pub read-spec : {M : Type 1} → statement M
 read-spec =

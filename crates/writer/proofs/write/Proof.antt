@@ -1,6 +1,7 @@
 -- `writer::write` meets its contract: where no refusal applies the frame is laid and the state moves on; otherwise nothing changes.
 use mathlib.Core.Path.{_≡_, sym, ap, _∙_}
 use Rattle.rules.proofs.Calls.{none-refused}
+use Rattle.rules.proofs.Promises.{write-by}
 use Rattle.rules.proofs.States.{writer-ok}
 use Rattle.writer.proofs.Lines.{ready, written-is, refused-is}
 use borrow.Author.Needs.{needs}
@@ -29,7 +30,8 @@ same-length c = search needs
 returns : tie.Need-returns
 returns c =
     let a = c .before .before .before .before .before .before .before .before .before .before .before .before .before .before .args in
-    written-is (a .w) (a .l) (a .batch .now) (a .insert .now) (a .ocf .now) (a .area .now) (c .before .before .before .before .before .before .line-of .result) (c .after .result) _ (sym (c .before .before .before .before .before .before .before .before .refusal .ensures) ∙ c .before .before .before .before .before .before .before .if1 .taken) (c .before .before .before .before .before .before .line-of .ensures) (c .after .ensures) (c .before .before .before .put-frame .ensures)
+    write-by (a .w) (a .l) (a .batch .now) (a .insert .now) (a .ocf .now) (a .area .now) _
+    (written-is (a .w) (a .l) (a .batch .now) (a .insert .now) (a .ocf .now) (a .area .now) (c .before .before .before .before .before .before .line-of .result) (c .after .result) _ (sym (c .before .before .before .before .before .before .before .before .refusal .ensures) ∙ c .before .before .before .before .before .before .before .if1 .taken) (c .before .before .before .before .before .before .line-of .ensures) (c .after .ensures) (c .before .before .before .put-frame .ensures))
 
 same-length-2 : tie.Need-same-length-2
 same-length-2 c = search needs
@@ -37,7 +39,8 @@ same-length-2 c = search needs
 returns-2 : tie.Need-returns-2
 returns-2 c =
     let a = c .before .before .before .before .before .before .before .args in
-    refused-is (a .w) (a .l) (a .batch .now) (a .insert .now) (a .ocf .now) (a .area .now) (c .before .refusal .result) (c .before .refusal .ensures) (c .if1 .left)
+    write-by (a .w) (a .l) (a .batch .now) (a .insert .now) (a .ocf .now) (a .area .now) _
+    (refused-is (a .w) (a .l) (a .batch .now) (a .insert .now) (a .ocf .now) (a .area .now) (c .before .refusal .result) (c .before .refusal .ensures) (c .if1 .left))
 
 pub write-spec : {M : Type 1} → statement M
 write-spec =

@@ -1,0 +1,338 @@
+-- The promises. Each call's rule keeps its own, and nothing else does: outcomes allowed for one input are equal. So what keeps a promise is
+-- what the rule gives, and its refusals are the paper's numbers.
+use mathlib.Core.Path.{_≡_, refl, sym, ap, ap₂, _∙_}
+use mathlib.Core.Logic.{_⊎_, inl, inr}
+use Prim.Native.Nat.{ℕ, zero, suc, _*_, _<_}
+use native.Mathlib.Nat.{zero-lt-suc}
+use native.Mathlib.Omega.{arith}
+use mathlib.Core.Bool.{Bool, true, false, cond, not, _&&_, _||_, true≢false}
+use mathlib.Core.List.{List, [], _∷_}
+use borrow.Author.Tests.{eqb-true, eq-eqb, ne-eqb, not-false}
+use Rattle.rules.specs.declared.Setting.{Setting}
+use Rattle.rules.specs.declared.Reader.{Reader}
+use Rattle.rules.specs.declared.Writer.{Writer}
+use Rattle.rules.specs.declared.Outcome.{Outcome}
+use Rattle.rules.specs.declared.Outcome.the-variants.{Done, Refused}
+use Rattle.rules.specs.declared.Class.{Class}
+use Rattle.rules.specs.declared.Answer.{Answer}
+use Rattle.rules.specs.declared.Taken.{Taken}
+use Rattle.rules.specs.declared.Listener.{Listener}
+use Rattle.rules.specs.declared.Sender.{Sender}
+use Rattle.rules.specs.declared.Verdict.{Verdict}
+use Rattle.rules.specs.declared.Place.{Place}
+use Rattle.rules.specs.declared.Place.the-variants.{At, Nowhere}
+use Rattle.rules.specs.declared.Gap.{Gap}
+use Rattle.rules.specs.Tests.{_=?_, none, Refusal, given}
+use Rattle.rules.specs.Areas.{laid, joined}
+use Rattle.rules.specs.Settings.{channel, lane, channelOf, settingOk, readerOk, freshReader, freshWriter, noReader, noWriter}
+use Rattle.rules.specs.Frames.{vc, map, bypass, command, countIn}
+use Rattle.rules.specs.Reading.{gap, Made, recordsFrom, infoOf}
+use Rattle.rules.specs.Refusals.{channelAt, laneAt, refusalsAt, refusals, onChannel, passed, judged}
+use Rattle.rules.specs.Calls.{refusalOf, classRefusal, setUpReader, setUpWriter, Sent, writeRefusals, written, write, Got, areasShort, laidOut, madeBy, readOn, onVerdict, readRefusals, verdict, read}
+use Rattle.rules.specs.Promises.{readerNumbers, writerNumbers, setUpNumbers, among, Told, outcomeLeaves, setUpRefusals, ReaderStarts, WriterStarts, WriteGives, placed, channelIn, laneIn, classIn, countOf, gapIn, madeIn, Values, valuesIn, classValues, classState, classArea, ReadGives}
+use Rattle.rules.proofs.Tests.{and-left, and-right, given-zero, first-found, Found}
+use Rattle.rules.specs.Valid.{Good, GoodReader}
+use Rattle.rules.proofs.Valid.{good-reader}
+use Rattle.rules.proofs.Judged.{Clear, clear}
+use Rattle.rules.proofs.States.{gap-setting}
+
+-- ---- the paper's number, and what it says of the case
+
+-- The number of a refusal that is given is one of the table's.
+numbers : List Refusal → List ℕ
+numbers [] = []
+numbers (r ∷ rs) = r .number ∷ numbers rs
+
+given-among : (rs : List Refusal) → (given rs ≡ 0) ⊎ (among (given rs) (numbers rs) ≡ true)
+unfolding given among numbers
+given-among [] = inl refl
+given-among (r ∷ rs) = go (r .applies) (given-among rs)
+  where
+    or-right : (a b : Bool) → b ≡ true → (a || b) ≡ true
+    or-right true b e = refl
+    or-right false b e = e
+
+    Either : ℕ → Type 0
+    Either n = (n ≡ 0) ⊎ ((n =? r .number || among n (numbers rs)) ≡ true)
+
+    go : (t : Bool) → (given rs ≡ 0) ⊎ (among (given rs) (numbers rs) ≡ true) → Either (cond t (r .number) (given rs))
+    go true e = inr (rw (eq-eqb (r .number) (r .number) refl))
+    go false (inl e) = inl e
+    go false (inr e) = inr (or-right (given rs =? r .number) (among (given rs) (numbers rs)) e)
+
+-- An outcome is told by its number: 0 is done.
+told-once : (rs : List Refusal) (a b : Outcome) → Told rs a → Told rs b → a ≡ b
+unfolding refusalOf
+told-once rs Done b p q = sym (q .done (sym (p .refusal)))
+told-once rs (Refused x) Done p q = p .done (sym (q .refusal))
+told-once rs (Refused x) (Refused y) p q = ap Refused (p .refusal ∙ sym (q .refusal))
+
+-- One that is refused has a number of its table.
+told-among : (rs : List Refusal) (o : Outcome) → Told rs o → (n : ℕ) → o ≡ Refused n → among n (numbers rs) ≡ true
+unfolding refusalOf
+told-among rs o t n e = go (given-among rs)
+  where
+    go : (given rs ≡ 0) ⊎ (among (given rs) (numbers rs) ≡ true) → among n (numbers rs) ≡ true
+    go (inl z) = let d = t .done z in let b : _≡_ {A = ℕ} 0 1 = cc in absurd (omega arith)
+    go (inr q) = rw (ap refusalOf (sym e) ∙ t .refusal) q
+
+-- A class likewise, where 0 is the class k.
+class-once : (k a b : Class) (n : ℕ) → classRefusal a ≡ n → (n ≡ 0 → a ≡ k) → classRefusal b ≡ n → (n ≡ 0 → b ≡ k) → a ≡ b
+unfolding classRefusal
+class-once k Class.Idle b n p d q e = d (sym p) ∙ sym (e (sym p))
+class-once k Class.Counted b n p d q e = d (sym p) ∙ sym (e (sym p))
+class-once k Class.Read b n p d q e = d (sym p) ∙ sym (e (sym p))
+class-once k (Class.Refused x) Class.Idle n p d q e = d (sym q) ∙ sym (e (sym q))
+class-once k (Class.Refused x) Class.Counted n p d q e = d (sym q) ∙ sym (e (sym q))
+class-once k (Class.Refused x) Class.Read n p d q e = d (sym q) ∙ sym (e (sym q))
+class-once k (Class.Refused x) (Class.Refused y) n p d q e = ap Class.Refused (p ∙ sym q)
+
+-- ---- set-up
+
+module _ (s : Setting) where
+  start-told : (t : Bool) → settingOk s ≡ t → Told (setUpRefusals s) (cond t Done (Refused 1))
+  unfolding setUpRefusals given refusalOf
+  start-told true e = record { refusal = rw e; done = λ z. refl }
+  start-told false e = record { refusal = rw e; done = λ z. absurd (omega (arith, rw e at z)) }
+
+  pub reader-starts : ReaderStarts s (setUpReader s)
+  unfolding setUpReader outcomeLeaves
+  reader-starts = go (settingOk s) refl
+    where
+      go : (t : Bool) → settingOk s ≡ t
+          → ReaderStarts s (cond t (record { outcome = Done; state = freshReader s }) (record { outcome = Refused 1; state = noReader }))
+      go true e = record { told = start-told true e; state = refl }
+      go false e = record { told = start-told false e; state = refl }
+
+  pub writer-starts : WriterStarts s (setUpWriter s)
+  unfolding setUpWriter outcomeLeaves
+  writer-starts = go (settingOk s) refl
+    where
+      go : (t : Bool) → settingOk s ≡ t
+          → WriterStarts s (cond t (record { outcome = Done; state = freshWriter s }) (record { outcome = Refused 1; state = noWriter }))
+      go true e = record { told = start-told true e; state = refl }
+      go false e = record { told = start-told false e; state = refl }
+
+  -- Outcomes allowed for one input are equal.
+  pub reader-starts-once : (a b : Listener) → ReaderStarts s a → ReaderStarts s b → a ≡ b
+  reader-starts-once a b p q =
+      let e : a .outcome ≡ b .outcome = told-once _ _ _ (p .told) (q .told) in
+      ap₂ (λ (o : Outcome) (r : Reader). record { outcome = o; state = r }) e (p .state ∙ rw e (sym (q .state)))
+
+  pub writer-starts-once : (a b : Sender) → WriterStarts s a → WriterStarts s b → a ≡ b
+  writer-starts-once a b p q =
+      let e : a .outcome ≡ b .outcome = told-once _ _ _ (p .told) (q .told) in
+      ap₂ (λ (o : Outcome) (w : Writer). record { outcome = o; state = w }) e (p .state ∙ rw e (sym (q .state)))
+
+  pub reader-starts-by : (a : Listener) → a ≡ setUpReader s → ReaderStarts s a
+  reader-starts-by a e = rw e reader-starts
+
+  pub writer-starts-by : (a : Sender) → a ≡ setUpWriter s → WriterStarts s a
+  writer-starts-by a e = rw e writer-starts
+
+  pub reader-starts-is : (a : Listener) → ReaderStarts s a → a ≡ setUpReader s
+  reader-starts-is a p = reader-starts-once a (setUpReader s) p reader-starts
+
+  pub writer-starts-is : (a : Sender) → WriterStarts s a → a ≡ setUpWriter s
+  writer-starts-is a p = writer-starts-once a (setUpWriter s) p writer-starts
+
+  -- "Set-up 1."
+  pub reader-starts-number : (a : Listener) → ReaderStarts s a → (n : ℕ) → a .outcome ≡ Refused n → among n setUpNumbers ≡ true
+  unfolding setUpRefusals numbers
+  reader-starts-number a p n e = told-among _ _ (p .told) n e
+
+  pub writer-starts-number : (a : Sender) → WriterStarts s a → (n : ℕ) → a .outcome ≡ Refused n → among n setUpNumbers ≡ true
+  unfolding setUpRefusals numbers
+  writer-starts-number a p n e = told-among _ _ (p .told) n e
+
+-- ---- write
+
+module _ (w : Writer) (l : ℕ) (batch insert ocf area : List ℕ) where
+  abbrev pub Gives : Sent → Type 0
+  Gives o = WriteGives w l batch insert ocf area (o .sender) (o .area)
+
+  pub write-gives : Gives (write w l batch insert ocf area)
+  unfolding write refusalOf outcomeLeaves
+  write-gives = go (given (writeRefusals w l batch insert ocf area)) refl
+    where
+      go : (n : ℕ) → given (writeRefusals w l batch insert ocf area) ≡ n → Gives (written w l batch insert ocf area n)
+      go zero e = unfold written in record { told = record { refusal = sym e; done = λ z. refl }; state = refl; frame = refl }
+      go (suc n) e =
+          unfold written in
+          record { told = record { refusal = sym e; done = λ z. absurd (omega (arith, sym e ∙ z)) }; state = refl; frame = refl }
+
+  -- Outcomes allowed for one input are equal.
+  pub write-once : (a b : Sent) → Gives a → Gives b → a ≡ b
+  write-once a b p q =
+      let e : a .sender .outcome ≡ b .sender .outcome = told-once _ _ _ (p .told) (q .told) in
+      let f : a .sender .state ≡ b .sender .state = p .state ∙ rw e (sym (q .state)) in
+      let g : a .area ≡ b .area = p .frame ∙ rw e (sym (q .frame)) in
+      ap₂ (λ (s : Sender) (x : List ℕ). record { sender = s; area = x })
+      (ap₂ (λ (o : Outcome) (v : Writer). record { outcome = o; state = v }) e f) g
+
+  pub write-by : (a : Sent) → a ≡ write w l batch insert ocf area → Gives a
+  write-by a e = rw e write-gives
+
+  pub write-is : (a : Sent) → Gives a → a ≡ write w l batch insert ocf area
+  write-is a p = write-once a (write w l batch insert ocf area) p write-gives
+
+  -- "Writer 1, 2, 13 to 16."
+  pub write-number : (a : Sent) → Gives a → (n : ℕ) → a .sender .outcome ≡ Refused n → among n writerNumbers ≡ true
+  unfolding writeRefusals numbers
+  write-number a p n e = told-among _ _ (p .told) n e
+
+-- ---- read: an answer is its class and its values; what comes back is the answer, the state and three areas
+
+answer-same : (a b : Answer) → a .class ≡ b .class → valuesIn a ≡ valuesIn b → a ≡ b
+unfolding valuesIn
+answer-same a b k v =
+    ap₂
+    (λ (x : Class) (y : Values).
+    record { class = x; units = y .units; octets = y .octets; missing = y .missing; idle = y .idle; fill = y .fill; dropped = y .dropped })
+    k v
+
+got-same : (a b : Got) → a .taken ≡ b .taken → a .heldArea ≡ b .heldArea → a .unitArea ≡ b .unitArea → a .recordArea ≡ b .recordArea → a ≡ b
+got-same a b t x y z =
+    ap₂ (λ (o : Taken) (i : List ℕ). record { taken = o; heldArea = i; unitArea = a .unitArea; recordArea = a .recordArea }) t x
+    ∙ ap₂ (λ (i j : List ℕ). record { taken = b .taken; heldArea = b .heldArea; unitArea = i; recordArea = j }) y z
+
+-- ---- read: a frame that passes the checks
+
+module _ (r : Reader) (f h u c : List ℕ) where
+  abbrev pub Keeps : Got → Type 0
+  Keeps o = ReadGives r f h u c (o .taken) (o .heldArea) (o .unitArea) (o .recordArea)
+
+  abbrev s : Setting
+  s = r .setting
+
+  -- A refusal, or none.
+  refused-gives : (n : ℕ) → given (readRefusals r f h u c) ≡ suc n → Keeps (onVerdict (Verdict.Refused (suc n)) r f h u c)
+  unfolding onVerdict classRefusal valuesIn classValues classState classArea
+  refused-gives n e =
+      record {
+        refusal = sym e;
+        class = λ z. absurd (omega (arith, sym e ∙ z));
+        values = refl;
+        state = refl;
+        held = refl;
+        units = refl;
+        records = refl;
+      }
+
+  module _ (none-given : given (readRefusals r f h u c) ≡ 0) where
+    idle-gives : classIn s f ≡ Class.Idle → Keeps (onVerdict Verdict.Idle r f h u c)
+    unfolding onVerdict classRefusal valuesIn classValues classState classArea
+    idle-gives e =
+        record { refusal = sym none-given; class = λ z. sym e; values = refl; state = refl; held = refl; units = refl; records = refl }
+
+    counted-gives : (k : ℕ) → channelIn s f ≡ k → classIn s f ≡ Class.Counted → Keeps (onVerdict (Verdict.Counted k) r f h u c)
+    unfolding onVerdict classRefusal valuesIn classValues classState classArea gapIn countOf
+    counted-gives k q e =
+        record {
+          refusal = sym none-given;
+          class = λ z. sym e;
+          values = rw q;
+          state = rw q;
+          held = refl;
+          units = refl;
+          records = refl;
+        }
+
+    read-lane-gives : (k l : ℕ) → channelIn s f ≡ k → laneIn s f ≡ l → (lane s l) .channel ≡ k → classIn s f ≡ Class.Read
+        → Keeps (onVerdict (Verdict.Read l) r f h u c)
+    unfolding onVerdict readOn laidOut classRefusal valuesIn classValues classState classArea gapIn madeIn countOf
+    read-lane-gives k l q p o e =
+        record {
+          refusal = sym none-given;
+          class = λ z. sym e;
+          values = rw (q, p, o);
+          state = rw (q, p, o);
+          held = rw (q, p, o);
+          units = rw (q, p, o);
+          records = rw (q, p, o, gap-setting r k (countIn (channel (r .setting) k) f));
+        }
+
+    class-other : vc f =? 63 ≡ false → (k : ℕ) → channelIn s f ≡ k → (p : Place) → laneAt s k (map f) ≡ p → (t : Bool) → command f =? 1 ≡ t
+        → classIn s f ≡ cond (t || none p) Class.Counted Class.Read
+    unfolding classIn
+    class-other e k q p o t a = rw (e, q, o, a)
+
+    lane-gives : vc f =? 63 ≡ false → (k : ℕ) → channelIn s f ≡ k → (p : Place) → laneAt s k (map f) ≡ p
+        → Found (λ (l : ℕ). (lane s l) .channel =? k && (lane s l) .map =? map f) (s .numbered) p
+        → Keeps (onVerdict (onChannel f k p) r f h u c)
+    unfolding onChannel laneIn
+    lane-gives e k q Nowhere o i = go (command f =? 1) refl
+      where
+        go : (t : Bool) → command f =? 1 ≡ t → Keeps (onVerdict (Verdict.Counted k) r f h u c)
+        go true a = counted-gives k q (class-other e k q Nowhere o true a)
+        go false a = counted-gives k q (class-other e k q Nowhere o false a)
+    lane-gives e k q (At l) o i = go (command f =? 1) refl
+      where
+        on : (lane s l) .channel ≡ k
+        on = eqb-true _ _ (and-left _ _ (i .1))
+
+        go : (t : Bool) → command f =? 1 ≡ t → Keeps (onVerdict (cond t (Verdict.Counted k) (Verdict.Read l)) r f h u c)
+        go true a = counted-gives k q (class-other e k q (At l) o true a)
+        go false a = read-lane-gives k l q (rw q (ap placed o)) on (class-other e k q (At l) o false a)
+
+    channel-gives : GoodReader r → (p : Place) → channelAt s (vc f) (bypass f) ≡ p
+        → Found (λ (k : ℕ). (channel s k) .vc =? vc f && (channel s k) .service =? bypass f) (s .listed) p → Clear s f p
+        → Keeps (onVerdict (passed s f p) r f h u c)
+    unfolding passed channelIn laneAt
+    channel-gives g Nowhere q i k = idle-gives (go (vc f =? 63) refl (k .row₉))
+      where
+        go : (t : Bool) → vc f =? 63 ≡ t → (not t && true) ≡ false → classIn s f ≡ Class.Idle
+        go true e z = unfold classIn in rw e
+        go false e z = absurd (true≢false z)
+    channel-gives g (At j) q i k =
+        let v : (channel s j) .vc ≡ vc f = eqb-true _ _ (and-left _ _ (i .1)) in
+        lane-gives (ne-eqb (vc f) 63 (λ (e : vc f ≡ 63). omega (arith, v, e, g .setting .channels j (i .0) .vc))) j (ap placed q) (laneAt s j (map f)) refl
+        (first-found _ (s .numbered))
+
+  -- The rule of a read keeps the promise.
+  pub read-gives : Keeps (read r f h u c)
+  unfolding read verdict readRefusals refusals channelAt
+  read-gives = go (given (readRefusals r f h u c)) refl
+    where
+      go : (n : ℕ) → given (readRefusals r f h u c) ≡ n → Keeps (onVerdict (judged s f n) r f h u c)
+      go zero e =
+          unfold judged in
+          let r₁ = given-zero _ _ (zero-lt-suc 0) e in
+          let r₂ = given-zero _ _ (zero-lt-suc 1) (r₁ .1) in
+          channel-gives e (good-reader r (not-false _ (r₁ .0))) (channelAt s (vc f) (bypass f)) refl (first-found _ (s .listed)) (clear (r₂ .1))
+      go (suc n) e = unfold judged in refused-gives n e
+
+  -- Outcomes allowed for one input are equal.
+  pub read-once : (a b : Got) → Keeps a → Keeps b → a ≡ b
+  read-once a b p q =
+      let k : a .taken .answer .class ≡ b .taken .answer .class = class-once _ _ _ _ (p .refusal) (p .class) (q .refusal) (q .class) in
+      let v : valuesIn (a .taken .answer) ≡ valuesIn (b .taken .answer) = p .values ∙ rw k (sym (q .values)) in
+      let t : a .taken .state ≡ b .taken .state = p .state ∙ rw k (sym (q .state)) in
+      got-same a b (ap₂ (λ (x : Answer) (y : Reader). record { answer = x; state = y }) (answer-same _ _ k v) t)
+      (p .held ∙ rw k (sym (q .held))) (p .units ∙ rw k (sym (q .units))) (p .records ∙ rw k (sym (q .records)))
+
+  pub read-by : (a : Got) → a ≡ read r f h u c → Keeps a
+  read-by a e = rw e read-gives
+
+  pub read-is : (a : Got) → Keeps a → a ≡ read r f h u c
+  read-is a p = read-once a (read r f h u c) p read-gives
+
+  -- "Reader 1 to 12."
+  pub read-number : (a : Got) → Keeps a → (n : ℕ) → a .taken .answer .class ≡ Class.Refused n → among n readerNumbers ≡ true
+  unfolding readRefusals refusals refusalsAt numbers classRefusal classIn
+  read-number a p n e = go (given-among (readRefusals r f h u c))
+    where
+      never : (t t′ : Bool) → cond t Class.Idle (cond t′ Class.Counted Class.Read) ≡ Class.Refused n → ⊥
+      never true t′ q = let z : _≡_ {A = ℕ} 0 1 = cc in omega (arith, z)
+      never false true q = let z : _≡_ {A = ℕ} 0 1 = cc in omega (arith, z)
+      never false false q = let z : _≡_ {A = ℕ} 0 1 = cc in omega (arith, z)
+
+      go : (given (readRefusals r f h u c) ≡ 0) ⊎ (among (given (readRefusals r f h u c)) (numbers (readRefusals r f h u c)) ≡ true)
+          → among n readerNumbers ≡ true
+      go (inl z) = absurd (never (vc f =? 63) (command f =? 1 || none (laneAt s (channelIn s f) (map f))) (sym (p .class z) ∙ e))
+      go (inr q) = rw (ap classRefusal (sym e) ∙ p .refusal) q
+
+-- No call answers Refused(0).
+pub zero-in-none : (among 0 readerNumbers ≡ false) × (among 0 writerNumbers ≡ false) × (among 0 setUpNumbers ≡ false)
+unfolding among
+zero-in-none = (refl, refl, refl)
