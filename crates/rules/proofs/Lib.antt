@@ -11,3 +11,4 @@ pub mod Calls
 pub mod Promises
 pub mod Written
 pub mod Worked
+pub mod RuledOut

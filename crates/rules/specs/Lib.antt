@@ -16,3 +16,4 @@ pub mod Promises
 pub mod Worked
 pub mod Listing
 pub mod Errors
+pub mod RuledOut
