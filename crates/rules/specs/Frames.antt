@@ -9,37 +9,35 @@ use Rattle.rules.specs.declared.Setting.{Setting}
 use Rattle.rules.specs.declared.Place.{Place}
 use Rattle.rules.specs.declared.Place.the-variants.{At, Nowhere}
 use Rattle.rules.specs.Tests.{_=?_, _<?_}
-use Rattle.rules.specs.Octets.{be, num, Field, field, packed, bits, flag, checkOf}
+use Rattle.rules.specs.Octets.{be, num, Field, field, packed, bits, flag, checkOf, fieldsOf, fieldIn}
 use Rattle.rules.specs.Settings.{zone, checkOctets}
 
--- ---- from a setting to octets
+-- ---- fields in printed order
 
 -- "Primary header: version 4 bits (1100), spacecraft 16, source-or-destination 1, virtual channel 6, map 4, end-of-header flag 1
 -- (0 here); length 16 bits, the total less one; bypass 1 (0 sequence-controlled, 1 expedited), control command 1, spare 2 (00),
--- OCF flag 1, count length 3." "Control command is 0."
+-- OCF flag 1, count length 3." How many bits each has.
+abbrev pub headerWidths : List ℕ
+headerWidths = 4 ∷ 16 ∷ 1 ∷ 6 ∷ 4 ∷ 1 ∷ 16 ∷ 1 ∷ 1 ∷ 2 ∷ 1 ∷ 3 ∷ []
+
+-- "Construction rule 3 bits with UPID 5 bits, pointer 16 bits."
+abbrev pub dataWidths : List ℕ
+dataWidths = 3 ∷ 5 ∷ 16 ∷ []
+
+-- ---- from a setting to octets
+
+-- The same fields with what is written into them. "Control command is 0."
 unfoldable pub header : Setting → Channel → Lane → List Field
 header s c l =
-    field 4 0b1100
-    ∷ field 16 (s .craft)
-    ∷ field 1 (s .bit)
-    ∷ field 6 (c .vc)
-    ∷ field 4 (l .map)
-    ∷ field 1 0
-    ∷ field 16 (s .length - 1)
-    ∷ field 1 (c .service)
-    ∷ field 1 0
-    ∷ field 2 0b00
-    ∷ field 1 (flag (c .ocf))
-    ∷ field 3 (c .octets)
-    ∷ []
+    fieldsOf headerWidths
+    (0b1100 ∷ s .craft ∷ s .bit ∷ c .vc ∷ l .map ∷ 0 ∷ (s .length - 1) ∷ c .service ∷ 0 ∷ 0b00 ∷ flag (c .ocf) ∷ c .octets ∷ [])
 
 -- "Then the count, n octets."
 unfoldable pub primary : Setting → Channel → Lane → ℕ → List ℕ
 primary s c l k = be 7 (packed (header s c l)) ++ be (c .octets) k
 
--- "Construction rule 3 bits with UPID 5 bits, pointer 16 bits."
 unfoldable pub dataHeader : ℕ → ℕ → ℕ → List ℕ
-dataHeader rule upid pointer = be 3 (packed (field 3 rule ∷ field 5 upid ∷ field 16 pointer ∷ []))
+dataHeader rule upid pointer = be 3 (packed (fieldsOf dataWidths (rule ∷ upid ∷ pointer ∷ [])))
 
 -- "After it: insert zone, construction rule 3 bits with UPID 5 bits, pointer 16 bits, zone, OCF, frame check."
 unfoldable pub body : Setting → Channel → Lane → ℕ → List ℕ → ℕ → ℕ → List ℕ → List ℕ → List ℕ
@@ -49,43 +47,43 @@ body s c l k insert rule pointer z ocf = primary s c l k ++ insert ++ dataHeader
 unfoldable pub checked : Setting → List ℕ → List ℕ
 checked s xs = xs ++ cond (s .check) (be 2 (checkOf xs)) []
 
--- ---- from octets to fields: the bits are those of 000, 4.1.2
+-- ---- from octets to fields: each by its place in the list
 
 abbrev pub version : List ℕ → ℕ
-version f = bits 7 0 4 f
+version f = fieldIn headerWidths 0 f
 
 abbrev pub craft : List ℕ → ℕ
-craft f = bits 7 4 16 f
+craft f = fieldIn headerWidths 1 f
 
 abbrev pub sourceBit : List ℕ → ℕ
-sourceBit f = bits 7 20 1 f
+sourceBit f = fieldIn headerWidths 2 f
 
 abbrev pub vc : List ℕ → ℕ
-vc f = bits 7 21 6 f
+vc f = fieldIn headerWidths 3 f
 
 abbrev pub map : List ℕ → ℕ
-map f = bits 7 27 4 f
+map f = fieldIn headerWidths 4 f
 
 abbrev pub endOfHeader : List ℕ → ℕ
-endOfHeader f = bits 7 31 1 f
+endOfHeader f = fieldIn headerWidths 5 f
 
 abbrev pub lengthField : List ℕ → ℕ
-lengthField f = bits 7 32 16 f
+lengthField f = fieldIn headerWidths 6 f
 
 abbrev pub bypass : List ℕ → ℕ
-bypass f = bits 7 48 1 f
+bypass f = fieldIn headerWidths 7 f
 
 abbrev pub command : List ℕ → ℕ
-command f = bits 7 49 1 f
+command f = fieldIn headerWidths 8 f
 
 abbrev pub spare : List ℕ → ℕ
-spare f = bits 7 50 2 f
+spare f = fieldIn headerWidths 9 f
 
 abbrev pub ocfFlag : List ℕ → ℕ
-ocfFlag f = bits 7 52 1 f
+ocfFlag f = fieldIn headerWidths 10 f
 
 abbrev pub countLength : List ℕ → ℕ
-countLength f = bits 7 53 3 f
+countLength f = fieldIn headerWidths 11 f
 
 unfoldable pub countIn : Channel → List ℕ → ℕ
 countIn c f = num (take (c .octets) (drop 7 f))
@@ -95,13 +93,13 @@ abbrev pub dataField : Setting → Channel → List ℕ → List ℕ
 dataField s c f = drop (7 + c .octets + s .insert) f
 
 unfoldable pub ruleIn : Setting → Channel → List ℕ → ℕ
-ruleIn s c f = bits 3 0 3 (dataField s c f)
+ruleIn s c f = fieldIn dataWidths 0 (dataField s c f)
 
 unfoldable pub upidIn : Setting → Channel → List ℕ → ℕ
-upidIn s c f = bits 3 3 5 (dataField s c f)
+upidIn s c f = fieldIn dataWidths 1 (dataField s c f)
 
 unfoldable pub pointerIn : Setting → Channel → List ℕ → ℕ
-pointerIn s c f = bits 3 8 16 (dataField s c f)
+pointerIn s c f = fieldIn dataWidths 2 (dataField s c f)
 
 unfoldable pub zoneIn : Setting → Channel → List ℕ → List ℕ
 zoneIn s c f = take (zone s c) (drop 3 (dataField s c f))

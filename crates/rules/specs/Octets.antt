@@ -2,7 +2,7 @@
 use Prim.Native.Nat.{ℕ, zero, suc, _+_, _-_, _*_, _/_, _%_, _^_}
 use mathlib.Core.Bool.{Bool, true, false, cond}
 use mathlib.Core.List.{List, [], _∷_}
-use lib.ListN.{length, take}
+use lib.ListN.{length, getD, take}
 use lib.Bits.{bitXor}
 use Rattle.rules.specs.Tests.{_≤?_}
 
@@ -37,6 +37,21 @@ packed (f ∷ fs) = f .value * 2 ^ widths fs + packed fs
 -- The number in the `width` bits from bit `from` on, of n octets at the front of some.
 unfoldable pub bits : ℕ → ℕ → ℕ → List ℕ → ℕ
 bits n from width xs = num (take n xs) / 2 ^ (8 * n - (from + width)) % 2 ^ width
+
+-- Fields of these widths with these numbers in them.
+abbrev pub fieldsOf : List ℕ → List ℕ → List Field
+fieldsOf [] vs = []
+fieldsOf (w ∷ ws) [] = []
+fieldsOf (w ∷ ws) (v ∷ vs) = field w v ∷ fieldsOf ws vs
+
+-- How many bits there are together.
+abbrev pub total : List ℕ → ℕ
+total [] = 0
+total (w ∷ ws) = w + total ws
+
+-- The number in field i, of fields of these widths one after another at the front of some octets.
+abbrev pub fieldIn : List ℕ → ℕ → List ℕ → ℕ
+fieldIn ws i xs = bits (total ws / 8) (total (take i ws)) (getD ws i 0) xs
 
 -- A flag as a bit.
 abbrev pub flag : Bool → ℕ
