@@ -22,7 +22,7 @@ use Rattle.rules.specs.declared.Verdict.{Verdict}
 use Rattle.rules.specs.declared.Gap.{Gap}
 use Rattle.rules.specs.Tests.{given}
 use Rattle.rules.specs.Areas.{joined, part}
-use Rattle.rules.specs.Settings.{channel, lane, channelOf, heldBy, number, zone, ocfOctets, settingOk, readerOk, writerOk, freshReader, freshWriter, noReader, noWriter}
+use Rattle.rules.specs.Settings.{channel, lane, channelOf, heldBy, number, zoneAt, zoneFor, zone, ocfOctets, settingOk, readerOk, writerOk, freshReader, freshWriter, noReader, noWriter}
 use Rattle.rules.specs.Frames.{countIn, ruleIn, pointerIn, zoneIn, pointsTo}
 use Rattle.rules.specs.Writing.{batchOk, frames}
 use Rattle.rules.specs.Reading.{gap, Made, laneStep}
@@ -205,19 +205,26 @@ module _ (r : Reader) (f h : List ℕ) (l : ℕ) (g : GoodReader r) (lh : l < r 
       let b = good-gapped .held l still-numbered in
       omega (arith, a, b, lane-kind .most)
 
-  small-zone : (c : Channel) → length (zoneIn (after .state .setting) c f) ≤ 4086
-  unfolding zoneIn zone
-  small-zone c =
-      let a = length-take (zone (after .state .setting) c) (drop 3 (drop (7 + c .octets + after .state .setting .insert) f)) in
-      omega (arith, a, good-gapped .setting .high)
+  module _ (whole : length f ≡ r .setting .length) where
+    small-zone : (c : Channel) → length (zoneIn (after .state .setting) c f) ≤ 4086
+    unfolding zoneIn
+    small-zone c =
+        let a = length-take (zoneFor (after .state .setting) c (length f)) (drop (zoneAt (after .state .setting) c) f) in
+        let b = ap (λ (s : Setting). s .length) same-setting in
+        omega (arith, a, b, good-gapped .setting .high)
 
-  pub made-fits : (c : Channel) → Fits (madeBy after l c f h)
-  unfolding madeBy total
-  made-fits c =
-      let t = lane-total ((lane (after .state .setting) l) .kind) ((lane (after .state .setting) l) .longest) (ruleIn (after .state .setting) c f) (take (heldBy (after .state) l) (part l h)) (pointsTo (pointerIn (after .state .setting) c f)) (zoneIn (after .state .setting) c f) in
-      let n = lane-few ((lane (after .state .setting) l) .kind) ((lane (after .state .setting) l) .longest) (ruleIn (after .state .setting) c f) (take (heldBy (after .state) l) (part l h)) (pointsTo (pointerIn (after .state .setting) c f)) (zoneIn (after .state .setting) c f) in
-      let z = small-zone c in
-      record { octets = omega (arith, t, few-held, z); records = omega (arith, n, z) }
+    pub made-fits : (c : Channel) → Fits (madeBy after l c f h)
+    unfolding madeBy total
+    made-fits c =
+        let kind = (lane (after .state .setting) l) .kind in
+        let longest = (lane (after .state .setting) l) .longest in
+        let held = take (heldBy (after .state) l) (part l h) in
+        let place = pointsTo (pointerIn (after .state .setting) c f) in
+        let zone = zoneIn (after .state .setting) c f in
+        let t = lane-total kind longest (ruleIn (after .state .setting) c f) held place zone in
+        let n = lane-few kind longest (ruleIn (after .state .setting) c f) held place zone in
+        let z = small-zone c in
+        record { octets = omega (arith, t, few-held, z); records = omega (arith, n, z) }
 
 -- ---- a valid state stays valid, and what is handed out fits, over every read
 
@@ -249,5 +256,5 @@ read-fits r f h u c = go (verdict r f h u c) (verdict-facts r f h u c)
     go (Verdict.Counted k) o = unfold onVerdict in record { octets = omega arith; records = omega arith }
     go (Verdict.Read l) o =
         unfold onVerdict readOn laidOut in
-        let m = made-fits r f h l (o .good) (o .judged .numbered) (countIn (channelOf (r .setting) l) f) (channelOf (r .setting) l) in
+        let m = made-fits r f h l (o .good) (o .judged .numbered) (countIn (channelOf (r .setting) l) f) (o .judged .whole) (channelOf (r .setting) l) in
         record { octets = m .octets; records = m .records }

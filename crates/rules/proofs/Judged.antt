@@ -99,9 +99,9 @@ neither n from xs a b =
 
 module _ (s : Setting) (f : List ℕ) where
   data-right : (c l : ℕ) → (lane s l) .channel ≡ c → l < s .numbered → length f ≡ s .length → dataWrong s c l f ≡ false → Reads s f l
-  unfolding dataWrong
+  unfolding dataWrong zone
   data-right c l q h n e =
-      let a = or-none _ _ e in
+      let a = or-none _ _ (rw n at e) in
       let b = or-none _ _ (a .0) in
       record {
         numbered = h;

@@ -21,8 +21,8 @@ use Rattle.rules.specs.declared.Verdict.the-variants.{Counted, Read}
 use Rattle.rules.specs.Tests.{_<?_, _=?_, _≠?_, none, at, given}
 use Rattle.rules.specs.Octets.{be, num, Field, field, widths, packed, bits, flag, checkOf}
 use Rattle.rules.specs.Areas.{laid}
-use Rattle.rules.specs.Settings.{channel, lane, channelOf, count, number, zone, ocfOctets, checkOctets, settingOk}
-use Rattle.rules.specs.Frames.{header, primary, dataHeader, body, checked, version, craft, sourceBit, vc, map, endOfHeader, lengthField, bypass, command, spare, ocfFlag, countLength, countIn, dataField, ruleIn, upidIn, pointerIn, zoneIn, checkHolds, pointerTo, pointsTo}
+use Rattle.rules.specs.Settings.{channel, lane, channelOf, count, number, ocfOctets, checkOctets, fieldAt, zoneAt, zoneFor, ocfAt, checkAt, zone, settingOk}
+use Rattle.rules.specs.Frames.{header, primary, dataHeader, body, checked, version, craft, sourceBit, vc, map, endOfHeader, lengthField, bypass, command, spare, ocfFlag, countLength, countIn, insertIn, dataField, ruleIn, upidIn, pointerIn, zoneIn, ocfIn, checkHolds, pointerTo, pointsTo}
 use Rattle.rules.specs.Writing.{piece, fill, zoneOf, ruleOf, offsetOf, inside, pointerOf, frameOf}
 use Rattle.rules.specs.Refusals.{channelAt, laneAt, ruleFits, dataWrong, refusalsAt, refusals, onChannel, passed, judged, judge}
 use Rattle.rules.specs.Calls.{writeRefusals, written, write}
@@ -111,12 +111,12 @@ pub record ReadBack (s : Setting) (l k : ℕ) (ins oc z : List ℕ) (r p : ℕ) 
   pub accepted : given (refusals s f) ≡ 0
   pub read : judge s f ≡ Read l
   pub count : countIn (channelOf s l) f ≡ k
-  pub insert : take (s .insert) (drop (7 + (channelOf s l) .octets) f) ≡ ins
+  pub insert : insertIn s (channelOf s l) f ≡ ins
   pub rule : ruleIn s (channelOf s l) f ≡ r
   pub upid : upidIn s (channelOf s l) f ≡ (lane s l) .upid
   pub pointer : pointerIn s (channelOf s l) f ≡ p
   pub octets : zoneIn s (channelOf s l) f ≡ z
-  pub ocf : take (ocfOctets (channelOf s l)) (drop (zone s (channelOf s l)) (drop 3 (dataField s (channelOf s l) f))) ≡ oc
+  pub ocf : ocfIn s (channelOf s l) f ≡ oc
 
 -- ---- a frame of lane l
 
@@ -240,8 +240,8 @@ module _ (s : Setting) (g : Good s) (l : ℕ) (lh : l < s .numbered) (k : ℕ) (
   unfolding countIn tail
   is-count = ap (λ (xs : List ℕ). num (take (c .octets) xs)) is-tail ∙ ap num (after-count (c .octets) k insert (dataHeader r (a .upid) p) z ocf ck) ∙ num-be-below (c .octets) k kb
 
-  pub is-insert : take (s .insert) (drop (7 + c .octets) whole) ≡ insert
-  unfolding tail
+  pub is-insert : insertIn s c whole ≡ insert
+  unfolding insertIn tail
   is-insert =
       ap (take (s .insert)) (sym (drop-drop (c .octets) 7 whole) ∙ ap (drop (c .octets)) is-tail ∙ after-insert (c .octets) k insert (dataHeader r (a .upid) p) z ocf ck)
       ∙ take-at insert _ (s .insert) hi
@@ -268,15 +268,21 @@ module _ (s : Setting) (g : Good s) (l : ℕ) (lh : l < s .numbered) (k : ℕ) (
   unfolding pointerIn
   is-pointer = ap (bits 3 8 16) is-data ∙ dataHeader-pointer r (a .upid) p _ hr upid-small hp
 
-  is-rest : drop 3 (dataField s c whole) ≡ z ++ (ocf ++ ck)
-  is-rest = ap (drop 3) is-data ∙ drop-at (dataHeader r (a .upid) p) _ 3 (length-dataHeader r (a .upid) p)
+  is-rest : drop (zoneAt s c) whole ≡ z ++ (ocf ++ ck)
+  is-rest =
+      sym (drop-drop 3 (fieldAt s c) whole) ∙ ap (drop 3) is-data ∙ drop-at (dataHeader r (a .upid) p) _ 3 (length-dataHeader r (a .upid) p)
 
   pub is-zone : zoneIn s c whole ≡ z
-  unfolding zoneIn
-  is-zone = ap (take (zone s c)) is-rest ∙ take-at z _ (zone s c) hz
+  unfolding zoneIn zone
+  is-zone =
+      ap (λ (n : ℕ). take (zoneFor s c n) (drop (zoneAt s c) whole)) is-length ∙ ap (take (zone s c)) is-rest ∙ take-at z _ (zone s c) hz
 
-  pub is-ocf : take (ocfOctets c) (drop (zone s c) (drop 3 (dataField s c whole))) ≡ ocf
-  is-ocf = ap (take (ocfOctets c)) (ap (drop (zone s c)) is-rest ∙ drop-at z _ (zone s c) hz) ∙ take-at ocf _ (ocfOctets c) ho
+  pub is-ocf : ocfIn s c whole ≡ ocf
+  unfolding ocfIn zone
+  is-ocf =
+      ap (λ (n : ℕ). take (ocfOctets c) (drop (ocfAt s c n) whole)) is-length
+      ∙ ap (take (ocfOctets c)) (sym (drop-drop (zone s c) (zoneAt s c) whole) ∙ ap (drop (zone s c)) is-rest ∙ drop-at z _ (zone s c) hz)
+      ∙ take-at ocf _ (ocfOctets c) ho
 
   -- ---- the frame check
 
@@ -284,8 +290,8 @@ module _ (s : Setting) (g : Good s) (l : ℕ) (lh : l < s .numbered) (k : ℕ) (
       → checkHolds s (b ++ cond (s .check) (be 2 (checkOf b)) []) ≡ true
   unfolding checkHolds
   checks b true e h =
-      let n : length b ≡ s .length - 2 = omega (arith, simp (length-append, length-be) at (rw e at h)) in
-      rw (e, take-at b (be 2 (checkOf b)) (s .length - 2) n, drop-at b (be 2 (checkOf b)) (s .length - 2) n, num-be-below 2 (checkOf b) (check-below b), eq-eqb (checkOf b) (checkOf b) refl)
+      let n : length b ≡ checkAt (length (b ++ be 2 (checkOf b))) = omega (arith, length-append b (be 2 (checkOf b)), length-be 2 (checkOf b)) in
+      rw (e, take-at b (be 2 (checkOf b)) (checkAt (length (b ++ be 2 (checkOf b)))) n, drop-at b (be 2 (checkOf b)) (checkAt (length (b ++ be 2 (checkOf b)))) n, num-be-below 2 (checkOf b) (check-below b), eq-eqb (checkOf b) (checkOf b) refl)
   checks b false e h = rw e
 
   pub is-checked : checkHolds s whole ≡ true
@@ -298,8 +304,8 @@ module _ (s : Setting) (g : Good s) (l : ℕ) (lh : l < s .numbered) (k : ℕ) (
   same x y e = ap not (eq-eqb x y e)
 
   right : dataWrong s (a .channel) l whole ≡ false
-  unfolding dataWrong
-  right = rw (is-rule, is-upid, is-pointer, hf, hq, same (a .upid) (a .upid) refl)
+  unfolding dataWrong zone
+  right = rw (is-length, is-rule, is-upid, is-pointer, hf, hq, same (a .upid) (a .upid) refl)
 
   pub nothing-applies : Clear s whole (At (a .channel))
   nothing-applies =

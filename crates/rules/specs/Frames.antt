@@ -10,7 +10,7 @@ use Rattle.rules.specs.declared.Place.{Place}
 use Rattle.rules.specs.declared.Place.the-variants.{At, Nowhere}
 use Rattle.rules.specs.Tests.{_=?_, _<?_}
 use Rattle.rules.specs.Octets.{be, num, Field, field, packed, bits, flag, checkOf, fieldsOf, fieldIn}
-use Rattle.rules.specs.Settings.{zone, checkOctets}
+use Rattle.rules.specs.Settings.{ocfOctets, countAt, insertAt, fieldAt, zoneAt, zoneFor, ocfAt, checkAt}
 
 -- ---- fields in printed order
 
@@ -86,11 +86,14 @@ abbrev pub countLength : List ℕ → ℕ
 countLength f = fieldIn headerWidths 11 f
 
 unfoldable pub countIn : Channel → List ℕ → ℕ
-countIn c f = num (take (c .octets) (drop 7 f))
+countIn c f = num (take (c .octets) (drop countAt f))
+
+unfoldable pub insertIn : Setting → Channel → List ℕ → List ℕ
+insertIn s c f = take (s .insert) (drop (insertAt c) f)
 
 -- What follows the insert zone.
 abbrev pub dataField : Setting → Channel → List ℕ → List ℕ
-dataField s c f = drop (7 + c .octets + s .insert) f
+dataField s c f = drop (fieldAt s c) f
 
 unfoldable pub ruleIn : Setting → Channel → List ℕ → ℕ
 ruleIn s c f = fieldIn dataWidths 0 (dataField s c f)
@@ -102,11 +105,13 @@ unfoldable pub pointerIn : Setting → Channel → List ℕ → ℕ
 pointerIn s c f = fieldIn dataWidths 2 (dataField s c f)
 
 unfoldable pub zoneIn : Setting → Channel → List ℕ → List ℕ
-zoneIn s c f = take (zone s c) (drop 3 (dataField s c f))
+zoneIn s c f = take (zoneFor s c (length f)) (drop (zoneAt s c) f)
 
--- The frame check's octets are the last two.
+unfoldable pub ocfIn : Setting → Channel → List ℕ → List ℕ
+ocfIn s c f = take (ocfOctets c) (drop (ocfAt s c (length f)) f)
+
 unfoldable pub checkHolds : Setting → List ℕ → Bool
-checkHolds s f = cond (s .check) (checkOf (take (s .length - 2) f) =? num (drop (s .length - 2) f)) true
+checkHolds s f = cond (s .check) (checkOf (take (checkAt (length f)) f) =? num (drop (checkAt (length f)) f)) true
 
 -- ---- pointers: "FFFF if none starts", "FFFF if the unit goes on"
 

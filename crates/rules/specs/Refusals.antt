@@ -12,7 +12,7 @@ use Rattle.rules.specs.declared.Verdict.{Verdict}
 use Rattle.rules.specs.declared.Verdict.the-variants.{Refused, Idle, Counted, Read}
 use Rattle.rules.specs.Tests.{_<?_, _=?_, _≠?_, first, none, at, Refusal, refuse, given}
 use Rattle.rules.specs.Octets.{flag}
-use Rattle.rules.specs.Settings.{channel, lane, zone}
+use Rattle.rules.specs.Settings.{channel, lane, zoneFor}
 use Rattle.rules.specs.Frames.{version, craft, sourceBit, vc, map, endOfHeader, lengthField, bypass, command, spare, ocfFlag, countLength, ruleIn, upidIn, pointerIn, checkHolds}
 
 -- ---- who owns a frame
@@ -37,7 +37,7 @@ unfoldable pub dataWrong : Setting → ℕ → ℕ → List ℕ → Bool
 dataWrong s c l f =
     not (ruleFits ((lane s l) .kind) (ruleIn s (channel s c) f))
     || upidIn s (channel s c) f ≠? (lane s l) .upid
-    || not (pointerIn s (channel s c) f <? zone s (channel s c) || pointerIn s (channel s c) f =? 0xFFFF)
+    || not (pointerIn s (channel s c) f <? zoneFor s (channel s c) (length f) || pointerIn s (channel s c) f =? 0xFFFF)
 
 -- The rows of the table, from "frame is not F octets" on, for a frame whose virtual channel and service are listed at the place p.
 unfoldable pub refusalsAt : Setting → List ℕ → Place → List Refusal

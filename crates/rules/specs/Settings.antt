@@ -48,7 +48,8 @@ count w c = getD (w .counts) c 0
 abbrev pub number : Writer → ℕ → ℕ
 number w l = getD (w .next) l 0
 
--- ---- the zone
+-- ---- the parts of a frame of n octets on a channel, each by the octet at which it begins: "primary header ...; then the count, n octets.
+-- After it: insert zone, construction rule 3 bits with UPID 5 bits, pointer 16 bits, zone, OCF, frame check."
 
 abbrev pub ocfOctets : Channel → ℕ
 ocfOctets c = cond (c .ocf) 4 0
@@ -56,9 +57,33 @@ ocfOctets c = cond (c .ocf) 4 0
 abbrev pub checkOctets : Setting → ℕ
 checkOctets s = cond (s .check) 2 0
 
+abbrev pub countAt : ℕ
+countAt = 7
+
+abbrev pub insertAt : Channel → ℕ
+insertAt c = countAt + c .octets
+
+-- The data field.
+abbrev pub fieldAt : Setting → Channel → ℕ
+fieldAt s c = insertAt c + s .insert
+
+abbrev pub zoneAt : Setting → Channel → ℕ
+zoneAt s c = fieldAt s c + 3
+
+-- How many octets the zone has: what is left between the pointer and the OCF.
+abbrev pub zoneFor : Setting → Channel → ℕ → ℕ
+zoneFor s c n = n - (zoneAt s c + ocfOctets c + checkOctets s)
+
+abbrev pub ocfAt : Setting → Channel → ℕ → ℕ
+ocfAt s c n = zoneAt s c + zoneFor s c n
+
+-- The frame check's octets are the last two.
+abbrev pub checkAt : ℕ → ℕ
+checkAt n = n - 2
+
 -- "The zone of a channel is Z = F - 7 - n - I - 3, less 4 with OCF, less 2 with frame check."
 unfoldable pub zone : Setting → Channel → ℕ
-zone s c = s .length - (7 + c .octets + s .insert + 3 + ocfOctets c + checkOctets s)
+zone s c = zoneFor s c (s .length)
 
 -- ---- a valid setting
 
