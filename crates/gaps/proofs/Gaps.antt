@@ -17,8 +17,6 @@ use Rattle.rules.specs.declared.Gap.{Gap}
 use Rattle.rules.specs.Tests.{_=?_}
 use Rattle.rules.specs.Settings.{noLane, channel, lane, expect, heldBy, readerOk}
 use Rattle.rules.specs.Reading.{missing, expected, emptied, lost, lanesOf, gapBy, gap}
-use Rattle.rules.specs.Octets.{num}
-use Rattle.rules.proofs.Octets.{octets-each, octets-take, octets-drop, num-below}
 use Rattle.rules.specs.Valid.{Good, GoodReader}
 use Rattle.rules.proofs.Valid.{good-reader}
 
@@ -31,14 +29,6 @@ modulus-is n m h e =
 
 pub modulus-small : (n : ℕ) → n ≤ 7 → 256 ^ n ≤ 2 ^ 56
 modulus-small n h = pow-le-pow-right (zero-lt-suc 255) h
-
--- What n octets of a frame spell is below 256^n.
-pub count-small : (f : List ℕ) (a n v : ℕ) → ((i : ℕ) → getD f i 0 < 256) → v ≡ num (take n (drop a f)) → v < 256 ^ n
-count-small f a n v o e =
-    let b = num-below (take n (drop a f)) (octets-take n (drop a f) (octets-drop a f (octets-each f o))) in
-    let k = length-take n (drop a f) in
-    let h : 256 ^ length (take n (drop a f)) ≤ 256 ^ n = pow-le-pow-right (zero-lt-suc 255) (omega arith) in
-    omega arith
 
 -- ---- a loop over the lanes
 

@@ -1,26 +1,15 @@
-// A frame's count, how many frames are missing before it, and what a gap drops.
+// How many frames are missing before a count, and what a gap drops.
 ghost use mathlib.Core.Path.{_≡_};
 ghost use mathlib.Core.Bool.{true};
 ghost use Prim.Native.Nat.{ℕ, _+_, _^_, _≤_, _<_};
 ghost use lib.ListN.{length, getD};
 ghost use Rattle.rules.specs.Tests.{_=?_};
 ghost use Rattle.rules.specs.Settings.{readerOk, channel};
-ghost use Rattle.rules.specs.Frames.{countIn};
 ghost use Rattle.rules.specs.Reading.{missing, emptied, lost, lanesOf, gap};
-use rules::Channel;
 use rules::Expect;
 use rules::Gap;
 use rules::Reader;
 use rules::Setting;
-
-// The count of a frame of this channel.
-pub fn count_in(c: Channel, frame: &[u8]) -> u64
-    requires { ⌜ (c .octets ≤ 7) × (7 + c .octets ≤ length (now frame)) ⌝ }
-    ensures { λ r. ⌜ (r ≡ countIn c (now (frame .entry))) × (r < 256 ^ c .octets) ⌝ }
-{
-    let end = 7 + c.octets;
-    octets::exact(&frame[7..end])
-}
 
 // How many frames are missing before count k, of n octets.
 fn missing_of(n: usize, e: Expect, k: u64) -> u64

@@ -3,8 +3,8 @@ use Prim.Native.Nat.{ℕ}
 use mathlib.Core.List.{List}
 use Rattle.header.specs.declared.Head.{Head}
 use Rattle.header.specs.declared.Data.{Data}
-use Rattle.rules.specs.Octets.{bits}
-use Rattle.rules.specs.Frames.{version, craft, sourceBit, vc, map, endOfHeader, lengthField, bypass, command, spare, ocfFlag, countLength}
+use Rattle.rules.specs.Octets.{fieldIn}
+use Rattle.rules.specs.Frames.{dataWidths, version, craft, sourceBit, vc, map, endOfHeader, lengthField, bypass, command, spare, ocfFlag, countLength}
 
 -- The primary header's, in printed order.
 unfoldable pub headOf : List ℕ → Head
@@ -26,4 +26,4 @@ headOf f =
 
 -- The data field's, of the octets from its first on.
 unfoldable pub dataOf : List ℕ → Data
-dataOf d = record { rule = bits 3 0 3 d; upid = bits 3 3 5 d; pointer = bits 3 8 16 d }
+dataOf d = record { rule = fieldIn dataWidths 0 d; upid = fieldIn dataWidths 1 d; pointer = fieldIn dataWidths 2 d }

@@ -1,10 +1,11 @@
 // The fields of a frame, in printed order, from octets and to octets.
 ghost use mathlib.Core.Path.{_≡_};
-ghost use Prim.Native.Nat.{_+_, _*_, _≤_, _<_};
+ghost use Prim.Native.Nat.{_+_, _*_, _^_, _≤_, _<_};
 ghost use mathlib.Core.List.{[], _∷_};
 ghost use lib.ListN.{length, take};
-ghost use Rattle.rules.specs.Octets.{num, field, packed, flag};
-ghost use Rattle.rules.specs.Frames.{header};
+ghost use Rattle.rules.specs.Octets.{num, fieldsOf, packed, flag};
+ghost use Rattle.rules.specs.Settings.{insertAt};
+ghost use Rattle.rules.specs.Frames.{dataWidths, header, countIn};
 ghost use Rattle.header.specs.Heads.{headOf, dataOf};
 use rules::Channel;
 use rules::Lane;
@@ -65,6 +66,15 @@ pub fn head_of(frame: &[u8]) -> Head
     }
 }
 
+// The count of a frame of this channel.
+pub fn count_in(c: Channel, frame: &[u8]) -> u64
+    requires { ⌜ (c .octets ≤ 7) × (insertAt c ≤ length (now frame)) ⌝ }
+    ensures { λ r. ⌜ (r ≡ countIn c (now (frame .entry))) × (r < 256 ^ c .octets) ⌝ }
+{
+    let end = 7 + c.octets;
+    octets::exact(&frame[7..end])
+}
+
 // The data field's rule, UPID and pointer.
 pub fn data_of(field: &[u8]) -> Data
     ensures { λ r. ⌜ r ≡ dataOf (now (field .entry)) ⌝ }
@@ -114,7 +124,7 @@ pub fn header_of(s: Setting, c: Channel, l: Lane) -> u64
 // The data field's three octets before the zone as a number.
 pub fn data_header_of(rule: u8, upid: u8, pointer: usize) -> u64
     requires { ⌜ pointer < 65536 ⌝ }
-    ensures { λ r. ⌜ r ≡ packed (field 3 rule ∷ field 5 upid ∷ field 16 pointer ∷ []) ⌝ }
+    ensures { λ r. ⌜ r ≡ packed (fieldsOf dataWidths (rule ∷ upid ∷ pointer ∷ [])) ⌝ }
 {
     let r = rule as u64;
     let u = upid as u64;

@@ -7,7 +7,8 @@ use Rattle.rules.specs.declared.Setting.{Setting}
 use Rattle.rules.specs.declared.Place.the-variants.{At}
 use Rattle.rules.specs.Settings.{channel, lane, zone, settingOk}
 use Rattle.rules.specs.Refusals.{channelAt, laneAt}
-use Rattle.rules.proofs.Tests.{found-at}
+use borrow.Author.Tests.{eqb-true}
+use Rattle.rules.proofs.Tests.{and-left, found-at}
 use Rattle.rules.specs.Valid.{Good}
 use Rattle.rules.proofs.Valid.{good}
 
@@ -15,6 +16,10 @@ use Rattle.rules.proofs.Valid.{good}
 pub lane-found : (s : Setting) (c m l : ℕ) → laneAt s c m ≡ At l → l < s .numbered
 unfolding laneAt
 lane-found s c m l e = found-at _ (s .numbered) l e .0
+
+pub lane-on : (s : Setting) (c m l : ℕ) → laneAt s c m ≡ At l → (lane s l) .channel ≡ c
+unfolding laneAt
+lane-on s c m l e = eqb-true _ _ (and-left _ _ (found-at _ (s .numbered) l e .1))
 
 pub channel-found : (s : Setting) (v b c : ℕ) → channelAt s v b ≡ At c → c < s .listed
 unfolding channelAt

@@ -1,28 +1,48 @@
-// The checks of a frame, in the paper's order: refused, idle, counted or read.
+// The checks of a frame, in the paper's order: refused, idle, or what they found of it. No field is read twice.
 ghost use mathlib.Core.Path.{_≡_};
 ghost use mathlib.Core.Bool.{true};
 ghost use Prim.Native.Nat.{_≤_, _<_};
 ghost use lib.ListN.{length};
-ghost use Rattle.rules.specs.Settings.{settingOk};
+ghost use Rattle.rules.specs.Settings.{channel, lane, settingOk};
 ghost use Rattle.rules.specs.Octets.{flag};
-ghost use Rattle.rules.specs.Frames.{vc, map, bypass, checkHolds};
+ghost use Rattle.rules.specs.Frames.{vc, map, bypass, countIn, checkHolds};
 ghost use Rattle.rules.specs.Refusals.{channelAt, laneAt, judge};
 ghost use Rattle.header.specs.Heads.{headOf};
 ghost use Rattle.judge.specs.Judging.{dataWrongOf, judgeData, judgeMap, judgeListed, judgeChannel, fieldRefusal, headRefusal};
+ghost use Rattle.judge.specs.Sights.{OnChannel, countedSight, sightOf, Fitting};
+ghost use Rattle.judge.specs.declared.Sighting.the-variants.{Seen};
 use header::Data;
 use header::Head;
 use rules::Lane;
 use rules::Place;
 use rules::Setting;
-use rules::Verdict;
+
+// What the checks found of a frame of a listed channel: the channel's place, the lane that reads it, if any, and its count. Of a frame
+// that is read also its construction rule, what its pointer points to, and where its zone begins and how many octets it has.
+pub struct Sight {
+    pub channel: usize,
+    pub lane: Place,
+    pub count: u64,
+    pub rule: u8,
+    pub place: Place,
+    pub begin: usize,
+    pub size: usize,
+}
+
+// What the checks say: refused by a number, idle, or seen on a listed channel.
+pub enum Sighting {
+    Refused(u8),
+    Idle,
+    Seen(Sight),
+}
 
 // Whether the frame check holds.
 fn check_holds(s: Setting, frame: &[u8]) -> bool
-    requires { ⌜ (2 ≤ s .length) × (length (now frame) ≡ s .length) ⌝ }
+    requires { ⌜ 2 ≤ length (now frame) ⌝ }
     ensures { λ r. ⌜ r ≡ checkHolds s (now (frame .entry)) ⌝ }
 {
     if s.check {
-        let at = s.length - 2;
+        let at = frame.len() - 2;
         let v = fecf::check_of(&frame[..at]);
         let w = octets::exact(&frame[at..]);
         return v as u64 == w;
@@ -87,37 +107,65 @@ fn data_wrong(a: Lane, z: usize, d: Data) -> bool
     true
 }
 
-// A frame of channel c whose map is in lane l.
-fn judge_data(s: Setting, c: usize, l: usize, frame: &[u8]) -> Verdict
-    requires { ⌜ (settingOk s ≡ true) × (c < s .listed) × (l < s .numbered) × (length (now frame) ≡ s .length) ⌝ }
-    ensures { λ r. ⌜ r ≡ judgeData s c l (now (frame .entry)) ⌝ }
+// A frame of channel c with count k whose map is in lane l.
+fn judge_data(s: Setting, c: usize, l: usize, k: u64, frame: &[u8]) -> Sighting
+    requires { ⌜ OnChannel s c (now frame) × (l < s .numbered) × (lane s l .channel ≡ c) × (k ≡ countIn (channel s c) (now frame)) ⌝ }
+    ensures { λ r. ⌜ r ≡ sightOf s (now (frame .entry)) (judgeData s c l (now (frame .entry))) ⌝ }
 {
     let a = s.lanes[l];
     let ch = s.channels[c];
-    let z = setting::zone_of(s, ch);
+    let z = setting::zone_for(s, ch, frame.len());
     let at = 7 + ch.octets + s.insert;
     let d = header::data_of(&frame[at..]);
     let wrong = data_wrong(a, z, d);
     if wrong {
-        return Verdict::Refused(12);
+        return Sighting::Refused(12);
     }
-    Verdict::Read(l)
+    let on = Place::At(l);
+    let place = packets::points_to(d.pointer);
+    Sighting::Seen(Sight {
+        channel: c,
+        lane: on,
+        count: k,
+        rule: d.rule,
+        place: place,
+        begin: at + 3,
+        size: z,
+    })
 }
 
-// A frame of channel c.
-fn judge_listed(s: Setting, c: usize, h: Head, frame: &[u8]) -> Verdict
-    requires { ⌜ (settingOk s ≡ true) × (c < s .listed) × (length (now frame) ≡ s .length) × (h ≡ headOf (now frame)) ⌝ }
-    ensures { λ r. ⌜ r ≡ judgeListed s c (now (frame .entry)) ⌝ }
+// A frame of channel c with count k that no lane reads.
+fn counted(c: usize, k: u64) -> Sighting
+    ensures { λ r. ⌜ r ≡ Seen (countedSight c k) ⌝ }
 {
-    let ch = s.channels[c];
-    if h.octets != ch.octets {
-        return Verdict::Refused(10);
+    let on = Place::Nowhere;
+    let place = Place::Nowhere;
+    Sighting::Seen(Sight {
+        channel: c,
+        lane: on,
+        count: k,
+        rule: 0,
+        place: place,
+        begin: 0,
+        size: 0,
+    })
+}
+
+// A frame of channel c with count k, by its map.
+fn judge_map(s: Setting, c: usize, k: u64, h: Head, frame: &[u8]) -> Sighting
+    requires { ⌜ OnChannel s c (now frame) × (h ≡ headOf (now frame)) × (k ≡ countIn (channel s c) (now frame)) ⌝ }
+    ensures { λ r. ⌜ r ≡ sightOf s (now (frame .entry)) (judgeMap s c (now (frame .entry)) (laneAt s c (map (now (frame .entry))))) ⌝ }
+{
+    let p = setting::lane_at(s, c, h.map);
+    match p {
+        Place::Nowhere => counted(c, k),
+        Place::At(l) => {
+            if h.command == 1 {
+                return counted(c, k);
+            }
+            judge_data(s, c, l, k, frame)
+        }
     }
-    let o = flag_of(ch.ocf);
-    if h.ocf != o {
-        return Verdict::Refused(11);
-    }
-    judge_map(s, c, h, frame)
 }
 
 // A flag as the bit that stands for it.
@@ -130,47 +178,47 @@ fn flag_of(b: bool) -> u8
     0
 }
 
-// A frame of channel c whose count length and OCF flag are the channel's.
-fn judge_map(s: Setting, c: usize, h: Head, frame: &[u8]) -> Verdict
-    requires { ⌜ (settingOk s ≡ true) × (c < s .listed) × (length (now frame) ≡ s .length) × (h ≡ headOf (now frame)) ⌝ }
-    ensures { λ r. ⌜ r ≡ judgeMap s c (now (frame .entry)) (laneAt s c (map (now (frame .entry)))) ⌝ }
+// A frame of channel c.
+fn judge_listed(s: Setting, c: usize, h: Head, frame: &[u8]) -> Sighting
+    requires { ⌜ OnChannel s c (now frame) × (h ≡ headOf (now frame)) ⌝ }
+    ensures { λ r. ⌜ (r ≡ sightOf s (now (frame .entry)) (judgeListed s c (now (frame .entry)))) × Fitting s r ⌝ }
 {
-    let p = setting::lane_at(s, c, h.map);
-    match p {
-        Place::Nowhere => Verdict::Counted(c),
-        Place::At(l) => {
-            if h.command == 1 {
-                return Verdict::Counted(c);
-            }
-            judge_data(s, c, l, frame)
-        }
+    let ch = s.channels[c];
+    if h.octets != ch.octets {
+        return Sighting::Refused(10);
     }
+    let o = flag_of(ch.ocf);
+    if h.ocf != o {
+        return Sighting::Refused(11);
+    }
+    let k = header::count_in(ch, frame);
+    judge_map(s, c, k, h, frame)
 }
 
 // A frame whose header passes 5 to 8.
-fn judge_channel(s: Setting, h: Head, frame: &[u8]) -> Verdict
+fn judge_channel(s: Setting, h: Head, frame: &[u8]) -> Sighting
     requires { ⌜ (settingOk s ≡ true) × (length (now frame) ≡ s .length) × (h ≡ headOf (now frame)) ⌝ }
-    ensures { λ r. ⌜ r ≡ judgeChannel s (now (frame .entry)) (channelAt s (vc (now (frame .entry))) (bypass (now (frame .entry)))) ⌝ }
+    ensures { λ r. ⌜ (r ≡ sightOf s (now (frame .entry)) (judgeChannel s (now (frame .entry)) (channelAt s (vc (now (frame .entry))) (bypass (now (frame .entry)))))) × Fitting s r ⌝ }
 {
     let p = setting::channel_at(s, h.vc, h.bypass);
     match p {
         Place::Nowhere => {
             if h.vc != 63 {
-                return Verdict::Refused(9);
+                return Sighting::Refused(9);
             }
-            Verdict::Idle
+            Sighting::Idle
         }
         Place::At(c) => judge_listed(s, c, h, frame),
     }
 }
 
-// What the checks say of a frame.
-pub fn judge_frame(s: Setting, frame: &[u8]) -> Verdict
+// What the checks find of a frame.
+pub fn judge_frame(s: Setting, frame: &[u8]) -> Sighting
     requires { ⌜ settingOk s ≡ true ⌝ }
-    ensures { λ v. ⌜ v ≡ judge s (now (frame .entry)) ⌝ }
+    ensures { λ v. ⌜ (v ≡ sightOf s (now (frame .entry)) (judge s (now (frame .entry)))) × Fitting s v ⌝ }
 {
     if frame.len() != s.length {
-        return Verdict::Refused(3);
+        return Sighting::Refused(3);
     }
     let holds = check_holds(s, frame);
     if holds {
@@ -179,7 +227,7 @@ pub fn judge_frame(s: Setting, frame: &[u8]) -> Verdict
         if n == 0 {
             return judge_channel(s, h, frame);
         }
-        return Verdict::Refused(n);
+        return Sighting::Refused(n);
     }
-    Verdict::Refused(4)
+    Sighting::Refused(4)
 }

@@ -4,7 +4,7 @@ ghost use mathlib.Core.Bool.{true, _&&_};
 ghost use Prim.Native.Nat.{_-_, _^_, _≤_, _<_};
 ghost use Rattle.rules.specs.Tests.{_≤?_, _<?_, _=?_, every};
 ghost use Rattle.rules.specs.Settings.{noChannel, noLane, noExpect, channel, lane, expect, heldBy, count, number};
-ghost use Rattle.rules.specs.Settings.{ocfOctets, checkOctets, zone, rangesOk, channelOk, channelsAgree, channelsOk};
+ghost use Rattle.rules.specs.Settings.{ocfOctets, checkOctets, zoneFor, zone, rangesOk, channelOk, channelsAgree, channelsOk};
 ghost use Rattle.rules.specs.Settings.{kindOk, laneOk, lanesDiffer, lanesOk, settingOk, readerOk, writerOk};
 ghost use Rattle.rules.specs.Settings.{freshReader, freshWriter, noSetting, noReader, noWriter};
 ghost use Rattle.rules.specs.Refusals.{channelAt, laneAt};
@@ -47,17 +47,24 @@ fn check_octets(s: Setting) -> usize
     0
 }
 
-// How many octets the zone of a channel's frames has; 0 where they have no room for one.
-pub fn zone_of(s: Setting, c: Channel) -> usize
-    ensures { λ r. ⌜ r ≡ zone s c ⌝ }
+// How many octets the zone of a channel's frame of n octets has; 0 where it has no room for one.
+pub fn zone_for(s: Setting, c: Channel, n: usize) -> usize
+    ensures { λ r. ⌜ r ≡ zoneFor s c n ⌝ }
 {
     let ocf = ocf_octets(c);
     let check = check_octets(s);
-    let mut room = less(s.length, 10);
+    let mut room = less(n, 10);
     room = less(room, c.octets);
     room = less(room, s.insert);
     room = less(room, ocf);
     less(room, check)
+}
+
+// How many octets the zone of a channel's frames has.
+pub fn zone_of(s: Setting, c: Channel) -> usize
+    ensures { λ r. ⌜ r ≡ zone s c ⌝ }
+{
+    zone_for(s, c, s.length)
 }
 
 // Whether frame length, bit and insert zone are in their ranges; every spacecraft number of 16 bits is.

@@ -1,44 +1,15 @@
--- `setting::zone_of` meets its contract: what is taken away step by step, never below 0, is the sum taken away at once.
-use native.Mathlib.Omega.{arith}
+-- `setting::zone_of` meets its contract: the zone of a frame of F octets.
 use borrow.Author.Needs.{needs}
 use Rattle.rules.specs.Settings.{zone}
 use Rattle.setting.proofs.zone_of.Statement.{statement}
 use Rattle.setting.proofs.zone_of.Tie as tie
 
-ocf-octets-requires : tie.Need-ocf-octets-requires
-ocf-octets-requires c κs = search needs
-
-check-octets-requires : tie.Need-check-octets-requires
-check-octets-requires c κs = search needs
-
-less-requires : tie.Need-less-requires
-less-requires c κs = search needs
-
-less-requires-2 : tie.Need-less-requires-2
-less-requires-2 c κs = search needs
-
-less-requires-3 : tie.Need-less-requires-3
-less-requires-3 c κs = search needs
-
-less-requires-4 : tie.Need-less-requires-4
-less-requires-4 c κs = search needs
-
-less-requires-5 : tie.Need-less-requires-5
-less-requires-5 c κs = search needs
+zone-for-requires : tie.Need-zone-for-requires
+zone-for-requires c κs = search needs
 
 returns : tie.Need-returns
 unfolding zone
-returns c = omega arith
+returns c = c .zone-for .ensures
 
 pub zone-of-spec : {M : Type 1} → statement M
-zone-of-spec =
-    tie.close
-    (tie.spec
-    ocf-octets-requires
-    check-octets-requires
-    less-requires
-    less-requires-2
-    less-requires-3
-    less-requires-4
-    less-requires-5
-    returns)
+zone-of-spec = tie.close (tie.spec zone-for-requires returns)

@@ -1,6 +1,6 @@
--- `reader::count_in` meets its contract: the octets behind the header are a part of the frame, and octets spell a number below 256^n.
+-- `header::count_in` meets its contract: the octets behind the header are a part of the frame, and octets spell a number below 256^n.
 use Prim.Native.Nat.{_<_}
-use Rattle.gaps.proofs.Gaps.{count-small}
+use Rattle.header.proofs.Counts.{count-small}
 use Prim.Native.Nat.{ℕ, _+_, _-_}
 use mathlib.Core.Path.{_≡_, ap, _∙_}
 use lib.ListN.{take, drop}
@@ -8,8 +8,8 @@ use native.Mathlib.Omega.{arith}
 use Rattle.rules.specs.Octets.{num}
 use Rattle.rules.specs.Frames.{countIn}
 use borrow.Author.Needs.{needs}
-use Rattle.gaps.proofs.count_in.Statement.{statement}
-use Rattle.gaps.proofs.count_in.Tie as tie
+use Rattle.header.proofs.count_in.Statement.{statement}
+use Rattle.header.proofs.count_in.Tie as tie
 
 add-end : tie.Need-add-end
 add-end c = search needs
