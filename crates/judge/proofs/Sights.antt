@@ -21,7 +21,7 @@ use Rattle.judge.specs.declared.Sight.{Sight}
 use Rattle.judge.specs.declared.Sighting.{Sighting}
 use Rattle.judge.specs.declared.Sighting.the-variants.{Seen}
 use Rattle.judge.specs.Judging.{dataWrongOf, judgeData, judgeMap}
-use Rattle.judge.specs.Sights.{countedSight, sightOf, Fitting}
+use Rattle.judge.specs.Sights.{countedSight, readSight, sightOf, Fitting}
 
 module _ (s : Setting) (f : List ℕ) (c : ℕ) where
   -- The data field, as a slice's rest.
@@ -66,3 +66,51 @@ module _ (s : Setting) (f : List ℕ) (c : ℕ) where
       go true w = h
       go false true = tt
       go false false = rw on h
+
+-- ---- what a sight says of the verdict
+
+module _ (s : Setting) (f : List ℕ) where
+  impossible {ℓ} : {A : Type ℓ} → _≡_ {A = ℕ} 0 1 → A
+  impossible z = absurd (omega (arith, z))
+
+  pub refused-sight : (n : ℕ) (w : Verdict) → sightOf s f w ≡ Sighting.Refused n → w ≡ Verdict.Refused n
+  unfolding sightOf
+  refused-sight n (Verdict.Refused m) e = let q : m ≡ n = cc in ap Verdict.Refused q
+  refused-sight n Verdict.Idle e = impossible (cc)
+  refused-sight n (Verdict.Counted c) e = impossible (cc)
+  refused-sight n (Verdict.Read l) e = impossible (cc)
+
+  pub idle-sight : (w : Verdict) → sightOf s f w ≡ Sighting.Idle → w ≡ Verdict.Idle
+  unfolding sightOf
+  idle-sight (Verdict.Refused m) e = impossible (cc)
+  idle-sight Verdict.Idle e = refl
+  idle-sight (Verdict.Counted c) e = impossible (cc)
+  idle-sight (Verdict.Read l) e = impossible (cc)
+
+  -- Seen, and read by no lane or by lane l.
+  pub counted-sight : (x : Sight) (w : Verdict) → sightOf s f w ≡ Seen x → x .lane ≡ Nowhere
+      → (w ≡ Verdict.Counted (x .channel)) × (x .count ≡ countIn (channel s (x .channel)) f)
+  unfolding sightOf
+  counted-sight x (Verdict.Refused m) e q = impossible (cc)
+  counted-sight x Verdict.Idle e q = impossible (cc)
+  counted-sight x (Verdict.Counted c) e q =
+      let o : countedSight c (countIn (channel s c) f) ≡ x = cc in
+      rw (← o) (refl, refl)
+  counted-sight x (Verdict.Read l) e q =
+      let o : readSight s f l ≡ x = cc in
+      let z : At l ≡ Nowhere = ap (λ (y : Sight). y .lane) o ∙ q in
+      impossible (cc)
+
+  pub read-sight : (x : Sight) (w : Verdict) (l : ℕ) → sightOf s f w ≡ Seen x → x .lane ≡ At l → (w ≡ Verdict.Read l) × (x ≡ readSight s f l)
+  unfolding sightOf
+  read-sight x (Verdict.Refused m) l e q = impossible (cc)
+  read-sight x Verdict.Idle l e q = impossible (cc)
+  read-sight x (Verdict.Counted c) l e q =
+      let o : countedSight c (countIn (channel s c) f) ≡ x = cc in
+      let z : Nowhere ≡ At l = ap (λ (y : Sight). y .lane) o ∙ q in
+      impossible (cc)
+  read-sight x (Verdict.Read k) l e q =
+      let o : readSight s f k ≡ x = cc in
+      let z : At k ≡ At l = ap (λ (y : Sight). y .lane) o ∙ q in
+      let j : k ≡ l = cc in
+      (ap Verdict.Read j, sym o ∙ ap (readSight s f) j)

@@ -1,7 +1,7 @@
 -- What a read's parts are lent and hand back.
 use mathlib.Core.Path.{_≡_}
 use mathlib.Core.Bool.{Bool, cond, not, _||_}
-use Prim.Native.Nat.{ℕ, _+_, _≤_, _<_}
+use Prim.Native.Nat.{ℕ, _+_, _^_, _≤_, _<_}
 use mathlib.Core.List.{List}
 use lib.ListN.{length, set}
 use Rattle.rules.specs.declared.Channel.{Channel}
@@ -13,9 +13,12 @@ use Rattle.rules.specs.declared.Reader.{Reader}
 use Rattle.rules.specs.declared.Taken.{Taken}
 use Rattle.rules.specs.declared.Verdict.{Verdict}
 use Rattle.rules.specs.Tests.{_<?_, _≠?_}
-use Rattle.rules.specs.Settings.{readerOk}
+use Rattle.rules.specs.Settings.{channel, readerOk}
 use Rattle.rules.specs.Refusals.{judge}
-use Rattle.rules.specs.Calls.{counted}
+use Rattle.rules.specs.Calls.{counted, verdict}
+use Rattle.judge.specs.declared.Sight.{Sight}
+use Rattle.judge.specs.declared.Sighting.the-variants.{Seen}
+use Rattle.judge.specs.Sights.{sightOf}
 use Rattle.rules.specs.Valid.{GoodReader, Reads}
 use Rattle.handing.specs.declared.Led.{Led}
 
@@ -59,3 +62,8 @@ verdictOf r f h u c = cond (not (readerOk r)) (Verdict.Refused 1) (cond (shortOf
 -- The answer and the state of a frame that is Counted, after gap g.
 abbrev pub countedOf : Gap → Taken
 countedOf g = record { answer = counted g; state = g .state }
+
+-- A sight of this frame, found by the checks of a read that refuse nothing.
+pub record SeenOn (r : Reader) (x : Sight) (f h u c : List ℕ) : Type 0 where
+  pub found : Seen x ≡ sightOf (r .setting) f (verdict r f h u c)
+  pub fits : x .count < 256 ^ (channel (r .setting) (x .channel)) .octets

@@ -1,3 +1,4 @@
+-- `judge::judge_channel` meets its contract: by whether a channel was found.
 use mathlib.Core.Path.{_≡_, sym, ap, _∙_}
 use borrow.Author.Tests.{eq-eqb, ne-eqb}
 use Rattle.rules.specs.Frames.{vc, bypass}
@@ -13,23 +14,16 @@ use Rattle.judge.proofs.Places.{channel-found}
 use borrow.Author.Needs.{needs}
 use Rattle.judge.proofs.judge_channel.Statement.{statement}
 use Rattle.judge.proofs.judge_channel.Tie as tie
-use Rattle.judge.proofs.judge_channel.Reads as reads
-use Rattle.judge.proofs.judge_channel.Lts as lts
-use Rattle.judge.proofs.judge_listed.Reads as judge-listed-reads
-use Rattle.setting.proofs.channel_at.Reads as channel-at-reads
 
--- src/lib.rt:203:9
 channel-at-requires : tie.Need-channel-at-requires
 channel-at-requires c κs = good _ (c .before .pre .0) .listed
 
--- src/lib.rt:206:16
 enum-told : tie.Need-enum-told
 enum-told c = search needs
 
--- src/lib.rt:207:17
 returns : tie.Need-returns
 unfolding judgeChannel headOf sightOf
-returns c = 
+returns c =
     let a = c .before .before .before .before .before .before .args in
     let v = ap (λ (x : Head). x .vc) (c .before .before .before .before .before .before .pre .2) in
     let b = ap (λ (x : Head). x .bypass) (c .before .before .before .before .before .before .pre .2) in
@@ -37,21 +31,18 @@ returns c =
     let q : judgeChannel (a .s) (a .frame .now) Nowhere ≡ Verdict.Refused 9 = rw (sym v, ne-eqb _ _ (c .if1 .taken)) in
     (ap (sightOf (a .s) (a .frame .now)) (sym (ap (judgeChannel (a .s) (a .frame .now)) e ∙ q)), tt)
 
--- src/lib.rt:211:19
 enum-known-p : tie.Need-enum-known-p
 enum-known-p c = search needs
 
--- src/lib.rt:211:25
 judge-listed-requires : tie.Need-judge-listed-requires
-judge-listed-requires c κs = 
+judge-listed-requires c κs =
     let a = c .before .before .before .before .before .args in
     let p = c .before .before .before .before .before .pre in
     (record { ok = p .0; listed = channel-found (a .s) (a .h .vc) (a .h .bypass) _ (sym (c .before .before .before .channel-at .ensures) ∙ c .before .p .given .1); whole = p .1 }, p .2)
 
--- src/lib.rt:199:1
 returns-2 : tie.Need-returns-2
 unfolding judgeChannel headOf sightOf
-returns-2 c = 
+returns-2 c =
     let a = c .before .before .before .before .before .before .args in
     let v = ap (λ (x : Head). x .vc) (c .before .before .before .before .before .before .pre .2) in
     let b = ap (λ (x : Head). x .bypass) (c .before .before .before .before .before .before .pre .2) in
@@ -59,10 +50,9 @@ returns-2 c =
     let q : judgeChannel (a .s) (a .frame .now) Nowhere ≡ Verdict.Idle = rw (sym v, eq-eqb _ _ (c .if1 .left)) in
     (ap (sightOf (a .s) (a .frame .now)) (sym (ap (judgeChannel (a .s) (a .frame .now)) e ∙ q)), tt)
 
--- src/lib.rt:199:1
 returns-3 : tie.Need-returns-3
 unfolding judgeChannel headOf
-returns-3 c = 
+returns-3 c =
     let v = ap (λ (x : Head). x .vc) (c .before .before .before .before .before .before .pre .2) in
     let b = ap (λ (x : Head). x .bypass) (c .before .before .before .before .before .before .pre .2) in
     (rw (sym v, sym b, sym (c .before .before .before .before .channel-at .ensures), c .before .before .p .given .1) (c .judge-listed .ensures .0), c .judge-listed .ensures .1)

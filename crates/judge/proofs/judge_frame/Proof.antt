@@ -1,3 +1,4 @@
+-- `judge::judge_frame` meets its contract: length and check first, then the header's fields, then its channel.
 use mathlib.Core.Path.{_≡_, sym, ap, _∙_}
 use native.Mathlib.Omega.{arith}
 use borrow.Author.Tests.{eq-eqb, ne-eqb}
@@ -8,50 +9,37 @@ use Rattle.judge.proofs.Judging.{judge-frame}
 use borrow.Author.Needs.{needs}
 use Rattle.judge.proofs.judge_frame.Statement.{statement}
 use Rattle.judge.proofs.judge_frame.Tie as tie
-use Rattle.judge.proofs.judge_frame.Reads as reads
-use Rattle.judge.proofs.judge_frame.Lts as lts
-use Rattle.header.proofs.head_of.Reads as head-of-reads
-use Rattle.judge.proofs.check_holds.Reads as check-holds-reads
-use Rattle.judge.proofs.head_refusal.Reads as head-refusal-reads
-use Rattle.judge.proofs.judge_channel.Reads as judge-channel-reads
 
--- src/lib.rt:221:9
 returns : tie.Need-returns
 unfolding judgeFrame sightOf
 returns c = (rw (judge-frame, ne-eqb _ _ (c .if1 .taken)), tt)
 
--- src/lib.rt:223:9
 check-holds-requires : tie.Need-check-holds-requires
 check-holds-requires c κs = omega (arith, good _ (c .before .before .before .pre) .low, c .if1 .left)
 
--- src/lib.rt:225:13
 head-of-requires : tie.Need-head-of-requires
 head-of-requires c κs = search needs
 
--- src/lib.rt:226:13
 head-refusal-requires : tie.Need-head-refusal-requires
 head-refusal-requires c κs = omega (arith, good _ (c .before .before .before .before .before .before .pre) .low)
 
--- src/lib.rt:228:13
 judge-channel-requires : tie.Need-judge-channel-requires
 judge-channel-requires c κs = search needs
 
--- src/lib.rt:228:13
 returns-2 : tie.Need-returns-2
 unfolding judgeFrame judgeHead
-returns-2 c = 
-    let n = sym (c .before .before .head-refusal .ensures ∙ ap (headRefusal (c .before .before .before .before .before .before .before .before .before .args .s)) (c .before .before .before .head-of .ensures)) ∙ c .before .if3 .taken in
-    (rw (judge-frame, eq-eqb _ _ (c .before .before .before .before .before .before .if1 .left), sym (c .before .before .before .before .before .check-holds .ensures) ∙ c .before .before .before .before .if2 .taken, n) (c .judge-channel .ensures .0),
-    c .judge-channel .ensures .1)
+returns-2 c =
+    let n = sym (c .before .before .head-refusal .ensures ∙ ap (headRefusal (c .before .before .before .before .before .before .before .before .before .args .s)) (c .before .before .before .head-of .ensures)) ∙ c .before .if3 .taken in (
+      rw (judge-frame, eq-eqb _ _ (c .before .before .before .before .before .before .if1 .left), sym (c .before .before .before .before .before .check-holds .ensures) ∙ c .before .before .before .before .if2 .taken, n) (c .judge-channel .ensures .0),
+      c .judge-channel .ensures .1,
+    )
 
--- src/lib.rt:230:9
 returns-3 : tie.Need-returns-3
 unfolding judgeFrame judgeHead sightOf
-returns-3 c = 
+returns-3 c =
     let n = c .before .head-refusal .ensures ∙ ap (headRefusal (c .before .before .before .before .before .before .before .before .args .s)) (c .before .before .head-of .ensures) in
     (rw (judge-frame, eq-eqb _ _ (c .before .before .before .before .before .if1 .left), sym (c .before .before .before .before .check-holds .ensures) ∙ c .before .before .before .if2 .taken, sym n, ne-eqb _ _ (c .if3 .left)), tt)
 
--- src/lib.rt:216:1
 returns-4 : tie.Need-returns-4
 unfolding judgeFrame sightOf
 returns-4 c = (rw (judge-frame, eq-eqb _ _ (c .before .before .if1 .left), sym (c .before .check-holds .ensures) ∙ c .if2 .left), tt)

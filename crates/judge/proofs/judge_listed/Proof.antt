@@ -1,3 +1,4 @@
+-- `judge::judge_listed` meets its contract: the channel's count length and OCF are tested in this order, then the count is taken.
 use mathlib.Core.Path.{_≡_, refl, sym, ap, _∙_}
 use native.Mathlib.Omega.{arith}
 use borrow.Author.Tests.{eq-eqb, ne-eqb}
@@ -13,59 +14,47 @@ use Rattle.judge.proofs.Sights.{fitting}
 use borrow.Author.Needs.{needs}
 use Rattle.judge.proofs.judge_listed.Statement.{statement}
 use Rattle.judge.proofs.judge_listed.Tie as tie
-use Rattle.judge.proofs.judge_listed.Reads as reads
-use Rattle.judge.proofs.judge_listed.Lts as lts
-use Rattle.header.proofs.count_in.Reads as count-in-reads
-use Rattle.judge.proofs.flag_of.Reads as flag-of-reads
-use Rattle.judge.proofs.judge_map.Reads as judge-map-reads
 
--- src/lib.rt:186:14
 mul-ch : tie.Need-mul-ch
 mul-ch c = omega (arith, fits _ _ (c .before .pre .0 .ok) (c .before .pre .0 .listed) .eight)
 
--- src/lib.rt:186:14
 element-copy-out-ch : tie.Need-element-copy-out-ch
 element-copy-out-ch c = fits _ _ (c .before .pre .0 .ok) (c .before .pre .0 .listed) .eight
 
--- src/lib.rt:188:9
 returns : tie.Need-returns
 unfolding judgeListed headOf sightOf
-returns c = 
+returns c =
     let k = ap (λ (x : Head). x .octets) (c .before .before .before .before .before .pre .1) in
     (rw (sym k, ne-eqb _ _ (c .if1 .taken)), tt)
 
--- src/lib.rt:190:9
 flag-of-requires : tie.Need-flag-of-requires
 flag-of-requires c κs = search needs
 
--- src/lib.rt:192:9
 returns-2 : tie.Need-returns-2
 unfolding judgeListed headOf sightOf
-returns-2 c = 
+returns-2 c =
     let k = ap (λ (x : Head). x .octets) (c .before .before .before .before .before .before .before .before .pre .1) in
     let o = ap (λ (x : Head). x .ocf) (c .before .before .before .before .before .before .before .before .pre .1) in
     (rw (sym k, eq-eqb _ _ (c .before .before .before .if1 .left), sym o, sym (c .before .before .flag-of .ensures), ne-eqb _ _ (c .if2 .taken)), tt)
 
--- src/lib.rt:194:9
 count-in-requires : tie.Need-count-in-requires
-count-in-requires c κs = 
+count-in-requires c κs =
     let q = fits _ _ (c .before .before .before .before .before .before .before .before .pre .0 .ok) (c .before .before .before .before .before .before .before .before .pre .0 .listed) in
     (q .seven, omega (arith, q .inside, c .before .before .before .before .before .before .before .before .pre .0 .whole))
 
--- src/lib.rt:195:5
 judge-map-requires : tie.Need-judge-map-requires
 judge-map-requires c κs = search needs
 
--- src/lib.rt:182:1
 returns-3 : tie.Need-returns-3
 unfolding judgeListed headOf
-returns-3 c = 
+returns-3 c =
     let a = c .before .before .before .before .before .before .before .before .before .before .args in
     let k = ap (λ (x : Head). x .octets) (c .before .before .before .before .before .before .before .before .before .before .pre .1) in
     let o = ap (λ (x : Head). x .ocf) (c .before .before .before .before .before .before .before .before .before .before .pre .1) in
-    let n = c .before .count-in .ensures in
-    (rw (sym k, eq-eqb _ _ (c .before .before .before .before .before .if1 .left), sym o, sym (c .before .before .before .before .flag-of .ensures), eq-eqb _ _ (c .before .before .if2 .left)) (c .judge-map .ensures),
-    rw (c .judge-map .ensures) (fitting (a .t1) (a .frame .now) (a .c) (omega (arith, n .0, n .1)) (laneAt (a .t1) (a .c) (map (a .frame .now))) refl))
+    let n = c .before .count-in .ensures in (
+      rw (sym k, eq-eqb _ _ (c .before .before .before .before .before .if1 .left), sym o, sym (c .before .before .before .before .flag-of .ensures), eq-eqb _ _ (c .before .before .if2 .left)) (c .judge-map .ensures),
+      rw (c .judge-map .ensures) (fitting (a .t1) (a .frame .now) (a .c) (omega (arith, n .0, n .1)) (laneAt (a .t1) (a .c) (map (a .frame .now))) refl),
+    )
 
 pub judge-listed-spec : {M : Type 1} → statement M
 judge-listed-spec =

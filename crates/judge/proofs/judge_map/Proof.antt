@@ -1,3 +1,4 @@
+-- `judge::judge_map` meets its contract: by whether a lane was found, then by the command bit.
 use mathlib.Core.Path.{_≡_, sym, ap, _∙_}
 use borrow.Author.Tests.{eq-eqb, ne-eqb, eqb-true}
 use Rattle.rules.specs.Frames.{map}
@@ -13,36 +14,25 @@ use Rattle.judge.proofs.Sights.{counted-is}
 use borrow.Author.Needs.{needs}
 use Rattle.judge.proofs.judge_map.Statement.{statement}
 use Rattle.judge.proofs.judge_map.Tie as tie
-use Rattle.judge.proofs.judge_map.Reads as reads
-use Rattle.judge.proofs.judge_map.Lts as lts
-use Rattle.judge.proofs.counted.Reads as counted-reads
-use Rattle.judge.proofs.judge_data.Reads as judge-data-reads
-use Rattle.setting.proofs.lane_at.Reads as lane-at-reads
 
--- src/lib.rt:159:9
 lane-at-requires : tie.Need-lane-at-requires
 lane-at-requires c κs = good _ (c .before .pre .0 .ok) .numbered
 
--- src/lib.rt:161:27
 enum-told : tie.Need-enum-told
 enum-told c = search needs
 
--- src/lib.rt:161:27
 counted-requires : tie.Need-counted-requires
 counted-requires c κs = search needs
 
--- src/lib.rt:162:19
 enum-known-p : tie.Need-enum-known-p
 enum-known-p c = search needs
 
--- src/lib.rt:164:17
 counted-requires-2 : tie.Need-counted-requires-2
 counted-requires-2 c κs = search needs
 
--- src/lib.rt:164:17
 returns : tie.Need-returns
 unfolding judgeMap headOf
-returns c = 
+returns c =
     let a = c .before .before .before .before .before .before .before .before .args in
     let p = c .before .before .before .before .before .before .before .before .pre in
     let m = ap (λ (x : Head). x .map) (p .1) in
@@ -51,18 +41,16 @@ returns c =
     rw (sym (ap (laneAt (a .s) (a .c)) m), sym (c .before .before .before .before .before .before .lane-at .ensures), c .before .before .before .before .p .given .1, sym k, eq-eqb _ _ (c .before .if1 .taken)) in
     c .counted2 .ensures ∙ counted-is (a .s) (a .frame .now) (a .c) (a .k) (p .2) ∙ ap (sightOf (a .s) (a .frame .now)) (sym e)
 
--- src/lib.rt:166:13
 judge-data-requires : tie.Need-judge-data-requires
-judge-data-requires c κs = 
+judge-data-requires c κs =
     let a = c .before .before .before .before .before .before .before .args in
     let p = c .before .before .before .before .before .before .before .pre in
     let e = sym (c .before .before .before .before .before .lane-at .ensures) ∙ c .before .before .before .p .given .1 in
     (p .0, lane-found (a .s) (a .c) (a .h .map) _ e, lane-on (a .s) (a .c) (a .h .map) _ e, p .2)
 
--- src/lib.rt:155:1
 returns-2 : tie.Need-returns-2
 unfolding judgeMap headOf
-returns-2 c = 
+returns-2 c =
     let a = c .before .before .before .before .before .args in
     let p = c .before .before .before .before .before .pre in
     let m = ap (λ (x : Head). x .map) (p .1) in
@@ -70,10 +58,9 @@ returns-2 c =
     rw (sym (ap (laneAt (a .s) (a .c)) m), sym (c .before .before .before .lane-at .ensures), c .before .enum-told .given .1) in
     c .counted .ensures ∙ counted-is (a .s) (a .frame .now) (a .c) (a .k) (p .2) ∙ ap (sightOf (a .s) (a .frame .now)) (sym e)
 
--- src/lib.rt:155:1
 returns-3 : tie.Need-returns-3
 unfolding judgeMap headOf
-returns-3 c = 
+returns-3 c =
     let a = c .before .before .before .before .before .before .before .before .args in
     let p = c .before .before .before .before .before .before .before .before .pre in
     let m = ap (λ (x : Head). x .map) (p .1) in

@@ -1,8 +1,9 @@
--- `reader::read_on` meets its contract: the lane's part is cut from the held area, and the step's promise is laid back into it.
-use Prim.Native.Nat.{ℕ, _+_, _-_, _*_, _<_, _≤_}
-use mathlib.Core.Path.{_≡_, refl, sym, ap, _∙_}
+-- `reader::read_on` meets its contract: zone and part are cut out as the sight says, and the step's promise is laid back into the held area.
 use native.Mathlib.Omega.{arith}
-use Rattle.reader.proofs.Laid.{eight, here, asked-here, few-dropped, laid-here, field-is}
+use mathlib.Core.Path.{_≡_, refl, sym, ap, _∙_}
+use Prim.Native.Nat.{_+_, _-_, _*_, _<_}
+use Rattle.judge.specs.declared.Sight.{Sight}
+use Rattle.reader.proofs.Laid.{eight, here, channel-eight, inside, lent-here, few-dropped, laid-here}
 use borrow.Author.Needs.{needs}
 use Rattle.reader.proofs.read_on.Statement.{statement}
 use Rattle.reader.proofs.read_on.Tie as tie
@@ -14,22 +15,10 @@ element-copy-out-a : tie.Need-element-copy-out-a
 element-copy-out-a c = search needs
 
 mul-ch : tie.Need-mul-ch
-mul-ch c =
-    let o = c .before .before .before .before .before .before .before .pre in
-    let w = here _ _ _ _ _ _ o .eight in
-    search needs
+mul-ch c = omega (arith, channel-eight _ _ _ _ _ _ (c .before .before .before .before .before .before .before .pre .0) (c .before .before .before .before .before .before .before .args .x) (c .before .before .before .before .before .before .before .pre .1))
 
 element-copy-out-ch : tie.Need-element-copy-out-ch
-element-copy-out-ch c = here _ _ _ _ _ _ (c .before .before .before .before .before .before .before .pre) .eight
-
-zone-of-requires : tie.Need-zone-of-requires
-zone-of-requires c κs = search needs
-
-count-in-requires : tie.Need-count-in-requires
-count-in-requires c κs =
-    let o = c .before .before .before .before .before .before .before .before .before .pre in
-    let w = here _ _ _ _ _ _ o in
-    (w .seven, omega (arith, w .inside, o .reads .whole))
+element-copy-out-ch c = channel-eight _ _ _ _ _ _ (c .before .before .before .before .before .before .before .pre .0) (c .before .before .before .before .before .before .before .args .x) (c .before .before .before .before .before .before .before .pre .1)
 
 info-for-requires : tie.Need-info-for-requires
 info-for-requires c κs = search needs
@@ -40,19 +29,8 @@ mul-h c = search needs
 element-copy-out-h : tie.Need-element-copy-out-h
 element-copy-out-h c = search needs
 
-add-at : tie.Need-add-at
-add-at c =
-    let o = c .before .before .before .before .before .before .before .before .before .before .before .before .before .pre in
-    let w = here _ _ _ _ _ _ o .seven in
-    search needs
-
-add-at-2 : tie.Need-add-at-2
-add-at-2 c =
-    let o = c .before .before .before .before .before .before .before .before .before .before .before .before .before .pre in
-    let w = here _ _ _ _ _ _ o in
-    let k = w .seven in
-    let i = w .insert in
-    search needs
+add-end : tie.Need-add-end
+add-end c = let b = c .before .before .before .before .before .before .before .before .before .before .before in omega (arith, inside _ _ _ _ _ _ (b .pre .0) (b .args .x) (b .pre .1) _ _ refl refl, b .pre .0 .reads .whole)
 
 mul-from : tie.Need-mul-from
 mul-from c = search needs
@@ -60,39 +38,39 @@ mul-from c = search needs
 add-to : tie.Need-add-to
 add-to c = search needs
 
-sub-field-step : tie.Need-sub-field-step
-sub-field-step c =
-    let o = c .before .before .before .before .before .before .before .before .before .before .before .before .before .pre in
-    omega (arith, here _ _ _ _ _ _ o .inside, o .reads .whole)
+sub-lane-step : tie.Need-sub-lane-step
+sub-lane-step c = search needs
 
-part-field-step-start : tie.Need-part-field-step-start
-part-field-step-start c =
-    let o = c .before .before .before .before .before .before .before .before .before .before .before .before .before .pre in
-    omega (arith, here _ _ _ _ _ _ o .inside, o .reads .whole)
+part-lane-step-start : tie.Need-part-lane-step-start
+part-lane-step-start c = search needs
 
-part-field-step-end : tie.Need-part-field-step-end
-part-field-step-end c = search needs
+part-lane-step-end : tie.Need-part-lane-step-end
+part-lane-step-end c = let b = c .before .before .before .before .before .before .before .before .before .before .before in inside _ _ _ _ _ _ (b .pre .0) (b .args .x) (b .pre .1) _ _ refl refl
 
-sub-field-step-2 : tie.Need-sub-field-step-2
-sub-field-step-2 c = search needs
+sub-lane-step-2 : tie.Need-sub-lane-step-2
+sub-lane-step-2 c = search needs
 
-part-field-step-start-2 : tie.Need-part-field-step-start-2
-part-field-step-start-2 c = search needs
+part-lane-step-start-2 : tie.Need-part-lane-step-start-2
+part-lane-step-start-2 c = search needs
 
-part-field-step-end-2 : tie.Need-part-field-step-end-2
-part-field-step-end-2 c = search needs
+part-lane-step-end-2 : tie.Need-part-lane-step-end-2
+part-lane-step-end-2 c = search needs
 
-field-step-requires : tie.Need-field-step-requires
-field-step-requires c κs =
-    let a = c .before .before .before .before .before .before .before .before .before .before .before .before .before .before .before .before .before in
-    let n : 8192 * a .args .l + 8192 - 8192 * a .args .l ≡ 8192 = omega arith in
-    asked-here _ _ _ _ _ _ (a .pre) _ _ _ n (c .before .before .before .before .before .before .before .before .zone-of .ensures) (field-is _ _ _ _ _ _ (a .pre))
+lane-step-requires : tie.Need-lane-step-requires
+lane-step-requires c κs =
+    let b = c .before .before .before .before .before .before .before .before .before .before .before .before .before .before .before in
+    let x = b .args .x in
+    let m : x .begin + x .size - x .begin ≡ x .size = omega arith in
+    let n : 8192 * b .args .l + 8192 - 8192 * b .args .l ≡ 8192 = omega arith in
+    lent-here _ _ _ _ _ _ (b .pre .0) x (b .pre .1) _ _ m n
 
 taken-of-requires : tie.Need-taken-of-requires
 taken-of-requires c κs =
-    let a = c .before .before .before .before .before .before .before .before .before .before .before .before .before .before .before .before .before .before .before .before .before .before .before .before in
-    let n : 8192 * a .args .l + 8192 - 8192 * a .args .l ≡ 8192 = omega arith in
-    (eight _ _ _ _ _ _ (a .pre), a .pre .dropped, few-dropped _ _ _ _ _ _ (a .pre) _ _ _ _ n (c .before .before .before .before .before .before .before .before .before .before .before .before .before .before .before .zone-of .ensures) (field-is _ _ _ _ _ _ (a .pre)) (c .before .before .before .before .before .before .field-step .ensures .dropped))
+    let b = c .before .before .before .before .before .before .before .before .before .before .before .before .before .before .before .before .before .before .before .before .before .before in
+    let x = b .args .x in
+    let m : x .begin + x .size - x .begin ≡ x .size = omega arith in
+    let n : 8192 * b .args .l + 8192 - 8192 * b .args .l ≡ 8192 = omega arith in
+    (eight _ _ _ _ _ _ (b .pre .0), b .pre .0 .dropped, few-dropped _ _ _ _ _ _ (b .pre .0) x (b .pre .1) _ _ m n _ (c .before .before .before .before .before .before .lane-step .ensures .dropped))
 
 same-length : tie.Need-same-length
 same-length c = search needs
@@ -105,9 +83,11 @@ same-length-3 c = search needs
 
 returns : tie.Need-returns
 returns c =
-    let a = c .before .before .before .before .before .before .before .before .before .before .before .before .before .before .before .before .before .before .before .before .before .before .before .before .before in
-    let n : 8192 * a .args .l + 8192 - 8192 * a .args .l ≡ 8192 = omega arith in
-    laid-here _ _ _ _ _ _ (a .pre) _ _ _ _ _ _ _ _ _ _ n (c .before .before .before .before .before .before .before .before .before .before .before .before .before .before .before .before .zone-of .ensures) (field-is _ _ _ _ _ _ (a .pre)) (c .before .before .before .before .before .before .before .before .before .before .before .before .before .before .info-for .ensures) (c .before .before .before .before .before .before .before .before .before .before .before .before .before .before .before .count-in .ensures .0) (c .before .before .before .before .before .before .before .field-step .ensures) (c .taken-of .ensures)
+    let b = c .before .before .before .before .before .before .before .before .before .before .before .before .before .before .before .before .before .before .before .before .before .before .before in
+    let x = b .args .x in
+    let m : x .begin + x .size - x .begin ≡ x .size = omega arith in
+    let n : 8192 * b .args .l + 8192 - 8192 * b .args .l ≡ 8192 = omega arith in
+    laid-here _ _ _ _ _ _ (b .pre .0) x (b .pre .1) _ _ m n _ _ _ _ _ _ (c .before .before .before .before .before .before .before .before .before .before .before .before .before .before .info-for .ensures) (c .before .before .before .before .before .before .before .lane-step .ensures) (c .taken-of .ensures)
 
 pub read-on-spec : {M : Type 1} → statement M
 read-on-spec =
@@ -117,22 +97,19 @@ read-on-spec =
     element-copy-out-a
     mul-ch
     element-copy-out-ch
-    zone-of-requires
-    count-in-requires
     info-for-requires
     mul-h
     element-copy-out-h
-    add-at
-    add-at-2
+    add-end
     mul-from
     add-to
-    sub-field-step
-    part-field-step-start
-    part-field-step-end
-    sub-field-step-2
-    part-field-step-start-2
-    part-field-step-end-2
-    field-step-requires
+    sub-lane-step
+    part-lane-step-start
+    part-lane-step-end
+    sub-lane-step-2
+    part-lane-step-start-2
+    part-lane-step-end-2
+    lane-step-requires
     taken-of-requires
     same-length
     same-length-2

@@ -1,0 +1,57 @@
+-- `reader::take_seen` meets its contract: the count is taken, and what the sight says of the lane decides.
+use mathlib.Core.Path.{_≡_, refl, sym, ap, _∙_}
+use Rattle.reader.proofs.Verdicts.{seen-good, counted-kept, on-lane, lane-kept}
+use borrow.Author.Needs.{needs}
+use Rattle.reader.proofs.take_seen.Statement.{statement}
+use Rattle.reader.proofs.take_seen.Tie as tie
+
+gap-of-requires : tie.Need-gap-of-requires
+gap-of-requires c κs = let b = c .before .before .before .before in seen-good (b .args .r) (b .args .frame .now) (b .args .held .now) (b .args .units .now) (b .args .records .now) (b .args .x) (b .pre)
+
+enum-told : tie.Need-enum-told
+enum-told c = search needs
+
+counted-of-requires : tie.Need-counted-of-requires
+counted-of-requires c κs = search needs
+
+enum-known-on : tie.Need-enum-known-on
+enum-known-on c = search needs
+
+read-on-requires : tie.Need-read-on-requires
+read-on-requires c κs =
+    let b = c .before .before .before .before .before .before .before .before .before .before .before in
+    on-lane (b .args .r) (b .args .frame .now) (b .args .held .now) (b .args .units .now) (b .args .records .now) (b .args .x) (b .pre) _ (c .before .before .before .before .on .given .1) _ (c .before .before .before .before .before .before .gap-of .ensures)
+
+returns : tie.Need-returns
+returns c =
+    let b = c .before .before .before .before .before .before .before .before in
+    counted-kept (b .args .r) (b .args .frame .now) (b .args .held .now) (b .args .units .now) (b .args .records .now) (b .args .x) (b .pre) (c .before .enum-told .given .1) _ (c .before .before .before .gap-of .ensures) _ (c .counted-of .ensures)
+
+same-length : tie.Need-same-length
+same-length c = search needs
+
+same-length-2 : tie.Need-same-length-2
+same-length-2 c = search needs
+
+same-length-3 : tie.Need-same-length-3
+same-length-3 c = search needs
+
+returns-2 : tie.Need-returns-2
+returns-2 c =
+    let b = c .before .before .before .before .before .before .before .before .before .before .before .before .before .before .before .before .before .before in
+    lane-kept (b .args .r) (b .args .frame .now) (b .args .held .now) (b .args .units .now) (b .args .records .now) (b .args .x) (b .pre) _ (c .before .before .before .before .before .before .before .before .before .before .before .on .given .1) _ (c .before .before .before .before .before .before .before .before .before .before .before .before .before .gap-of .ensures) _ (c .before .before .before .before .before .before .read-on .ensures)
+
+pub take-seen-spec : {M : Type 1} → statement M
+take-seen-spec =
+    tie.close
+    (tie.spec
+    gap-of-requires
+    enum-told
+    counted-of-requires
+    enum-known-on
+    read-on-requires
+    returns
+    same-length
+    same-length-2
+    same-length-3
+    returns-2)
