@@ -19,6 +19,7 @@ use Rattle.rules.specs.Settings.{noLane, channel, lane, expect, heldBy, readerO
 use Rattle.rules.specs.Reading.{missing, expected, emptied, lost, lanesOf, gapBy, gap}
 use Rattle.rules.specs.Valid.{Good, GoodReader}
 use Rattle.rules.proofs.Valid.{good-reader}
+use Rattle.rules.specs.Areas.{heldSize, partSize}
 
 -- ---- counts of n octets
 
@@ -101,7 +102,7 @@ its c l = l .channel =? c
 -- The lanes below i drop n octets.
 pub record Losing (s : Setting) (c : ℕ) (hs : List ℕ) (n i : ℕ) : Type 0 where
   pub whole : lost (its c) (lanesOf s) hs ≡ n + lost (its c) (drop i (lanesOf s)) (drop i hs)
-  pub small : n ≤ 8192 * i
+  pub small : n ≤ partSize * i
 
 pub losing-none : (s : Setting) (c : ℕ) (hs : List ℕ) → Losing s c hs 0 0
 losing-none s c hs = record { whole = sym (zero-add _); small = omega arith }
@@ -205,7 +206,7 @@ lane-channel r l ok h = good-reader r ok .setting .lanes l h .channel
 
 -- ---- what a gap drops
 
-lost-small : (p : Lane → Bool) (ls : List Lane) (hs : List ℕ) → ((i : ℕ) → i < length ls → getD hs i 0 ≤ 8192) → lost p ls hs ≤ 8192 * length ls
+lost-small : (p : Lane → Bool) (ls : List Lane) (hs : List ℕ) → ((i : ℕ) → i < length ls → getD hs i 0 ≤ 8192) → lost p ls hs ≤ partSize * length ls
 unfolding lost
 lost-small p [] hs h = omega arith
 lost-small p (l ∷ ls) [] h = omega arith
@@ -218,12 +219,12 @@ lost-small p (l ∷ ls) (x ∷ hs) h =
     by-cases true = h 0 (zero-lt-suc (length ls))
     by-cases false = omega arith
 
-gapBy-small : (r : Reader) (c m : ℕ) → lost (its c) (lanesOf (r .setting)) (r .held) ≤ 65536 → gapBy r c m .dropped ≤ 65536
+gapBy-small : (r : Reader) (c m : ℕ) → lost (its c) (lanesOf (r .setting)) (r .held) ≤ 65536 → gapBy r c m .dropped ≤ heldSize
 unfolding gapBy
 gapBy-small r c zero h = omega arith
 gapBy-small r c (suc m) h = h
 
-pub gap-small : (r : Reader) (c k : ℕ) → GoodReader r → gap r c k .dropped ≤ 65536
+pub gap-small : (r : Reader) (c k : ℕ) → GoodReader r → gap r c k .dropped ≤ heldSize
 unfolding gap
 gap-small r c k g =
     let n = length-take (r .setting .numbered) (r .setting .lanes) in

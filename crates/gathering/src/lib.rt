@@ -34,7 +34,7 @@ pub fn gather(s: &[u8], longest: usize) -> usize
         if longest < n {
             return i;
         }
-        if 32768 - i < n {
+        if rules::BATCH_SIZE - i < n {
             return i;
         }
         i += n;

@@ -8,7 +8,7 @@ use lib.ListN.{length, take, drop, length-append}
 use lib.Seq.{length-take-le}
 use Rattle.rules.specs.declared.Info.{Info}
 use Rattle.rules.specs.Octets.{be}
-use Rattle.rules.specs.Areas.{laid, joined}
+use Rattle.rules.specs.Areas.{laid, joined, recordSize}
 use Rattle.rules.specs.Reading.{Made, nothing, hands, idles, both, recordOf, recordsFrom}
 use Rattle.rules.proofs.Octets.{length-be}
 use Rattle.rules.proofs.Areas.{joined-append, laid-nil, laid-laid, length-laid}
@@ -18,11 +18,11 @@ use Rattle.handing.specs.Hands.{Room, Handed, Begun, Ready, Went}
 
 -- ---- records
 
-pub length-record : (i : Info) (start size : ℕ) → length (recordOf i start size) ≡ 16
+pub length-record : (i : Info) (start size : ℕ) → length (recordOf i start size) ≡ recordSize
 unfolding recordOf be
 length-record i start size = refl
 
-length-records : (i : Info) (start : ℕ) (us : List (List ℕ)) → length (recordsFrom i start us) ≡ 16 * length us
+length-records : (i : Info) (start : ℕ) (us : List (List ℕ)) → length (recordsFrom i start us) ≡ recordSize * length us
 unfolding recordsFrom
 length-records i start [] = refl
 length-records i start (u ∷ us) =
@@ -40,7 +40,7 @@ records-append i start (e ∷ es) bs =
     ∙ sym (append-assoc (recordOf i start (length e)) (recordsFrom i (start + length e) es) (recordsFrom i (start + length (e ++ joined es)) bs))
 
 -- Four octets and three numbers of four, laid one after another, are a record.
-pub record-laid : (area : List ℕ) (from : ℕ) (i : Info) (start size : ℕ) → from + 16 ≤ length area
+pub record-laid : (area : List ℕ) (from : ℕ) (i : Info) (start size : ℕ) → from + recordSize ≤ length area
     → laid (laid (laid (laid area from (i .lane ∷ i .vc ∷ i .map ∷ i .service ∷ [])) (from + 4) (be 4 start)) (from + 8) (be 4 size)) (from + 12) (be 4 (i .count))
     ≡ laid area from (recordOf i start size)
 unfolding recordOf
@@ -105,7 +105,7 @@ module _ {t : Tally} {u r : List ℕ} (a b : Made) (room : Room t u r (both a b)
     pub records-stay : length r₁ ≡ length r
     records-stay =
         let k = length-records i (t .octets) (a .units) in
-        ap length (first .recordArea) ∙ length-laid r (16 * t .count) (recordsFrom i (t .octets) (a .units)) (omega (arith, room-first .records))
+        ap length (first .recordArea) ∙ length-laid r (recordSize * t .count) (recordsFrom i (t .octets) (a .units)) (omega (arith, room-first .records))
 
     -- The first leaves room for the second.
     pub room-second : Room t₁ u₁ r₁ b
@@ -127,7 +127,7 @@ module _ {t : Tally} {u r : List ℕ} (a b : Made) (room : Room t u r (both a b)
         let j = joined-both (a .units) (b .units) in
         let n = length-append (a .units) (b .units) in
         let k = length-records i (t .octets) (a .units) in
-        let at : 16 * t₁ .count ≡ 16 * t .count + length (recordsFrom i (t .octets) (a .units)) = omega arith in
+        let at : recordSize * t₁ .count ≡ recordSize * t .count + length (recordsFrom i (t .octets) (a .units)) = omega arith in
         record {
           unitArea =
               second .unitArea ∙ ap₂ (λ (x : List ℕ) (n : ℕ). laid x n (joined (b .units))) (first .unitArea) (first .octets)
@@ -135,9 +135,9 @@ module _ {t : Tally} {u r : List ℕ} (a b : Made) (room : Room t u r (both a b)
               ∙ ap (laid u (t .octets)) (sym (joined-append (a .units) (b .units)));
           recordArea =
               second .recordArea ∙ ap₂ (λ (x : List ℕ) (n : ℕ). laid x n (recordsFrom i (t₁ .octets) (b .units))) (first .recordArea) at
-              ∙ laid-laid r (16 * t .count) (recordsFrom i (t .octets) (a .units)) (omega (arith, room-first .records)) (recordsFrom i (t₁ .octets) (b .units))
-              ∙ ap (λ (n : ℕ). laid r (16 * t .count) (recordsFrom i (t .octets) (a .units) ++ recordsFrom i n (b .units))) (first .octets)
-              ∙ ap (laid r (16 * t .count)) (sym (records-append i (t .octets) (a .units) (b .units)));
+              ∙ laid-laid r (recordSize * t .count) (recordsFrom i (t .octets) (a .units)) (omega (arith, room-first .records)) (recordsFrom i (t₁ .octets) (b .units))
+              ∙ ap (λ (n : ℕ). laid r (recordSize * t .count) (recordsFrom i (t .octets) (a .units) ++ recordsFrom i n (b .units))) (first .octets)
+              ∙ ap (laid r (recordSize * t .count)) (sym (records-append i (t .octets) (a .units) (b .units)));
           count = omega arith;
           octets = omega arith;
           idle = omega arith;
@@ -160,7 +160,7 @@ begun-none {i} {t} {u} {r} m =
       handed =
           record {
             unitArea = sym (laid-nil u (t .octets));
-            recordArea = sym (laid-nil r (16 * t .count));
+            recordArea = sym (laid-nil r (recordSize * t .count));
             count = omega arith;
             octets = omega arith;
             idle = omega arith;
@@ -210,7 +210,7 @@ only-counted {i} {t} {u} {r} {m} e count octets idle fill dropped =
     let j : length (joined (m .units)) ≡ 0 = ap (λ (us : List (List ℕ)). length (joined us)) e in
     record {
       unitArea = sym (ap (λ (us : List (List ℕ)). laid u (t .octets) (joined us)) e ∙ laid-nil u (t .octets));
-      recordArea = sym (ap (λ (us : List (List ℕ)). laid r (16 * t .count) (recordsFrom i (t .octets) us)) e ∙ laid-nil r (16 * t .count));
+      recordArea = sym (ap (λ (us : List (List ℕ)). laid r (recordSize * t .count) (recordsFrom i (t .octets) us)) e ∙ laid-nil r (recordSize * t .count));
       count = omega arith;
       octets = omega arith;
       idle = idle;
@@ -220,14 +220,14 @@ only-counted {i} {t} {u} {r} {m} e count octets idle fill dropped =
 
 -- One unit, with its record.
 pub one-handed : {i : Info} {t : Tally} {u r x : List ℕ} {t′ : Tally} {u′ r′ : List ℕ} → u′ ≡ laid u (t .octets) x
-    → r′ ≡ laid r (16 * t .count) (recordOf i (t .octets) (length x)) → t′ .count ≡ t .count + 1 → t′ .octets ≡ t .octets + length x
+    → r′ ≡ laid r (recordSize * t .count) (recordOf i (t .octets) (length x)) → t′ .count ≡ t .count + 1 → t′ .octets ≡ t .octets + length x
     → t′ .idle ≡ t .idle → t′ .fill ≡ t .fill → t′ .dropped ≡ t .dropped → Handed i t u r (hands x nothing) t′ u′ r′
 unfolding joined recordsFrom
 one-handed {i} {t} {u} {r} {x} a b count octets idle fill dropped =
     let n : length (x ++ []) ≡ length x = ap length (append-nil x) in
     record {
       unitArea = a ∙ ap (laid u (t .octets)) (sym (append-nil x));
-      recordArea = b ∙ ap (laid r (16 * t .count)) (sym (append-nil (recordOf i (t .octets) (length x))));
+      recordArea = b ∙ ap (laid r (recordSize * t .count)) (sym (append-nil (recordOf i (t .octets) (length x))));
       count = omega arith;
       octets = omega arith;
       idle = omega arith;

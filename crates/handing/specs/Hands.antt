@@ -4,7 +4,7 @@ use mathlib.Core.List.{List}
 use Prim.Native.Nat.{ℕ, _+_, _*_, _≤_}
 use lib.ListN.{length}
 use Rattle.rules.specs.declared.Info.{Info}
-use Rattle.rules.specs.Areas.{laid, joined}
+use Rattle.rules.specs.Areas.{laid, joined, recordSize, unitsSize}
 use Rattle.rules.specs.Reading.{Made, both, recordsFrom}
 use Rattle.handing.specs.declared.Tally.{Tally}
 use Rattle.handing.specs.declared.Led.{Led}
@@ -14,15 +14,15 @@ use Rattle.handing.specs.declared.Led.{Led}
 -- The unit and record areas have room for what is still to be made, and no count grows too large.
 pub record Room (t : Tally) (u r : List ℕ) (m : Made) : Type 0 where
   pub octets : t .octets + length (joined (m .units)) ≤ length u
-  pub records : 16 * (t .count + length (m .units)) ≤ length r
-  pub idle : t .idle + m .idle ≤ 12288
-  pub fill : t .fill + m .fill ≤ 12288
-  pub dropped : t .dropped + m .dropped ≤ 12288
+  pub records : recordSize * (t .count + length (m .units)) ≤ length r
+  pub idle : t .idle + m .idle ≤ unitsSize
+  pub fill : t .fill + m .fill ≤ unitsSize
+  pub dropped : t .dropped + m .dropped ≤ unitsSize
 
 -- What was made is handed out: its units follow those of the tally, so do their records, and all is counted.
 pub record Handed (i : Info) (t : Tally) (u r : List ℕ) (m : Made) (t′ : Tally) (u′ r′ : List ℕ) : Type 0 where
   pub unitArea : u′ ≡ laid u (t .octets) (joined (m .units))
-  pub recordArea : r′ ≡ laid r (16 * t .count) (recordsFrom i (t .octets) (m .units))
+  pub recordArea : r′ ≡ laid r (recordSize * t .count) (recordsFrom i (t .octets) (m .units))
   pub count : t′ .count ≡ t .count + length (m .units)
   pub octets : t′ .octets ≡ t .octets + length (joined (m .units))
   pub idle : t′ .idle ≡ t .idle + m .idle
@@ -42,7 +42,7 @@ pub record Ready (t : Tally) (u r d : List ℕ) (h : ℕ) (z : List ℕ) (m : Ma
   pub room : Room t u r m
   pub held : length (m .held) ≤ length d
   pub inside : h ≤ length d
-  pub few : length d + length z ≤ 12288
+  pub few : length d + length z ≤ unitsSize
 
 -- What was made is handed out, and what is held now stands at the front of the lane's part.
 pub record Went (i : Info) (t : Tally) (u r d : List ℕ) (m : Made) (l : Led) (u′ r′ d′ : List ℕ) : Type 0 where

@@ -4,7 +4,7 @@ ghost use mathlib.Core.Path.{_≡_};
 ghost use mathlib.Core.List.{_++_};
 ghost use Prim.Native.Nat.{_+_, _≤_};
 ghost use lib.ListN.{length, take};
-ghost use Rattle.rules.specs.Areas.{laid};
+ghost use Rattle.rules.specs.Areas.{laid, recordSize};
 ghost use Rattle.rules.specs.Reading.{nothing, hands, become, recordOf};
 ghost use Rattle.handing.specs.Hands.{Room, Handed, Ready, Went};
 use rules::Fate;
@@ -27,7 +27,7 @@ pub struct Led {
 
 // Lays the record of a unit of `size` octets from octet `start` on into `area` from octet `from` on.
 fn lay_record(area: &mut [u8], from: usize, info: Info, start: usize, size: usize)
-    requires { ⌜ from + 16 ≤ length (now area) ⌝ }
+    requires { ⌜ from + recordSize ≤ length (now area) ⌝ }
     ensures { λ _. ⌜ now (area .exit) ≡ laid (now (area .entry)) from (recordOf info start size) ⌝ }
 {
     let whose = [info.lane, info.vc, info.map, info.service];
@@ -54,7 +54,13 @@ pub fn hand_out(
     let end = middle + second.len();
     octets::lay(units, start, first);
     octets::lay(units, middle, second);
-    lay_record(records, 16 * t.count, info, start, end - start);
+    lay_record(
+        records,
+        rules::RECORD_SIZE * t.count,
+        info,
+        start,
+        end - start,
+    );
     Tally {
         count: t.count + 1,
         octets: end,

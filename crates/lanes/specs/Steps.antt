@@ -6,16 +6,16 @@ use lib.ListN.{length}
 use Rattle.rules.specs.declared.Kind.{Kind}
 use Rattle.rules.specs.declared.Place.{Place}
 use Rattle.rules.specs.declared.Info.{Info}
-use Rattle.rules.specs.Areas.{laid, joined}
+use Rattle.rules.specs.Areas.{laid, joined, partSize, recordsSize, unitsSize}
 use Rattle.rules.specs.Reading.{Made, recordsFrom}
 use Rattle.rules.specs.Valid.{least, Inside}
 use Rattle.handing.specs.declared.Led.{Led}
 
 -- What it is lent: areas of the paper's sizes, and a zone and held octets as a valid state and a frame that is Read have them.
 pub record Lent (k : Kind) (longest h : ℕ) (p : Place) (z d u r : List ℕ) : Type 0 where
-  pub units : 12288 ≤ length u
-  pub records : 9600 ≤ length r
-  pub part : length d ≡ 8192
+  pub units : unitsSize ≤ length u
+  pub records : recordsSize ≤ length r
+  pub part : length d ≡ partSize
   pub held : h < longest
   pub most : longest ≤ 8192
   pub enough : least k ≤ longest

@@ -8,6 +8,7 @@ ghost use Rattle.rules.specs.Reading.{lead, packetLane, portion, accessLane, la
 ghost use Rattle.rules.specs.Valid.{Inside};
 ghost use Rattle.handing.specs.Hands.{Ready, Went};
 ghost use Rattle.lanes.specs.Steps.{Lent, Stepped};
+ghost use Rattle.rules.specs.Areas.{unitsSize};
 use handing::Led;
 use handing::Tally;
 use rules::Info;
@@ -31,7 +32,7 @@ fn octet_of(first: &[u8], second: &[u8], i: usize) -> u8
 
 // Measures the packet that begins with the first of two parts that follow each other.
 fn measure_of(first: &[u8], second: &[u8]) -> Measure
-    requires { ⌜ length (now first) + length (now second) ≤ 12288 ⌝ }
+    requires { ⌜ length (now first) + length (now second) ≤ unitsSize ⌝ }
     ensures { λ r. ⌜ r ≡ measure (now (first .entry) ++ now (second .entry)) ⌝ }
 {
     let a = octet_of(first, second, 0);

@@ -21,6 +21,7 @@ use Rattle.rules.specs.Tests.{_=?_, every, all}
 use lib.Seq.{take-at, drop-at}
 use Rattle.rules.proofs.States.{gap-setting}
 use Rattle.listing.specs.Runs.{linesOf, Reached, GoesOn, Listed}
+use Rattle.rules.specs.Areas.{heldSize, recordsSize, unitsSize}
 
 -- A read keeps the setting.
 read-setting : (r : Reader) (f h u c : List ℕ) → (read r f h u c) .taken .state .setting ≡ r .setting
@@ -44,7 +45,7 @@ lines-step n k r h u c f rest s e =
     rw (ne-eqb (length (f ++ rest)) 0 z, take-at f rest (r .setting .length) (e ∙ sym s), drop-at f rest (r .setting .length) (e ∙ sym s))
 
 -- Before the first frame.
-pub begins : Reached 0 ((setUpReader (worked packetLane)) .state) (replicate 65536 0) (replicate 12288 0) (replicate 9600 0)
+pub begins : Reached 0 ((setUpReader (worked packetLane)) .state) (replicate heldSize 0) (replicate unitsSize 0) (replicate recordsSize 0)
 unfolding linesOf setUpReader settingOk rangesOk channelsOk channelOk channelsAgree lanesOk laneOk lanesDiffer kindOk zone every all freshReader noReader noSetting worked
 begins = record { seen = []; said = []; whole = refl; framed = refl; goes = λ n rest. ap (λ (m : ℕ). linesOf m rest) (zero-add n) }
 
@@ -90,6 +91,6 @@ unfolding GoesOn
 goes-none P = tt
 
 -- The program's set-up stands before the first frame.
-pub begins-from : (s : Setting) (l : Listener) → s ≡ worked packetLane → ReaderStarts s l → Reached 0 (l .state) (replicate 65536 0) (replicate 12288 0) (replicate 9600 0)
+pub begins-from : (s : Setting) (l : Listener) → s ≡ worked packetLane → ReaderStarts s l → Reached 0 (l .state) (replicate heldSize 0) (replicate unitsSize 0) (replicate recordsSize 0)
 begins-from s l e q =
-    subst (λ (x : Listener). Reached 0 (x .state) (replicate 65536 0) (replicate 12288 0) (replicate 9600 0)) (sym (reader-starts-is s l q ∙ ap setUpReader e)) begins
+    subst (λ (x : Listener). Reached 0 (x .state) (replicate heldSize 0) (replicate unitsSize 0) (replicate recordsSize 0)) (sym (reader-starts-is s l q ∙ ap setUpReader e)) begins

@@ -10,6 +10,7 @@ use Rattle.rules.specs.Calls.{setUpReader, Got}
 use Rattle.rules.specs.Listing.{text, line, lines}
 use Rattle.rules.specs.Worked.{worked, packetLane}
 use Rattle.listing_text.specs.Puts.{Put}
+use Rattle.rules.specs.Areas.{heldSize, recordsSize, unitsSize}
 
 -- What is printed before line k.
 unfoldable pub opening : ℕ → List ℕ
@@ -30,7 +31,7 @@ pub record Listed (k : ℕ) (o : Got) (area : List ℕ) (r : Reader) (h u c area
 
 -- The lines of an input, as the rules' listing has them after its title, n at most.
 unfoldable pub linesOf : ℕ → List ℕ → List ℕ
-linesOf n input = lines n 0 ((setUpReader (worked packetLane)) .state) (replicate 65536 0) (replicate 12288 0) (replicate 9600 0) input
+linesOf n input = lines n 0 ((setUpReader (worked packetLane)) .state) (replicate heldSize 0) (replicate unitsSize 0) (replicate recordsSize 0) input
 
 -- What a listing carries once k whole frames were `seen` and their lines `said`: whatever follows them, the listing goes on
 -- with line k, from this state and these areas.

@@ -134,9 +134,9 @@ fn list_next(k: u64, r: Reader, held: &mut [u8], units: &mut [u8], records: &mut
 
 // Lists standard input to its end. A proved loop has to end: this one counts its frames, to a number that no run reaches.
 pub fn run() {
-    let mut held = [0u8; 65536];
-    let mut units = [0u8; 12288];
-    let mut records = [0u8; 9600];
+    let mut held = [0u8; rules::HELD_SIZE];
+    let mut units = [0u8; rules::UNITS_SIZE];
+    let mut records = [0u8; rules::RECORDS_SIZE];
     let setting = worked_setting();
     let l = reader::set_up(setting);
     let mut state = l.state;

@@ -206,7 +206,7 @@ pub fn batch_ok(kind: Kind, longest: usize, batch: &[u8]) -> bool
     }
     match kind {
         Kind::Packets => {
-            if 32768 < batch.len() {
+            if rules::BATCH_SIZE < batch.len() {
                 return false;
             }
             back_to_back(longest, batch)

@@ -13,7 +13,7 @@ use Rattle.rules.specs.declared.Channel.{Channel}
 use Rattle.rules.specs.declared.Gap.{Gap}
 use Rattle.rules.specs.declared.Setting.{Setting}
 use Rattle.rules.specs.declared.Taken.{Taken}
-use Rattle.rules.specs.Areas.{laid, joined, part}
+use Rattle.rules.specs.Areas.{laid, joined, part, partSize, unitsSize}
 use Rattle.rules.specs.Reading.{Made, laneStep, recordsFrom, infoOf}
 use Rattle.rules.specs.Settings.{channel, lane, channelOf, heldBy, zoneAt, zone}
 use Rattle.rules.specs.Frames.{pointsTo, pointerIn, ruleIn, zoneIn, countIn}
@@ -29,15 +29,15 @@ use Rattle.judge.specs.Sights.{readSight}
 use Rattle.judge.proofs.Places.{Fits, fits, lane-eight}
 
 -- A step, laid out: the answer, the state and the three areas of a read. The lane's part is cut out as n octets.
-pub step-laid : (g : Gap) (l k n : ℕ) (m : Made) (h u c : List ℕ) (led : Led) (d′ u′ c′ : List ℕ) → n ≡ 8192 → 8192 * l + 8192 ≤ length h → length (m .held) ≤ 8192
-    → Stepped (infoOf (g .state .setting) l k) m (take n (drop (8192 * l) h)) u c led d′ u′ c′
+pub step-laid : (g : Gap) (l k n : ℕ) (m : Made) (h u c : List ℕ) (led : Led) (d′ u′ c′ : List ℕ) → n ≡ partSize → partSize * l + partSize ≤ length h → length (m .held) ≤ 8192
+    → Stepped (infoOf (g .state .setting) l k) m (take n (drop (partSize * l) h)) u c led d′ u′ c′
     → (t : Taken) → t ≡ takenOf g l led
-    → record { taken = t; heldArea = take (8192 * l) h ++ (d′ ++ drop n (drop (8192 * l) h)); unitArea = u′; recordArea = c′ } ≡ laidOut g l k m h u c
+    → record { taken = t; heldArea = take (partSize * l) h ++ (d′ ++ drop n (drop (partSize * l) h)); unitArea = u′; recordArea = c′ } ≡ laidOut g l k m h u c
 unfolding laidOut
 step-laid g l k n m h u c led d′ u′ c′ en room small s t et =
-    let a : take (8192 * l) h ++ (d′ ++ drop n (drop (8192 * l) h)) ≡ laid h (8192 * l) (m .held) =
-    ap (λ (x : List ℕ). take (8192 * l) h ++ (x ++ drop n (drop (8192 * l) h))) (s .part)
-    ∙ laid-part h (8192 * l) n 0 (m .held) (omega arith) (omega arith) ∙ ap (λ (i : ℕ). laid h i (m .held)) (add-zero (8192 * l)) in
+    let a : take (partSize * l) h ++ (d′ ++ drop n (drop (partSize * l) h)) ≡ laid h (partSize * l) (m .held) =
+    ap (λ (x : List ℕ). take (partSize * l) h ++ (x ++ drop n (drop (partSize * l) h))) (s .part)
+    ∙ laid-part h (partSize * l) n 0 (m .held) (omega arith) (omega arith) ∙ ap (λ (i : ℕ). laid h i (m .held)) (add-zero (partSize * l)) in
     rw (et, a, s .units, s .records, s .held, s .count, s .octets, s .idle, s .fill, s .dropped)
 
 -- ---- a frame that lane l reads after gap g
@@ -55,7 +55,7 @@ module _ (g : Gap) (l : ℕ) (f h u c : List ℕ) (o : OnLane g l f h u c) where
   pub here : Fits s (lane s l .channel)
   here = fits s (lane s l .channel) (o .good .ok) (o .good .setting .lanes l (o .reads .numbered) .channel)
 
-  pub room : 8192 * l + 8192 ≤ length h
+  pub room : partSize * l + partSize ≤ length h
   room = let e = eight in omega (arith, o .held)
 
   kind-of : GoodKind (lane s l .kind) (lane s l .longest) (lane s l .upid)
@@ -71,12 +71,12 @@ module _ (g : Gap) (l : ℕ) (f h u c : List ℕ) (o : OnLane g l f h u c) where
   channel-eight x e = rw e (here .eight)
 
   -- What is lent of the frame and of the held area: the parts that the code cuts out, m and n octets long.
-  module _ (x : Sight) (ex : x ≡ readSight s f l) (m n : ℕ) (em : m ≡ x .size) (en : n ≡ 8192) where
+  module _ (x : Sight) (ex : x ≡ readSight s f l) (m n : ℕ) (em : m ≡ x .size) (en : n ≡ partSize) where
     abbrev zone-cut : List ℕ
     zone-cut = take m (drop (x .begin) f)
 
     abbrev part-cut : List ℕ
-    part-cut = take n (drop (8192 * l) h)
+    part-cut = take n (drop (partSize * l) h)
 
     abbrev made : Made
     made = laneStep (lane s l .kind) (lane s l .longest) (x .rule) (take (heldBy (g .state) l) part-cut) (x .place) zone-cut
@@ -85,8 +85,8 @@ module _ (g : Gap) (l : ℕ) (f h u c : List ℕ) (o : OnLane g l f h u c) where
     unfolding zoneIn
     zone-is = rw (em, ex)
 
-    part-long : length part-cut ≡ 8192
-    part-long = let a = length-drop (8192 * l) h in let b = room in length-take-le n (drop (8192 * l) h) (omega arith) ∙ en
+    part-long : length part-cut ≡ partSize
+    part-long = let a = length-drop (partSize * l) h in let b = room in length-take-le n (drop (partSize * l) h) (omega arith) ∙ en
 
     -- The zone lies inside the frame.
     pub inside : x .begin + x .size ≤ length f
@@ -110,7 +110,7 @@ module _ (g : Gap) (l : ℕ) (f h u c : List ℕ) (o : OnLane g l f h u c) where
     unfolding madeBy
     made-is = rw (zone-is, en, ex)
 
-    pub few-dropped : (v : ℕ) → v ≡ made .dropped → v ≤ 12288
+    pub few-dropped : (v : ℕ) → v ≡ made .dropped → v ≤ unitsSize
     unfolding total
     few-dropped v e =
         let t = lane-total (lane s l .kind) (lane s l .longest) (x .rule) (take (heldBy (g .state) l) part-cut) (x .place) zone-cut in
@@ -123,7 +123,7 @@ module _ (g : Gap) (l : ℕ) (f h u c : List ℕ) (o : OnLane g l f h u c) where
     -- The whole read, from the step's own promise.
     pub laid-here : (i : Info) (led : Led) (d′ u′ c′ : List ℕ) (t : Taken) → i ≡ infoFor (lane s l) (channel s (x .channel)) l (x .count)
         → Stepped i made part-cut u c led d′ u′ c′ → t ≡ takenOf g l led
-        → record { taken = t; heldArea = take (8192 * l) h ++ (d′ ++ drop n (drop (8192 * l) h)); unitArea = u′; recordArea = c′ } ≡ readOn g l its f h u c
+        → record { taken = t; heldArea = take (partSize * l) h ++ (d′ ++ drop n (drop (partSize * l) h)); unitArea = u′; recordArea = c′ } ≡ readOn g l its f h u c
     unfolding readOn infoOf
     laid-here i led d′ u′ c′ t ei st et =
         let small = lane-below (lane s l .kind) (lane s l .longest) (x .rule) (take (heldBy (g .state) l) part-cut) (x .place) zone-cut (kind-of .enough) in

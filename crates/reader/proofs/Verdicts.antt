@@ -30,6 +30,7 @@ use Rattle.rules.specs.declared.Place.{Place}
 use Rattle.rules.specs.declared.Place.the-variants.{At, Nowhere}
 use Rattle.reader.specs.Reads.{verdictOf, countedOf, OnLane, SeenOn}
 use Rattle.gaps.proofs.Gaps.{gap-small}
+use Rattle.rules.specs.Areas.{heldSize, recordsSize, unitsSize}
 
 module _ (r : Reader) (f h u c : List ℕ) where
   -- The verdict by which a sight was found.
@@ -53,7 +54,7 @@ module _ (r : Reader) (f h u c : List ℕ) where
   facts w e = rw (sym e) (verdict-facts r f h u c)
 
   -- The areas of a read that is not refused.
-  areas : areasShort h u c ≡ false → (length h ≡ 65536) × (12288 ≤ length u) × (9600 ≤ length c)
+  areas : areasShort h u c ≡ false → (length h ≡ heldSize) × (unitsSize ≤ length u) × (recordsSize ≤ length c)
   unfolding areasShort
   areas e =
       let a = or-none _ _ e in

@@ -21,6 +21,7 @@ use Rattle.judge.specs.declared.Sighting.the-variants.{Seen}
 use Rattle.judge.specs.Sights.{sightOf}
 use Rattle.rules.specs.Valid.{GoodReader, Reads}
 use Rattle.handing.specs.declared.Led.{Led}
+use Rattle.rules.specs.Areas.{heldSize, recordsSize, unitsSize}
 
 -- The paper's record fields of lane l, lane a on channel ch, and a count.
 abbrev pub infoFor : Lane → Channel → ℕ → ℕ → Info
@@ -46,15 +47,15 @@ takenOf g l led =
 -- A frame that lane l reads after gap g, and areas of the paper's sizes.
 pub record OnLane (g : Gap) (l : ℕ) (f h u c : List ℕ) : Type 0 where
   pub good : GoodReader (g .state)
-  pub dropped : g .dropped ≤ 65536
+  pub dropped : g .dropped ≤ heldSize
   pub reads : Reads (g .state .setting) f l
-  pub held : length h ≡ 65536
-  pub units : 12288 ≤ length u
-  pub records : 9600 ≤ length c
+  pub held : length h ≡ heldSize
+  pub units : unitsSize ≤ length u
+  pub records : recordsSize ≤ length c
 
 -- The checks of a read, whose areas have these lengths.
 abbrev pub shortOf : ℕ → ℕ → ℕ → Bool
-shortOf h u c = h ≠? 65536 || u <? 12288 || c <? 9600
+shortOf h u c = h ≠? heldSize || u <? unitsSize || c <? recordsSize
 
 abbrev pub verdictOf : Reader → List ℕ → ℕ → ℕ → ℕ → Verdict
 verdictOf r f h u c = cond (not (readerOk r)) (Verdict.Refused 1) (cond (shortOf h u c) (Verdict.Refused 2) (judge (r .setting) f))

@@ -6,6 +6,7 @@ ghost use Rattle.rules.specs.Calls.{readOn, bare};
 ghost use Rattle.rules.specs.Promises.{ReaderStarts, ReadGives};
 ghost use Rattle.judge.specs.Sights.{readSight, sightOf, Fitting};
 ghost use Rattle.reader.specs.Reads.{infoFor, takenOf, countedOf, shortOf, verdictOf, OnLane, SeenOn};
+ghost use Rattle.rules.specs.Areas.{heldSize, unitsSize};
 use handing::Led;
 use judge::Sight;
 use judge::Sighting;
@@ -40,7 +41,7 @@ fn info_for(a: Lane, ch: Channel, l: usize, k: u64) -> Info
 
 // The answer and the state once lane l has made its step after gap g.
 fn taken_of(g: Gap, l: usize, led: Led) -> Taken
-    requires { ⌜ (l < 8) × (g .dropped ≤ 65536) × (led .tally .dropped ≤ 12288) ⌝ }
+    requires { ⌜ (l < 8) × (g .dropped ≤ heldSize) × (led .tally .dropped ≤ unitsSize) ⌝ }
     ensures { λ r. ⌜ r ≡ takenOf g l led ⌝ }
 {
     let tally = led.tally;
@@ -84,8 +85,8 @@ fn read_on(
     let place = x.place;
     let begin = x.begin;
     let end = begin + x.size;
-    let from = 8192 * l;
-    let to = from + 8192;
+    let from = rules::PART_SIZE * l;
+    let to = from + rules::PART_SIZE;
     let led = lanes::lane_step(
         kind,
         a.longest,
@@ -126,13 +127,13 @@ pub fn set_up(s: Setting) -> Listener
 fn areas_short(held: usize, units: usize, records: usize) -> bool
     ensures { λ r. ⌜ r ≡ shortOf held units records ⌝ }
 {
-    if held != 65536 {
+    if held != rules::HELD_SIZE {
         return true;
     }
-    if units < 12288 {
+    if units < rules::UNITS_SIZE {
         return true;
     }
-    records < 9600
+    records < rules::RECORDS_SIZE
 }
 
 // What the checks find of a read, lent areas of these lengths.

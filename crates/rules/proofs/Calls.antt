@@ -21,7 +21,7 @@ use Rattle.rules.specs.declared.Sender.{Sender}
 use Rattle.rules.specs.declared.Verdict.{Verdict}
 use Rattle.rules.specs.declared.Gap.{Gap}
 use Rattle.rules.specs.Tests.{given}
-use Rattle.rules.specs.Areas.{joined, part}
+use Rattle.rules.specs.Areas.{joined, part, recordSize, recordsSize, unitsSize}
 use Rattle.rules.specs.Settings.{channel, lane, channelOf, heldBy, number, zoneAt, zoneFor, zone, ocfOctets, settingOk, readerOk, writerOk, freshReader, freshWriter, noReader, noWriter}
 use Rattle.rules.specs.Frames.{countIn, ruleIn, pointerIn, zoneIn, pointsTo}
 use Rattle.rules.specs.Writing.{batchOk, frames}
@@ -196,8 +196,8 @@ module _ (r : Reader) (f h : List ℕ) (l : ℕ) (g : GoodReader r) (lh : l < r 
 
   -- Its units and their records fit.
   pub record Fits (m : Made) : Type 0 where
-    pub octets : length (joined (m .units)) ≤ 12288
-    pub records : 16 * length (m .units) ≤ 9600
+    pub octets : length (joined (m .units)) ≤ unitsSize
+    pub records : recordSize * length (m .units) ≤ recordsSize
 
   few-held : length (take (heldBy (after .state) l) (part l h)) ≤ 8191
   few-held =
@@ -243,8 +243,8 @@ read-valid r f h u c ok = go (verdict r f h u c) (verdict-facts r f h u c)
 
 -- Units and records of any frame fit 12,288 and 9,600 octets.
 pub record Small (a : Answer) : Type 0 where
-  pub octets : a .octets ≤ 12288
-  pub records : 16 * a .units ≤ 9600
+  pub octets : a .octets ≤ unitsSize
+  pub records : recordSize * a .units ≤ recordsSize
 
 pub read-fits : (r : Reader) (f h u c : List ℕ) → Small ((read r f h u c) .taken .answer)
 unfolding read

@@ -13,7 +13,7 @@ use Rattle.rules.specs.declared.Outcome.the-variants.{Done, Refused}
 use Rattle.rules.specs.declared.Class.{Class}
 use Rattle.rules.specs.declared.Answer.{Answer}
 use Rattle.rules.specs.Tests.{given}
-use Rattle.rules.specs.Areas.{laid, joined}
+use Rattle.rules.specs.Areas.{laid, joined, heldSize, recordsSize, unitsSize}
 use Rattle.rules.specs.Settings.{lane, count, number}
 use Rattle.rules.specs.Writing.{frameOf}
 use Rattle.rules.specs.Calls.{refusalOf, classRefusal, setUpReader, setUpWriter, Sent, writeRefusals, Got, readRefusals, read}
@@ -28,13 +28,13 @@ fresh : Reader
 fresh = (setUpReader (worked packetLane)) .state
 
 held₀ : List ℕ
-held₀ = replicate 65536 0x55
+held₀ = replicate heldSize 0x55
 
 units₀ : List ℕ
-units₀ = replicate 12288 0x55
+units₀ = replicate unitsSize 0x55
 
 records₀ : List ℕ
-records₀ = replicate 9600 0x55
+records₀ = replicate recordsSize 0x55
 
 ready : Writer
 ready = (setUpWriter (worked packetLane)) .state

@@ -27,6 +27,7 @@ use Rattle.rules.proofs.Octets.{pow256-pos}
 use Rattle.rules.proofs.Counts.{expected-below}
 use Rattle.rules.specs.Valid.{Good, GoodKind, GoodReader, GoodWriter}
 use Rattle.rules.proofs.Valid.{good, some-longest}
+use Rattle.rules.specs.Areas.{batchSize}
 
 -- ---- a state is valid when each fact holds
 
@@ -175,7 +176,7 @@ frames-few z b h k = div-le-of-le-mul z (go z (length b) h k)
 
 pub record GoodBatch (b : List ℕ) : Type 0 where
   pub some : 1 ≤ length b
-  pub most : length b ≤ 32768
+  pub most : length b ≤ batchSize
 
 pub good-batch : (k : Kind) (longest : ℕ) (b : List ℕ) → longest ≤ 8192 → batchOk k longest b ≡ true → GoodBatch b
 unfolding batchOk
@@ -184,7 +185,7 @@ good-batch Access longest b h e =
     let a : length b ≤ longest = leb-true _ _ (all-at _ 1 e) in
     record { some = leb-true _ _ (all-at _ 0 e); most = omega arith }
 
-after-few : (i n : ℕ) → i < n → n ≤ 32768 → numberAfter i n ≤ 32767
+after-few : (i n : ℕ) → i < n → n ≤ batchSize → numberAfter i n ≤ 32767
 unfolding numberAfter
 after-few i n h k = go ((i + 1) =? n) refl
   where
@@ -193,7 +194,7 @@ after-few i n h k = go ((i + 1) =? n) refl
     go false e = let q : i + 1 ≢ n = eqb-false (i + 1) n e in omega arith
 
 pub good-after : (w : Writer) → GoodWriter w → (l : ℕ) (b : List ℕ) → number w l < frames (zone (w .setting) (channelOf (w .setting) l)) b
-    → frames (zone (w .setting) (channelOf (w .setting) l)) b ≤ 32768 → GoodWriter (writerAfter w l b)
+    → frames (zone (w .setting) (channelOf (w .setting) l)) b ≤ batchSize → GoodWriter (writerAfter w l b)
 unfolding writerAfter countAfter
 good-after w g l b h k =
     record {

@@ -12,6 +12,27 @@ unfoldable pub joined : List (List ℕ) → List ℕ
 joined [] = []
 joined (x ∷ xs) = x ++ joined xs
 
--- "Held octets, 65,536, lane k's from 8,192k."
+-- ---- sizes: "Areas lent: held octets, 65,536, lane k's from 8,192k; units, at least 12,288; records, at least 9,600." "Each with one
+-- 16-octet record." "A packet batch is 1 to 32,768 octets."
+
+abbrev pub heldSize : ℕ
+heldSize = 65536
+
+abbrev pub partSize : ℕ
+partSize = 8192
+
+abbrev pub unitsSize : ℕ
+unitsSize = 12288
+
+abbrev pub recordsSize : ℕ
+recordsSize = 9600
+
+abbrev pub recordSize : ℕ
+recordSize = 16
+
+abbrev pub batchSize : ℕ
+batchSize = 32768
+
+-- Lane k's part of the held area.
 abbrev pub part : ℕ → List ℕ → List ℕ
-part k area = take 8192 (drop (8192 * k) area)
+part k area = take partSize (drop (partSize * k) area)

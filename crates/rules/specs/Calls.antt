@@ -19,7 +19,7 @@ use Rattle.rules.specs.declared.Sender.{Sender}
 use Rattle.rules.specs.declared.Verdict.{Verdict}
 use Rattle.rules.specs.declared.Gap.{Gap}
 use Rattle.rules.specs.Tests.{_≤?_, _<?_, _≠?_, Refusal, refuse, given}
-use Rattle.rules.specs.Areas.{laid, joined, part}
+use Rattle.rules.specs.Areas.{laid, joined, part, heldSize, partSize, recordsSize, unitsSize}
 use Rattle.rules.specs.Settings.{channel, lane, channelOf, heldBy, count, number, zone, ocfOctets, settingOk, readerOk, writerOk, freshReader, freshWriter, noReader, noWriter}
 use Rattle.rules.specs.Frames.{countIn, ruleIn, pointerIn, zoneIn, pointsTo}
 use Rattle.rules.specs.Writing.{batchOk, frames, frameOf, writerAfter}
@@ -93,7 +93,7 @@ pub record Got : Type 0 where
 
 -- "An area is too short (held area: not 65,536; ...)."
 unfoldable pub areasShort : List ℕ → List ℕ → List ℕ → Bool
-areasShort h u c = length h ≠? 65536 || length u <? 12288 || length c <? 9600
+areasShort h u c = length h ≠? heldSize || length u <? unitsSize || length c <? recordsSize
 
 -- A class whose counts are all 0.
 abbrev pub bare : Class → Answer
@@ -122,7 +122,7 @@ laidOut g l k m h u c =
                 };
             state = record { setting = g .state .setting; expects = g .state .expects; held = set (g .state .held) l (length (m .held)) };
           };
-      heldArea = laid h (8192 * l) (m .held);
+      heldArea = laid h (partSize * l) (m .held);
       unitArea = laid u 0 (joined (m .units));
       recordArea = laid c 0 (recordsFrom (infoOf (g .state .setting) l k) 0 (m .units));
     }

@@ -12,6 +12,7 @@ use Rattle.rules.specs.declared.Answer.{Answer}
 use Rattle.rules.specs.Tests.{_<?_, _=?_}
 use Rattle.rules.specs.Calls.{setUpReader, Got, read}
 use Rattle.rules.specs.Worked.{worked, packetLane}
+use Rattle.rules.specs.Areas.{heldSize, recordsSize, unitsSize}
 
 -- ---- text
 
@@ -63,4 +64,4 @@ unfoldable pub listing : List ℕ → List ℕ
 listing input =
     cond (length input =? 0) []
     (text "frame answer units missing\n"
-    ++ lines (length input) 0 ((setUpReader (worked packetLane)) .state) (replicate 65536 0) (replicate 12288 0) (replicate 9600 0) input)
+    ++ lines (length input) 0 ((setUpReader (worked packetLane)) .state) (replicate heldSize 0) (replicate unitsSize 0) (replicate recordsSize 0) input)

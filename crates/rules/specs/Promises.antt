@@ -20,7 +20,7 @@ use Rattle.rules.specs.declared.Place.{Place}
 use Rattle.rules.specs.declared.Place.the-variants.{At, Nowhere}
 use Rattle.rules.specs.declared.Gap.{Gap}
 use Rattle.rules.specs.Tests.{_=?_, none, Refusal, refuse, given}
-use Rattle.rules.specs.Areas.{laid, joined}
+use Rattle.rules.specs.Areas.{laid, joined, partSize}
 use Rattle.rules.specs.Settings.{channel, lane, count, number, settingOk, freshReader, freshWriter, noReader, noWriter}
 use Rattle.rules.specs.Frames.{vc, map, bypass, command, countIn}
 use Rattle.rules.specs.Writing.{frameOf, writerAfter}
@@ -168,7 +168,7 @@ pub record ReadGives (r : Reader) (f h u c : List ℕ) (o : Taken) (h′ u′ c�
   pub values : valuesIn (o .answer) ≡ classValues (o .answer .class) (gapIn r f) (madeIn r f h)
   pub state : o .state ≡ classState (o .answer .class) r (gapIn r f) (laneIn (r .setting) f) (madeIn r f h)
   -- "In the held area only the octets that the Read lane holds after the call may change."
-  pub held : h′ ≡ classArea (o .answer .class) h (laid h (8192 * laneIn (r .setting) f) ((madeIn r f h) .held))
+  pub held : h′ ≡ classArea (o .answer .class) h (laid h (partSize * laneIn (r .setting) f) ((madeIn r f h) .held))
   -- "Units stand back to back from the start of the unit area, each with one 16-octet record." "Areas past these are untouched."
   pub units : u′ ≡ classArea (o .answer .class) u (laid u 0 (joined ((madeIn r f h) .units)))
   pub records :

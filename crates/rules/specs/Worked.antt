@@ -12,6 +12,7 @@ use Rattle.rules.specs.declared.Writer.{Writer}
 use Rattle.rules.specs.declared.Answer.{Answer}
 use Rattle.rules.specs.Settings.{noChannel, noLane}
 use Rattle.rules.specs.Calls.{setUpReader, setUpWriter, Sent, write, Got, read}
+use Rattle.rules.specs.Areas.{heldSize, recordsSize, unitsSize}
 
 -- ---- the setting
 
@@ -58,7 +59,7 @@ readBy r h u c (f ∷ fs) =
     o ∷ readBy (o .taken .state) (o .heldArea) (o .unitArea) (o .recordArea) fs
 
 unfoldable pub reads : Setting → List (List ℕ) → List Got
-reads s fs = readBy ((setUpReader s) .state) (replicate 65536 0x55) (replicate 12288 0x55) (replicate 9600 0x55) fs
+reads s fs = readBy ((setUpReader s) .state) (replicate heldSize 0x55) (replicate unitsSize 0x55) (replicate recordsSize 0x55) fs
 
 -- ---- what a row of the table shows
 

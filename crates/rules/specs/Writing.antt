@@ -12,7 +12,7 @@ use Rattle.rules.specs.declared.Writer.{Writer}
 use Rattle.rules.specs.declared.Place.{Place}
 use Rattle.rules.specs.declared.Place.the-variants.{At, Nowhere}
 use Rattle.rules.specs.Tests.{_≤?_, _<?_, _=?_, all}
-use Rattle.rules.specs.Areas.{joined}
+use Rattle.rules.specs.Areas.{joined, batchSize}
 use Rattle.rules.specs.Settings.{lane, channelOf, zone, count, number}
 use Rattle.rules.specs.Frames.{body, checked, pointerTo}
 use Rattle.rules.specs.Packets.{packets}
@@ -28,7 +28,7 @@ noneAbove n (u ∷ us) = length u ≤? n && noneAbove n us
 -- batch is one unit of 1 octet up to the lane's longest."
 unfoldable pub batchOk : Kind → ℕ → List ℕ → Bool
 batchOk Packets longest b =
-    all (1 ≤? length b ∷ length b ≤? 32768 ∷ length (joined (packets b)) =? length b ∷ noneAbove longest (packets b) ∷ [])
+    all (1 ≤? length b ∷ length b ≤? batchSize ∷ length (joined (packets b)) =? length b ∷ noneAbove longest (packets b) ∷ [])
 batchOk Access longest b = all (1 ≤? length b ∷ length b ≤? longest ∷ [])
 
 -- The units that a batch carries.

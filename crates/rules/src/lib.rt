@@ -1,5 +1,18 @@
 // The types that document 01 speaks of, and those that its rules decide by. Plain data, all of it, handed in and out by value.
 
+// Sizes in octets: of the held area, of a lane's part of it, of the least unit and record areas, of a record, of the longest batch.
+pub const HELD_SIZE: usize = 65536;
+
+pub const PART_SIZE: usize = 8192;
+
+pub const UNITS_SIZE: usize = 12288;
+
+pub const RECORDS_SIZE: usize = 9600;
+
+pub const RECORD_SIZE: usize = 16;
+
+pub const BATCH_SIZE: usize = 32768;
+
 // What a lane carries: Space Packets that span frames, or access units (MAPA_SDU). The first is what a state of zeros has.
 pub enum Kind {
     Packets,

@@ -5,7 +5,7 @@ use Prim.Native.Nat.{ℕ, _+_, _-_, _*_}
 use native.Mathlib.Omega.{arith}
 use lib.ListN.{length, length-append}
 use borrow.Author.Needs.{needs}
-use Rattle.rules.specs.Areas.{laid}
+use Rattle.rules.specs.Areas.{laid, recordSize}
 use Rattle.rules.specs.Reading.{recordOf}
 use Rattle.rules.proofs.Areas.{laid-laid}
 use Rattle.handing.proofs.Laws.{two-fit, one-handed}
@@ -51,7 +51,7 @@ returns c =
     one-handed
     (c .before .before .before .before .before .before .before .before .lay2 .ensures ∙ ap (λ (x : List ℕ). laid x (a .t .octets + length (a .first .now)) (a .second .now)) (c .before .before .before .before .before .before .before .before .before .before .before .before .lay .ensures)
     ∙ laid-laid (a .units .now) (a .t .octets) (a .first .now) (omega arith) (a .second .now))
-    (c .before .before .before .lay-record .ensures ∙ ap (λ (k : ℕ). laid (a .records .now) (16 * a .t .count) (recordOf (a .info) (a .t .octets) k)) size)
+    (c .before .before .before .lay-record .ensures ∙ ap (λ (k : ℕ). laid (a .records .now) (recordSize * a .t .count) (recordOf (a .info) (a .t .octets) k)) size)
     refl (omega arith) refl refl refl
 
 pub hand-out-spec : {M : Type 1} → statement M

@@ -10,6 +10,7 @@ use Rattle.rules.specs.Writing.{batchOk}
 use Rattle.packets.proofs.Batches.{batch-empty}
 use Rattle.packets.proofs.batch_ok.Statement.{statement}
 use Rattle.packets.proofs.batch_ok.Tie as tie
+use Rattle.rules.specs.Areas.{batchSize}
 
 returns : tie.Need-returns
 returns c = let a = c .before .before .args in sym (batch-empty (a .kind) (a .longest) (a .batch .now) (c .if1 .taken))
@@ -21,7 +22,7 @@ returns-2 : tie.Need-returns-2
 unfolding batchOk all
 returns-2 c =
     let b = c .before .before .before .before .before .args .batch .now in
-    rw (c .before .enum-told .given .1, le-leb 1 (length b) (omega arith), lt-leb (length b) 32768 (c .if2 .taken))
+    rw (c .before .enum-told .given .1, le-leb 1 (length b) (omega arith), lt-leb (length b) batchSize (c .if2 .taken))
 
 back-to-back-requires : tie.Need-back-to-back-requires
 back-to-back-requires c κs = search needs
@@ -34,7 +35,7 @@ unfolding batchOk all
 returns-3 c =
     let b = c .before .before .before .before .before .before .args .batch .now in
     c .back-to-back .ensures
-    ∙ rw (c .before .before .enum-told .given .1, le-leb 1 (length b) (omega arith), le-leb (length b) 32768 (c .before .if2 .left))
+    ∙ rw (c .before .before .enum-told .given .1, le-leb 1 (length b) (omega arith), le-leb (length b) batchSize (c .before .if2 .left))
 
 returns-4 : tie.Need-returns-4
 unfolding batchOk all

@@ -7,6 +7,7 @@ use Rattle.reader.proofs.Laid.{eight, here, channel-eight, inside, lent
 use borrow.Author.Needs.{needs}
 use Rattle.reader.proofs.read_on.Statement.{statement}
 use Rattle.reader.proofs.read_on.Tie as tie
+use Rattle.rules.specs.Areas.{partSize}
 
 mul-a : tie.Need-mul-a
 mul-a c = search needs
@@ -61,7 +62,7 @@ lane-step-requires c κs =
     let b = c .before .before .before .before .before .before .before .before .before .before .before .before .before .before .before in
     let x = b .args .x in
     let m : x .begin + x .size - x .begin ≡ x .size = omega arith in
-    let n : 8192 * b .args .l + 8192 - 8192 * b .args .l ≡ 8192 = omega arith in
+    let n : partSize * b .args .l + partSize - partSize * b .args .l ≡ partSize = omega arith in
     lent-here _ _ _ _ _ _ (b .pre .0) x (b .pre .1) _ _ m n
 
 taken-of-requires : tie.Need-taken-of-requires
@@ -69,7 +70,7 @@ taken-of-requires c κs =
     let b = c .before .before .before .before .before .before .before .before .before .before .before .before .before .before .before .before .before .before .before .before .before .before in
     let x = b .args .x in
     let m : x .begin + x .size - x .begin ≡ x .size = omega arith in
-    let n : 8192 * b .args .l + 8192 - 8192 * b .args .l ≡ 8192 = omega arith in
+    let n : partSize * b .args .l + partSize - partSize * b .args .l ≡ partSize = omega arith in
     (eight _ _ _ _ _ _ (b .pre .0), b .pre .0 .dropped, few-dropped _ _ _ _ _ _ (b .pre .0) x (b .pre .1) _ _ m n _ (c .before .before .before .before .before .before .lane-step .ensures .dropped))
 
 same-length : tie.Need-same-length
@@ -86,7 +87,7 @@ returns c =
     let b = c .before .before .before .before .before .before .before .before .before .before .before .before .before .before .before .before .before .before .before .before .before .before .before in
     let x = b .args .x in
     let m : x .begin + x .size - x .begin ≡ x .size = omega arith in
-    let n : 8192 * b .args .l + 8192 - 8192 * b .args .l ≡ 8192 = omega arith in
+    let n : partSize * b .args .l + partSize - partSize * b .args .l ≡ partSize = omega arith in
     laid-here _ _ _ _ _ _ (b .pre .0) x (b .pre .1) _ _ m n _ _ _ _ _ _ (c .before .before .before .before .before .before .before .before .before .before .before .before .before .before .info-for .ensures) (c .before .before .before .before .before .before .before .lane-step .ensures) (c .taken-of .ensures)
 
 pub read-on-spec : {M : Type 1} → statement M
