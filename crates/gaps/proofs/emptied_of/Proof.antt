@@ -1,4 +1,4 @@
--- `reader::emptied_of` meets its contract: the loop keeps that the lanes below i have dropped theirs and the others are as they were.
+-- `gaps::emptied_of` meets its contract: the loop keeps that the lanes below i have dropped theirs and the others are as they were.
 use lib.ListN.{length-map}
 use Prim.Native.Nat.{_-_, _<_}
 use lib.ListN.{length}

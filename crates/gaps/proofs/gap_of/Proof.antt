@@ -1,4 +1,4 @@
--- `reader::gap_of` meets its contract: by whether frames are missing, as the rule is.
+-- `gaps::gap_of` meets its contract: by whether frames are missing, as the rule is.
 use Prim.Native.Nat.{ℕ, _+_, _-_, _<_, _≤_}
 use mathlib.Core.Path.{_≡_, refl, sym, ap, _∙_}
 use native.Mathlib.Omega.{arith}

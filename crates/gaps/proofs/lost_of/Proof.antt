@@ -1,4 +1,4 @@
--- `reader::lost_of` meets its contract: the loop keeps what the lanes below i have dropped.
+-- `gaps::lost_of` meets its contract: the loop keeps what the lanes below i have dropped.
 use lib.ListN.{length-map}
 use Prim.Native.Nat.{_-_, _+_, _*_, _<_, _≤_}
 use lib.ListN.{length, drop}
