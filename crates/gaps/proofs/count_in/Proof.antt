@@ -1,5 +1,4 @@
--- `reader::count_in` meets its contract: the octets behind the header are a part of the frame, and octets spell a number below 256^n.
-use Prim.Native.Nat.{_<_}
+-- `gaps::count_in` meets its contract: the octets behind the header are a part of the frame, and octets spell a number below 256^n.
 use Rattle.gaps.proofs.Gaps.{count-small}
 use Prim.Native.Nat.{ℕ, _+_, _-_}
 use mathlib.Core.Path.{_≡_, ap, _∙_}

@@ -1,4 +1,4 @@
--- `reader::check_holds` meets its contract: the part before the last two octets is checked, and the two are read as a number.
+-- `judge::check_holds` meets its contract: the part before the last two octets is checked, and the two are read as a number.
 use mathlib.Core.Path.{_≡_, sym, ap, _∙_}
 use native.Mathlib.Omega.{arith}
 use borrow.Author.Tests.{eq-eqb, ne-eqb, lt-ltb, le-ltb}

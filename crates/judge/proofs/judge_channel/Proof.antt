@@ -1,4 +1,4 @@
--- `reader::judge_channel` meets its contract: by whether a channel was found.
+-- `judge::judge_channel` meets its contract: by whether a channel was found.
 use mathlib.Core.Path.{_≡_, sym, ap, _∙_}
 use native.Mathlib.Omega.{arith}
 use borrow.Author.Tests.{eq-eqb, ne-eqb}

@@ -1,4 +1,4 @@
--- `reader::judge_data` meets its contract: the data field is the frame's rest behind the insert zone.
+-- `judge::judge_data` meets its contract: the data field is the frame's rest behind the insert zone.
 use mathlib.Core.Path.{_≡_, sym, ap, _∙_}
 use native.Mathlib.Omega.{arith}
 use borrow.Author.Tests.{eq-eqb, ne-eqb}

@@ -1,4 +1,4 @@
--- `reader::judge_frame` meets its contract: length and check first, then the header's fields, then its channel.
+-- `judge::judge_frame` meets its contract: length and check first, then the header's fields, then its channel.
 use mathlib.Core.Path.{_≡_, sym, ap, _∙_}
 use native.Mathlib.Omega.{arith}
 use borrow.Author.Tests.{eq-eqb, ne-eqb}

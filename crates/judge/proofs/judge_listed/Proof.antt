@@ -1,4 +1,4 @@
--- `reader::judge_listed` meets its contract: the channel's count length and OCF are tested in this order.
+-- `judge::judge_listed` meets its contract: the channel's count length and OCF are tested in this order.
 use mathlib.Core.Path.{_≡_, sym, ap, _∙_}
 use native.Mathlib.Omega.{arith}
 use borrow.Author.Tests.{eq-eqb, ne-eqb}

@@ -1,4 +1,4 @@
--- `reader::judge_map` meets its contract: by whether a lane was found, then by the command bit.
+-- `judge::judge_map` meets its contract: by whether a lane was found, then by the command bit.
 use mathlib.Core.Path.{_≡_, sym, ap, _∙_}
 use native.Mathlib.Omega.{arith}
 use borrow.Author.Tests.{eq-eqb, ne-eqb}
