@@ -15,6 +15,8 @@ pub mod Theorem
 pub mod Computes
 pub mod Premises
 pub mod LongRuns
+pub mod Later
+pub mod Corollaries
 pub mod Example
 pub mod Shown
 pub mod Bound

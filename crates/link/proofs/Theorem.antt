@@ -33,7 +33,7 @@ use Rattle.link.proofs.Steps.{zone-some, Knows, channel-8, if-gone, non
 
 -- ---- fresh ends
 
-unfoldable fresh : List ℕ → State
+unfoldable pub fresh : List ℕ → State
 fresh h =
     record {
       counts = replicate 8 0;
@@ -46,7 +46,7 @@ fresh h =
     }
 
 module _ (s : Setting) (ok : settingOk s ≡ true) (h : List ℕ) (full : length h ≡ 65536) where
-  fresh-ready : Ready s (fresh h)
+  pub fresh-ready : Ready s (fresh h)
   unfolding fresh freshReader
   fresh-ready =
       record { counts-8 = refl; next-8 = refl; expects-8 = refl; held-8 = refl; full = full; valid = fresh-reader s ok }
@@ -77,7 +77,7 @@ module _ (s : Setting) (ok : settingOk s ≡ true) (h : List ℕ) (full : length
 
 -- ---- demand 3
 
-writer-accepted : (s : Setting) → (setUpWriter s) .outcome ≡ Done → settingOk s ≡ true
+pub writer-accepted : (s : Setting) → (setUpWriter s) .outcome ≡ Done → settingOk s ≡ true
 unfolding setUpWriter
 writer-accepted s e = go (settingOk s) e
   where
