@@ -26,7 +26,7 @@ use Rattle.link.specs.Corollaries.{framesOf, unitsSent, unitsEnded, left
 use Rattle.link.proofs.Run.{State, sender}
 use Rattle.link.proofs.Views.{due-not, due-gone}
 use Rattle.link.proofs.Later.{Reached, reached, all-due, all-units}
-use Rattle.link.proofs.Theorem.{fresh, fresh-ready, writer-accepted, demand}
+use Rattle.link.proofs.Theorem.{fresh, fresh-ready, fresh-setup, demand}
 
 -- ---- frames that are all kept, or all gone
 
@@ -91,14 +91,6 @@ everything-gone s held xs run h l =
 zeros : (n l : ℕ) → _≡_ {A = ℕ} (getD (replicate n 0) l 0) 0
 zeros n l = split n l (λ b. List·getD-eq-default (replicate n 0) 0 (rw length-replicate b)) (λ b. getD-replicate {A = ℕ} n l 0 0 b)
 
--- What is shown of the fresh state holds of set-up's.
-from-fresh : (s : Setting) (held : List ℕ) (P : Writer → Type 0) → (setUpWriter s) .outcome ≡ Done → (settingOk s ≡ true → P (sender s (fresh held)))
-    → P ((setUpWriter s) .state)
-unfolding fresh freshWriter
-from-fresh s held P e f =
-    let ok : settingOk s ≡ true = writer-accepted s e in
-    subst P (sym (ap (λ (o : Sender). o .state) (setup-accepted s ok .1))) (f ok)
-
 -- The state between xs and ys.
 module _ (s : Setting) (ok : settingOk s ≡ true) (held : List ℕ) (full : length held ≡ 65536) (xs ys : List Call)
     (o : InOrder (sender s (fresh held)) (λ (l : ℕ). []) (xs ++ ys)) where
@@ -130,14 +122,14 @@ module _ (s : Setting) (ok : settingOk s ≡ true) (held : List ℕ) (full : len
 pub no-more-gone : NoMoreGone
 no-more-gone s held xs ys run near l b n =
     demand s held (xs ++ ys) run near l
-    ∙ from-fresh s held
+    ∙ fresh-setup s held
     (λ (w : Writer). InOrder w (λ (l : ℕ). []) (xs ++ ys) → number (left w xs) l ≡ 0 → noneGone s (placeOf s l) (sent (left w xs) ys) ≡ true
     → due s l [] (sent w (xs ++ ys)) ≡ due s l [] (sent w xs) ++ unitsEnded s l (sent (left w xs) ys))
     (run .writer) (λ ok o. due-later s ok held (run .area) xs ys o l) (run .calls) b n
 
 pub later-batches : LaterBatches
 later-batches s held xs ys run l =
-    from-fresh s held
+    fresh-setup s held
     (λ (w : Writer). InOrder w (λ (l : ℕ). []) (xs ++ ys) → number (left w xs) l ≡ 0 → number (left w (xs ++ ys)) l ≡ 0
     → unitsEnded s l (sent (left w xs) ys) ≡ unitsSent s l (sent (left w xs) ys))
     (run .writer) (λ ok o. units-later s ok held (run .area) xs ys o l) (run .calls)
@@ -145,7 +137,7 @@ later-batches s held xs ys run l =
 pub nothing-gone : NothingGone
 unfolding left due sent
 nothing-gone s held xs run h l e =
-    let b : Between s [] l = from-fresh s held (λ (w : Writer). number w l ≡ 0) (run .writer) (λ ok. unfold fresh in zeros 8 l) in
+    let b : Between s [] l = fresh-setup s held (λ (w : Writer). number w l ≡ 0) (run .writer) (λ ok. unfold fresh in zeros 8 l) in
     no-more-gone s held [] xs run (λ c p. kept-few s c (256 ^ (channel s c) .octets) (pow256-pos ((channel s c) .octets)) false (framesOf s xs) h) l b
     (kept-none-gone s (placeOf s l) (framesOf s xs) h)
     ∙ later-batches s held [] xs run l b e

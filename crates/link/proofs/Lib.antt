@@ -17,6 +17,7 @@ pub mod Premises
 pub mod LongRuns
 pub mod Later
 pub mod Corollaries
+pub mod Refusing
 pub mod Example
 pub mod Shown
 pub mod Bound

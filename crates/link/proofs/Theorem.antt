@@ -28,7 +28,7 @@ use Rattle.link.specs.Due.{placeOf, due}
 use Rattle.link.specs.Demand.{InOrder, allPass, keptOn, fewGone, Demand}
 use Rattle.link.proofs.Spans.{heldFrom, held-none}
 use Rattle.link.proofs.Views.{due-not, view}
-use Rattle.link.proofs.Run.{State, frame, Ready, Goes, run}
+use Rattle.link.proofs.Run.{State, sender, frame, Ready, Goes, run}
 use Rattle.link.proofs.Steps.{zone-some, Knows, channel-8, if-gone, none-other, if-kept}
 
 -- ---- fresh ends
@@ -84,6 +84,14 @@ writer-accepted s e = go (settingOk s) e
     go : (t : Bool) → (cond {A = Sender} t (record { outcome = Done; state = freshWriter s }) (record { outcome = Refused 1; state = noWriter })) .outcome ≡ Done → t ≡ true
     go true q = refl
     go false q = let z : _≡_ {A = ℕ} 0 1 = cc in absurd (omega arith)
+
+-- What is shown of the fresh state holds of set-up's.
+pub fresh-setup : (s : Setting) (held : List ℕ) (P : Writer → Type 0) → (setUpWriter s) .outcome ≡ Done → (settingOk s ≡ true → P (sender s (fresh held)))
+    → P ((setUpWriter s) .state)
+unfolding fresh freshWriter
+fresh-setup s held P e f =
+    let ok : settingOk s ≡ true = writer-accepted s e in
+    subst P (sym (ap (λ (o : Sender). o .state) (setup-accepted s ok .1))) (f ok)
 
 from-fresh : (s : Setting) (h : List ℕ) (xs : List Call) → settingOk s ≡ true → length h ≡ 65536 → InOrder (freshWriter s) (λ (l : ℕ). []) xs
     → allPass s (sent (freshWriter s) xs) ≡ true
