@@ -7,8 +7,8 @@ use mathlib.Core.List.{List, [], _∷_, _++_}
 use lib.ListN.{length, getD, take, drop, replicate}
 use Rattle.rules.specs.Errors.{paired}
 use Rattle.link.specs.Link.{Call}
-use Rattle.link.specs.Demand.{Run, Exact, keptOn, fewGone}
-use Rattle.link.specs.Examples.{a₀, b₀, gapOf, framesOf, held, onEach, got, dueOnEach, owed}
+use Rattle.link.specs.Demand.{keptOn, fewGone, framesOf, Run, Exact}
+use Rattle.link.specs.Examples.{a₀, b₀, gapOf, held, onEach, got, dueOnEach, owed}
 use Rattle.link.proofs.Computes.{all}
 use Rattle.link.proofs.LongRuns.{meets-far}
 
@@ -39,7 +39,7 @@ nothing-due = refl
 
 -- So the demand without the bound is false.
 pub bound-needed : ((h : List ℕ) (xs : List Call) → Run paired h xs → Exact paired h xs 0) → ⊥
-unfolding framesOf onEach got dueOnEach owed
+unfolding onEach got dueOnEach owed
 bound-needed d =
     let first : List (List (List ℕ)) → List (List ℕ) = λ (xs : List (List (List ℕ))). getD xs 0 [] in
     let e : mixture ∷ [] ≡ [] = sym (ap first mixture-out) ∙ d held far meets-far ∙ ap first nothing-due in

@@ -3,30 +3,26 @@
 use mathlib.Core.Path.{_≡_, refl, sym, ap, ap₂, _∙_, subst}
 use Prim.Native.Nat.{ℕ, suc, _^_, _<_}
 use native.Mathlib.Nat.{not-suc-le-zero}
-use native.Mathlib.Omega.{arith}
 use mathlib.Core.Bool.{Bool, true, false, cond, not, _||_, false≢true}
 use mathlib.Core.List.{List, [], _∷_, _++_}
 use lib.ListN.{length, getD, replicate, getD-replicate, length-replicate, List·getD-eq-default}
 use borrow.Author.Tests.{lt-ltb}
 use Rattle.rules.specs.declared.Setting.{Setting}
+use Rattle.rules.specs.declared.Reader.{Reader}
 use Rattle.rules.specs.declared.Writer.{Writer}
-use Rattle.rules.specs.declared.Sender.{Sender}
-use Rattle.rules.specs.declared.Outcome.the-variants.{Done}
 use Rattle.rules.specs.Tests.{_=?_, _<?_}
-use Rattle.rules.specs.Settings.{channel, number, settingOk, freshWriter}
-use Rattle.rules.specs.Calls.{setUpWriter}
+use Rattle.rules.specs.Settings.{channel, number, settingOk}
 use Rattle.rules.proofs.Tests.{split, same, and-left, and-right, and-both}
 use Rattle.rules.proofs.Octets.{pow256-pos}
-use Rattle.rules.proofs.Valid.{Good, good}
-use Rattle.rules.proofs.Calls.{setup-accepted}
+use Rattle.rules.proofs.Valid.{good}
 use Rattle.link.specs.Link.{Call, Frame, sent}
 use Rattle.link.specs.Due.{kept, placeOf, noneGone, dueIn, due}
-use Rattle.link.specs.Demand.{InOrder, keptOn, fewGone, Run, Near}
-use Rattle.link.specs.Corollaries.{framesOf, unitsSent, unitsEnded, left, Between, later, allKept, allGone, NothingGone, EverythingGone, NoMoreGone, LaterBatches}
-use Rattle.link.proofs.Run.{State, sender}
+use Rattle.link.specs.Demand.{InOrder, keptOn, fewGone, framesOf}
+use Rattle.link.specs.Corollaries.{unitsSent, unitsEnded, left, Between, allKept, allGone, NothingGone, EverythingGone, NoMoreGone, LaterBatches}
+use Rattle.link.proofs.Run.{sender}
 use Rattle.link.proofs.Views.{due-not, due-gone}
 use Rattle.link.proofs.Later.{Reached, reached, all-due, all-units}
-use Rattle.link.proofs.Theorem.{fresh, fresh-ready, fresh-setup, demand}
+use Rattle.link.proofs.Theorem.{fresh, fresh-ready, fresh-ends, demand}
 
 -- ---- frames that are all kept, or all gone
 
@@ -122,22 +118,22 @@ module _ (s : Setting) (ok : settingOk s ≡ true) (held : List ℕ) (full : len
 pub no-more-gone : NoMoreGone
 no-more-gone s held xs ys run near l b n =
     demand s held (xs ++ ys) run near l
-    ∙ fresh-setup s held
-    (λ (w : Writer). InOrder w (λ (l : ℕ). []) (xs ++ ys) → number (left w xs) l ≡ 0 → noneGone s (placeOf s l) (sent (left w xs) ys) ≡ true
+    ∙ fresh-ends s held
+    (λ (w : Writer) (r : Reader). InOrder w (λ (l : ℕ). []) (xs ++ ys) → number (left w xs) l ≡ 0 → noneGone s (placeOf s l) (sent (left w xs) ys) ≡ true
     → due s l [] (sent w (xs ++ ys)) ≡ due s l [] (sent w xs) ++ unitsEnded s l (sent (left w xs) ys))
     (run .writer) (λ ok o. due-later s ok held (run .area) xs ys o l) (run .calls) b n
 
 pub later-batches : LaterBatches
 later-batches s held xs ys run l =
-    fresh-setup s held
-    (λ (w : Writer). InOrder w (λ (l : ℕ). []) (xs ++ ys) → number (left w xs) l ≡ 0 → number (left w (xs ++ ys)) l ≡ 0
+    fresh-ends s held
+    (λ (w : Writer) (r : Reader). InOrder w (λ (l : ℕ). []) (xs ++ ys) → number (left w xs) l ≡ 0 → number (left w (xs ++ ys)) l ≡ 0
     → unitsEnded s l (sent (left w xs) ys) ≡ unitsSent s l (sent (left w xs) ys))
     (run .writer) (λ ok o. units-later s ok held (run .area) xs ys o l) (run .calls)
 
 pub nothing-gone : NothingGone
 unfolding left due sent
 nothing-gone s held xs run h l e =
-    let b : Between s [] l = fresh-setup s held (λ (w : Writer). number w l ≡ 0) (run .writer) (λ ok. unfold fresh in zeros 8 l) in
+    let b : Between s [] l = fresh-ends s held (λ (w : Writer) (r : Reader). number w l ≡ 0) (run .writer) (λ ok. unfold fresh in zeros 8 l) in
     no-more-gone s held [] xs run (λ c p. kept-few s c (256 ^ (channel s c) .octets) (pow256-pos ((channel s c) .octets)) false (framesOf s xs) h) l b
     (kept-none-gone s (placeOf s l) (framesOf s xs) h)
     ∙ later-batches s held [] xs run l b e

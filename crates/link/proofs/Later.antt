@@ -2,7 +2,7 @@
 -- unit that ends is due; and where the lane ends between batches, each batch's units have ended, once and in order.
 use mathlib.Core.Path.{_≡_, refl, sym, ap, ap₂, _∙_, subst}
 use mathlib.Core.Logic.{_⊎_, inl, inr}
-use Prim.Native.Nat.{ℕ, zero, suc, _+_, _≤_, _<_}
+use Prim.Native.Nat.{ℕ, suc, _+_, _≤_, _<_}
 use native.Mathlib.Nat.{not-suc-le-zero, suc-ne-zero}
 use native.Mathlib.Omega.{arith}
 use mathlib.Core.Bool.{Bool, true, false, cond, _&&_}
@@ -39,7 +39,8 @@ module _ (s : Setting) where
     pub order : InOrder (sender s state) (state .last) ys
     pub leaves : left (sender s st) xs ≡ sender s state
     pub ends : left (sender s st) (xs ++ ys) ≡ left (sender s state) ys
-    pub owes : (l : ℕ) → due s l (st .past) (sent (sender s st) (xs ++ ys)) ≡ due s l (st .past) (sent (sender s st) xs) ++ due s l (state .past) (sent (sender s state) ys)
+    pub owes : (l : ℕ) → due s l (st .past) (sent (sender s st) (xs ++ ys))
+        ≡ due s l (st .past) (sent (sender s st) xs) ++ due s l (state .past) (sent (sender s state) ys)
 
   pub reached : (xs ys : List Call) (st : State) → Ready s st → InOrder (sender s st) (st .last) (xs ++ ys) → Reached st xs ys
   unfolding left sent due afterGone
@@ -72,10 +73,14 @@ over kind z n b = ended n (spans z 0 (unitsOf kind b))
 abbrev begun : Kind → ℕ → List ℕ → List (List ℕ)
 begun kind n b = cond (n =? 0) [] (unitsOf kind b)
 
--- Frame k ends its units, and the last frame the last of them: where later frames end all that began, so do all.
+-- With what ends and what begins later, all has ended that began.
+abbrev Even : Kind → ℕ → ℕ → List ℕ → List (List ℕ) → List (List ℕ) → Type 0
+Even kind z n b e f = over kind z n b ++ e ≡ begun kind n b ++ f
+
+-- Frame k ends its units, and the last frame the last of them.
 all-end : (kind : Kind) (longest z k : ℕ) (b last : List ℕ) → 0 < z → batchOk kind longest b ≡ true → (k ≡ 0) ⊎ (b ≡ last) → (e f : List (List ℕ))
-    → over kind z (numberAfter k (frames z b)) b ++ e ≡ begun kind (numberAfter k (frames z b)) b ++ f
-    → over kind z k last ++ (ending k (λ (i : ℕ). true) (spans z 0 (unitsOf kind b)) ++ e) ≡ begun kind k last ++ (cond (k =? 0) (unitsOf kind b) [] ++ f)
+    → Even kind z (numberAfter k (frames z b)) b e f
+    → Even kind z k last (ending k (λ (i : ℕ). true) (spans z 0 (unitsOf kind b)) ++ e) (cond (k =? 0) (unitsOf kind b) [] ++ f)
 unfolding ended
 all-end kind longest z k b last zp ok turn e f h =
     ap (λ (us : List (List ℕ)). us ++ (here ++ e)) (turned turn) ∙ sym (append-assoc (over kind z k b) here e) ∙ onwards
@@ -101,13 +106,12 @@ all-end kind longest z k b last zp ok turn e f h =
         (λ q.
         let n : numberAfter k (frames z b) ≡ 0 = unfold numberAfter in rw (eq-eqb (k + 1) (frames z b) q) in
         let m : suc k ≡ frames z b = omega arith in
-        ap₂ _++_ (ap (λ (i : ℕ). over kind z i b) m ∙ once kind longest z zp b ok) (subst (λ (i : ℕ). over kind z i b ++ e ≡ begun kind i b ++ f) n h))
+        ap₂ _++_ (ap (λ (i : ℕ). over kind z i b) m ∙ once kind longest z zp b ok) (subst (λ (i : ℕ). Even kind z i b e f) n h))
         (λ q.
         let n : numberAfter k (frames z b) ≡ suc k = unfold numberAfter in rw (ne-eqb (k + 1) (frames z b) q) (omega arith) in
-        subst (λ (i : ℕ). over kind z i b ++ e ≡ begun kind i b ++ f) n h
-        ∙ ap (λ (t : Bool). cond t [] (unitsOf kind b) ++ f) (ne-eqb (suc k) 0 (suc-ne-zero k)))
+        subst (λ (i : ℕ). Even kind z i b e f) n h ∙ ap (λ (t : Bool). cond t [] (unitsOf kind b) ++ f) (ne-eqb (suc k) 0 (suc-ne-zero k)))
 
--- ---- what a lane has of a call and its frame
+-- ---- what a lane has of a state and of a frame
 
 module _ (s : Setting) (l : ℕ) where
   abbrev kind : Kind
@@ -131,9 +135,12 @@ module _ (s : Setting) (l : ℕ) where
   abbrev beginsIn : Frame → List (List ℕ)
   beginsIn f = cond (f .lane =? l && f .number =? 0) (unitsOf kind (f .batch)) []
 
-  -- Of its batch so far and of later batches, all has ended that began: e and f are what ends and begins later.
-  abbrev Even : State → List (List ℕ) → List (List ℕ) → Type 0
-  Even st e f = over kind z (next st) (st .last l) ++ e ≡ begun kind (next st) (st .last l) ++ f
+  abbrev EvenIn : State → List (List ℕ) → List (List ℕ) → Type 0
+  EvenIn st e f = Even kind z (next st) (st .last l) e f
+
+  -- The state by its parts.
+  even-in : (st : State) (n : ℕ) (b : List ℕ) (e f : List (List ℕ)) → next st ≡ n → st .last l ≡ b → EvenIn st e f → Even kind z n b e f
+  even-in st n b e f p q h = subst (λ (i : ℕ). Even kind z i b e f) p (subst (λ (y : List ℕ). Even kind z (next st) y e f) q h)
 
 -- ---- the frame is the lane's own
 
@@ -152,13 +159,13 @@ module _ (s : Setting) (g : Good s) (st : State) (x : Call) (r : Ready s st) (c 
   unfolding afterGone lending
   last-own = rw (eq-eqb own own refl)
 
-  even-own : (e f : List (List ℕ)) → Even s own (afterGone s st x) e f → Even s own st (endsIn s own (frame s st x) ++ e) (beginsIn s own (frame s st x) ++ f)
+  even-own : (e f : List (List ℕ)) → EvenIn s own (afterGone s st x) e f
+      → EvenIn s own st (endsIn s own (frame s st x) ++ e) (beginsIn s own (frame s st x) ++ f)
   unfolding frameBy
   even-own e f h =
       rw (eq-eqb own own refl)
-      (all-end (kind s own) ((lane s own) .longest) (z s own) k (x .batch) (st .last own) (zone-some s g own (c .takes .numbered)) (c .takes .batch) (c .turn) e f
-      (subst (λ (n : ℕ). over (kind s own) (z s own) n (x .batch) ++ e ≡ begun (kind s own) n (x .batch) ++ f) next-own
-      (subst (λ (b : List ℕ). over (kind s own) (z s own) (next s own (afterGone s st x)) b ++ e ≡ begun (kind s own) (next s own (afterGone s st x)) b ++ f) last-own h)))
+      (all-end (kind s own) ((lane s own) .longest) (z s own) k (x .batch) (st .last own) (zone-some s g own (c .takes .numbered)) (c .takes .batch) (c .turn)
+      e f (even-in s own (afterGone s st x) _ (x .batch) e f next-own last-own h))
 
   -- It is kept.
   module _ (q : kept (x .passage) ≡ true) (h : Clean s own st) where
@@ -186,18 +193,15 @@ module _ (s : Setting) (g : Good s) (st : State) (x : Call) (r : Ready s st) (c 
 -- ---- the frame is any lane's
 
 module _ (s : Setting) (g : Good s) (l : ℕ) where
-  even-step : (st : State) (x : Call) → Ready s st → Goes s st x → (e f : List (List ℕ)) → Even s l (afterGone s st x) e f
-      → Even s l st (endsIn s l (frame s st x) ++ e) (beginsIn s l (frame s st x) ++ f)
+  even-step : (st : State) (x : Call) → Ready s st → Goes s st x → (e f : List (List ℕ)) → EvenIn s l (afterGone s st x) e f
+      → EvenIn s l st (endsIn s l (frame s st x) ++ e) (beginsIn s l (frame s st x) ++ f)
   unfolding frameBy
   even-step st x r c e f h =
       same (x .lane) l
       (λ q.
-      subst (λ (i : ℕ). Even s i (afterGone s st x) e f → Even s i st (endsIn s i (frame s st x) ++ e) (beginsIn s i (frame s st x) ++ f)) q
+      subst (λ (i : ℕ). EvenIn s i (afterGone s st x) e f → EvenIn s i st (endsIn s i (frame s st x) ++ e) (beginsIn s i (frame s st x) ++ f)) q
       (even-own s g st x r c e f) h)
-      (λ n.
-      rw (ne-eqb (x .lane) l n)
-      (subst (λ (i : ℕ). over (kind s l) (z s l) i (st .last l) ++ e ≡ begun (kind s l) i (st .last l) ++ f) (number-other s l st x n)
-      (subst (λ (b : List ℕ). over (kind s l) (z s l) (next s l (afterGone s st x)) b ++ e ≡ begun (kind s l) (next s l (afterGone s st x)) b ++ f) (batch-other s l st x n) h)))
+      (λ n. rw (ne-eqb (x .lane) l n) (even-in s l (afterGone s st x) (next s l st) (st .last l) e f (number-other s l st x n) (batch-other s l st x n) h))
 
   -- It is kept, if it is of the lane's channel: what is due in it is what ends in it.
   due-step : (st : State) (x : Call) → Ready s st → Goes s st x → cond (placeOf s (x .lane) =? placeOf s l) (kept (x .passage)) true ≡ true → Clean s l st
@@ -239,19 +243,17 @@ module _ (s : Setting) (g : Good s) (l : ℕ) where
 
   -- The lane stands between batches afterwards: all that began has ended.
   all-ended : (xs : List Call) (st : State) → Ready s st → InOrder (sender s st) (st .last) xs → number (left (sender s st) xs) l ≡ 0
-      → Even s l st (unitsEnded s l (sent (sender s st) xs)) (unitsSent s l (sent (sender s st) xs))
+      → EvenIn s l st (unitsEnded s l (sent (sender s st) xs)) (unitsSent s l (sent (sender s st) xs))
   unfolding sent unitsEnded unitsSent left ended
   all-ended [] st r o e = rw e
   all-ended (x ∷ xs) st r o e =
       let n : Onward s st x xs = onward s st x xs o in
-      subst (λ (fs : List Frame). Even s l st (unitsEnded s l fs) (unitsSent s l fs)) (sym (n .sends))
+      subst (λ (fs : List Frame). EvenIn s l st (unitsEnded s l fs) (unitsSent s l fs)) (sym (n .sends))
       (even-step st x r (n .first) _ _
       (all-ended xs (afterGone s st x) (ready-gone s st x r) (n .order) (subst (λ (w : Writer). number (left w xs) l ≡ 0) (n .first .leaves) e)))
 
   -- It stood there before them too: what ended is what began.
-  pub all-units : (xs : List Call) (st : State) → Ready s st → InOrder (sender s st) (st .last) xs → next s l st ≡ 0 → number (left (sender s st) xs) l ≡ 0
-      → unitsEnded s l (sent (sender s st) xs) ≡ unitsSent s l (sent (sender s st) xs)
+  pub all-units : (xs : List Call) (st : State) → Ready s st → InOrder (sender s st) (st .last) xs → next s l st ≡ 0
+      → number (left (sender s st) xs) l ≡ 0 → unitsEnded s l (sent (sender s st) xs) ≡ unitsSent s l (sent (sender s st) xs)
   unfolding ended
-  all-units xs st r o b e =
-      subst (λ (n : ℕ). over (kind s l) (z s l) n (st .last l) ++ unitsEnded s l (sent (sender s st) xs) ≡ begun (kind s l) n (st .last l) ++ unitsSent s l (sent (sender s st) xs)) b
-      (all-ended xs st r o e)
+  all-units xs st r o b e = even-in s l st 0 (st .last l) _ _ b refl (all-ended xs st r o e)

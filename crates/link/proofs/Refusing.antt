@@ -1,15 +1,14 @@
 -- Which octets a run refuses. A read of a valid reader with areas of the size asked for ends as refusals 3 to 12 say of its octets, and leaves
 -- such a reader; so do all reads of a run, whatever arrives. Frames that were written are refused by none.
 use mathlib.Core.Path.{_≡_, refl, sym, ap, ap₂, _∙_, subst}
-use Prim.Native.Nat.{ℕ, zero, suc, _+_, _*_, _≤_, _<_}
+use Prim.Native.Nat.{ℕ, zero, suc, _+_, _*_}
 use native.Mathlib.Omega.{arith}
 use mathlib.Core.Bool.{Bool, true, false, cond, not, _&&_, false≢true}
-use mathlib.Core.List.{List, [], _∷_, _++_, append-assoc}
+use mathlib.Core.List.{List, [], _∷_, _++_}
 use lib.ListN.{length}
-use borrow.Author.Tests.{eq-eqb, ne-eqb}
+use borrow.Author.Tests.{eq-eqb}
 use Rattle.rules.specs.declared.Setting.{Setting}
 use Rattle.rules.specs.declared.Reader.{Reader}
-use Rattle.rules.specs.declared.Listener.{Listener}
 use Rattle.rules.specs.declared.Writer.{Writer}
 use Rattle.rules.specs.declared.Place.{Place}
 use Rattle.rules.specs.declared.Place.the-variants.{At, Nowhere}
@@ -17,22 +16,20 @@ use Rattle.rules.specs.declared.Outcome.{Outcome}
 use Rattle.rules.specs.declared.Outcome.the-variants.{Done, Refused}
 use Rattle.rules.specs.declared.Verdict.{Verdict}
 use Rattle.rules.specs.Tests.{_=?_, _≠?_, given}
-use Rattle.rules.specs.Settings.{channel, lane, channelOf, settingOk, readerOk, freshReader}
+use Rattle.rules.specs.Settings.{channel, lane, channelOf, readerOk}
 use Rattle.rules.specs.Frames.{vc, map, bypass, command, countIn}
-use Rattle.rules.specs.Reading.{gap}
 use Rattle.rules.specs.Refusals.{channelAt, laneAt, refusals, onChannel, passed, judged, judge}
-use Rattle.rules.specs.Calls.{Got, setUpReader, setUpWriter, areasShort, laidOut, readOn, onVerdict, verdict, read}
-use Rattle.rules.proofs.Tests.{same, and-left, and-right, and-both}
+use Rattle.rules.specs.Calls.{Got, laidOut, readOn, onVerdict, verdict, read}
+use Rattle.rules.proofs.Tests.{and-left, and-right}
 use Rattle.rules.proofs.Areas.{length-laid}
-use Rattle.rules.proofs.Valid.{Good, good}
-use Rattle.rules.proofs.States.{gap-setting, fresh-reader}
-use Rattle.rules.proofs.Calls.{setup-accepted, Ruled, verdict-facts, made-below, read-valid}
+use Rattle.rules.proofs.States.{gap-setting}
+use Rattle.rules.proofs.Calls.{Ruled, verdict-facts, made-below, read-valid}
 use Rattle.link.specs.Link.{Lent, Arrival, Passage, Kept, Gone, Call, Frame, frameBy, sent, arriving, arrivals, reads}
-use Rattle.link.specs.Demand.{InOrder, enough, allRefused, passes, allPass}
-use Rattle.link.specs.Corollaries.{framesOf, endOf, ends, numbered, applying, RefusedOctets, refusedOf, octetsOf, inPlaceOf, inPlaces, KeptAccepted}
+use Rattle.link.specs.Demand.{InOrder, enough, allRefused, passes, allPass, framesOf}
+use Rattle.link.specs.Corollaries.{endOf, ends, numbered, applying, RefusedOctets, refusedOf, octetsOf, inPlaceOf, inPlaces, KeptAccepted}
 use Rattle.link.proofs.Received.{enough-areas}
-use Rattle.link.proofs.Run.{State, sender, frame, afterGone, Ready, ready-gone, Onward, onward}
-use Rattle.link.proofs.Theorem.{fresh, fresh-ready, writer-accepted, fresh-setup}
+use Rattle.link.proofs.Run.{State, sender, hearer, frame, afterGone, Ready, ready-gone, Onward, onward}
+use Rattle.link.proofs.Theorem.{fresh, fresh-ready, fresh-ends}
 
 -- ---- one read
 
@@ -170,21 +167,23 @@ module _ (s : Setting) where
       (by rest (read-accepted ((frame s st x) .octets) (x .lane) (n .first .back .read)) (x .passage) (and-left _ _ p′)
       (written-accepted xs (afterGone s st x) (ready-gone s st x r) (n .order) (and-right (passes s (x .passage)) _ p′)))
     where
-      by : (rest : List Frame) → given (refusals s ((frame s st x) .octets)) ≡ 0 → (q : Passage) → passes s q ≡ true → refusedOf s (arrivals rest) ≡ inPlaces rest
+      by : (rest : List Frame) → given (refusals s ((frame s st x) .octets)) ≡ 0 → (q : Passage) → passes s q ≡ true
+          → refusedOf s (arrivals rest) ≡ inPlaces rest
           → refusedOf s (arriving q ((frame s st x) .octets) ++ arrivals rest) ≡ inPlaceOf q ++ inPlaces rest
       by rest e (Kept a) h i = ap (λ (t : Bool). cond t [] ((frame s st x) .octets ∷ []) ++ refusedOf s (arrivals rest)) (eq-eqb _ 0 e) ∙ i
       by rest e (Gone instead) h i = strays-refused instead (arrivals rest) h ∙ ap (λ (us : List (List ℕ)). octetsOf instead ++ us) i
 
 pub refused-octets : RefusedOctets
-unfolding freshReader
 refused-octets s held xs run =
-    let ok : settingOk s ≡ true = writer-accepted s (run .writer) in
-    let e : (setUpReader s) .state ≡ freshReader s = ap (λ (o : Listener). o .state) (setup-accepted s ok .0) in
-    reads-end s (arrivals (framesOf s xs)) ((setUpReader s) .state) held (ap (λ (r : Reader). r .setting) e)
-    (subst (λ (r : Reader). readerOk r ≡ true) (sym e) (fresh-reader s ok)) (run .area) (all-sized s (framesOf s xs) (run .link))
+    fresh-ends s held
+    (λ (w : Writer) (r : Reader). ends (reads r held (arrivals (framesOf s xs))) ≡ applying s (arrivals (framesOf s xs)))
+    (run .writer)
+    (λ ok.
+    reads-end s (arrivals (framesOf s xs)) (hearer s (fresh held)) held refl (unfold fresh in (fresh-ready s ok held (run .area)) .valid) (run .area)
+    (all-sized s (framesOf s xs) (run .link)))
 
 pub kept-accepted : KeptAccepted
 kept-accepted s held xs run =
-    fresh-setup s held
-    (λ (w : Writer). InOrder w (λ (l : ℕ). []) xs → allPass s (sent w xs) ≡ true → refusedOf s (arrivals (sent w xs)) ≡ inPlaces (sent w xs))
+    fresh-ends s held
+    (λ (w : Writer) (r : Reader). InOrder w (λ (l : ℕ). []) xs → allPass s (sent w xs) ≡ true → refusedOf s (arrivals (sent w xs)) ≡ inPlaces (sent w xs))
     (run .writer) (λ ok. unfold fresh in written-accepted s xs (fresh held) (fresh-ready s ok held (run .area))) (run .calls) (run .link)

@@ -13,19 +13,12 @@ use Rattle.rules.specs.Tests.{_=?_, given}
 use Rattle.rules.specs.Settings.{lane, channelOf, number, zone}
 use Rattle.rules.specs.Writing.{unitsOf}
 use Rattle.rules.specs.Refusals.{refusals}
-use Rattle.rules.specs.Calls.{Got, setUpReader, setUpWriter}
-use Rattle.link.specs.Link.{Arrival, Passage, Kept, Gone, Call, called, Frame, sent, arrivals, reads, handedOut}
+use Rattle.rules.specs.Calls.{Got, setUpWriter}
+use Rattle.link.specs.Link.{Arrival, Passage, Kept, Gone, Call, called, Frame, sent, arrivals, handedOut}
 use Rattle.link.specs.Due.{spans, ending, kept, placeOf, noneGone, due}
-use Rattle.link.specs.Demand.{Run, Near}
+use Rattle.link.specs.Demand.{framesOf, readsOf, Run, Near}
 
 -- ---- what comes out, and what there is to come out
-
--- The frames of a run, and what its reads give.
-abbrev pub framesOf : Setting → List Call → List Frame
-framesOf s xs = sent ((setUpWriter s) .state) xs
-
-abbrev pub readsOf : Setting → List ℕ → List Call → List Got
-readsOf s held xs = reads ((setUpReader s) .state) held (arrivals (framesOf s xs))
 
 -- The units of lane l's batches that begin in these frames, in sending order, whatever becomes of the frames: a batch begins with its
 -- frame 0.

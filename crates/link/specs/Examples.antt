@@ -7,9 +7,10 @@ use Rattle.rules.specs.declared.Kind.the-variants.{Packets}
 use Rattle.rules.specs.declared.Setting.{Setting}
 use Rattle.rules.specs.Settings.{noChannel, noLane}
 use Rattle.rules.specs.Errors.{packetFrame}
-use Rattle.rules.specs.Calls.{setUpReader, setUpWriter, Got}
-use Rattle.link.specs.Link.{Lent, Arrival, Passage, Kept, Gone, Call, Frame, sent, arrivals, reads, handedOut}
+use Rattle.rules.specs.Calls.{Got}
+use Rattle.link.specs.Link.{Lent, Arrival, Passage, Kept, Gone, Call, Frame, handedOut}
 use Rattle.link.specs.Due.{due}
+use Rattle.link.specs.Demand.{framesOf, readsOf}
 
 -- A packet of n octets, of which all after the header are x.
 unfoldable pub packet : ℕ → ℕ → List ℕ
@@ -204,9 +205,6 @@ gapOf n = keep 0 a₀ ∷ lose 0 a₀ [] ∷ gone n 0 (lose 0 b₀ [] ∷ keep 0
 
 -- ---- what a run of a setting gives
 
-unfoldable pub framesOf : Setting → List Call → List Frame
-framesOf s xs = sent ((setUpWriter s) .state) xs
-
 -- A held area with anything in it.
 abbrev pub held : List ℕ
 held = replicate 65536 0x66
@@ -216,7 +214,7 @@ unfoldable pub onEach : List Got → List (List (List ℕ))
 onEach os = handedOut 0 os ∷ handedOut 1 os ∷ handedOut 2 os ∷ handedOut 3 os ∷ []
 
 unfoldable pub got : Setting → List Call → List (List (List ℕ))
-got s xs = onEach (reads ((setUpReader s) .state) held (arrivals (framesOf s xs)))
+got s xs = onEach (readsOf s held xs)
 
 unfoldable pub dueOnEach : Setting → List Frame → List (List (List ℕ))
 dueOnEach s fs = due s 0 [] fs ∷ due s 1 [] fs ∷ due s 2 [] fs ∷ due s 3 [] fs ∷ []
