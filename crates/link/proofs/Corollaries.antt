@@ -18,7 +18,7 @@ use Rattle.rules.proofs.Valid.{good}
 use Rattle.link.specs.Link.{Call, Frame, sent}
 use Rattle.link.specs.Due.{kept, placeOf, noneGone, dueIn, due}
 use Rattle.link.specs.Demand.{InOrder, keptOn, fewGone, framesOf}
-use Rattle.link.specs.Corollaries.{unitsSent, unitsEnded, left, Between, allKept, allGone, NothingGone, EverythingGone, NoMoreGone, LaterBatches}
+use Rattle.link.specs.Corollaries.{unitsSent, unitsEnded, afterCalls, Between, allKept, allGone, NothingGone, EverythingGone, NoMoreGone, LaterBatches}
 use Rattle.link.proofs.Run.{sender}
 use Rattle.link.proofs.Views.{due-not, due-gone}
 use Rattle.link.proofs.Later.{Reached, reached, all-due, all-units}
@@ -94,9 +94,9 @@ module _ (s : Setting) (ok : settingOk s ≡ true) (held : List ℕ) (full : len
   unfolding fresh
   between = reached s xs ys (fresh held) (fresh-ready s ok held full) o
 
-  due-later : (l : ℕ) → number (left (sender s (fresh held)) xs) l ≡ 0 → noneGone s (placeOf s l) (sent (left (sender s (fresh held)) xs) ys) ≡ true
+  due-later : (l : ℕ) → number (afterCalls (sender s (fresh held)) xs) l ≡ 0 → noneGone s (placeOf s l) (sent (afterCalls (sender s (fresh held)) xs) ys) ≡ true
       → due s l [] (sent (sender s (fresh held)) (xs ++ ys))
-      ≡ due s l [] (sent (sender s (fresh held)) xs) ++ unitsEnded s l (sent (left (sender s (fresh held)) xs) ys)
+      ≡ due s l [] (sent (sender s (fresh held)) xs) ++ unitsEnded s l (sent (afterCalls (sender s (fresh held)) xs) ys)
   unfolding fresh
   due-later l b n =
       let q : Reached s (fresh held) xs ys = between in
@@ -107,8 +107,8 @@ module _ (s : Setting) (ok : settingOk s ≡ true) (held : List ℕ) (full : len
       (subst (λ (w : Writer). noneGone s (placeOf s l) (sent w ys) ≡ true) (q .leaves) n)
       ∙ ap (λ (w : Writer). unitsEnded s l (sent w ys)) (sym (q .leaves)))
 
-  units-later : (l : ℕ) → number (left (sender s (fresh held)) xs) l ≡ 0 → number (left (sender s (fresh held)) (xs ++ ys)) l ≡ 0
-      → unitsEnded s l (sent (left (sender s (fresh held)) xs) ys) ≡ unitsSent s l (sent (left (sender s (fresh held)) xs) ys)
+  units-later : (l : ℕ) → number (afterCalls (sender s (fresh held)) xs) l ≡ 0 → number (afterCalls (sender s (fresh held)) (xs ++ ys)) l ≡ 0
+      → unitsEnded s l (sent (afterCalls (sender s (fresh held)) xs) ys) ≡ unitsSent s l (sent (afterCalls (sender s (fresh held)) xs) ys)
   units-later l b e =
       let q : Reached s (fresh held) xs ys = between in
       rw (q .leaves)
@@ -119,19 +119,20 @@ pub no-more-gone : NoMoreGone
 no-more-gone s held xs ys run near l b n =
     demand s held (xs ++ ys) run near l
     ∙ fresh-ends s held
-    (λ (w : Writer) (r : Reader). InOrder w (λ (l : ℕ). []) (xs ++ ys) → number (left w xs) l ≡ 0 → noneGone s (placeOf s l) (sent (left w xs) ys) ≡ true
-    → due s l [] (sent w (xs ++ ys)) ≡ due s l [] (sent w xs) ++ unitsEnded s l (sent (left w xs) ys))
+    (λ (w : Writer) (r : Reader). InOrder w (λ (l : ℕ). []) (xs ++ ys) → number (afterCalls w xs) l ≡ 0
+    → noneGone s (placeOf s l) (sent (afterCalls w xs) ys) ≡ true
+    → due s l [] (sent w (xs ++ ys)) ≡ due s l [] (sent w xs) ++ unitsEnded s l (sent (afterCalls w xs) ys))
     (run .writer) (λ ok o. due-later s ok held (run .area) xs ys o l) (run .calls) b n
 
 pub later-batches : LaterBatches
 later-batches s held xs ys run l =
     fresh-ends s held
-    (λ (w : Writer) (r : Reader). InOrder w (λ (l : ℕ). []) (xs ++ ys) → number (left w xs) l ≡ 0 → number (left w (xs ++ ys)) l ≡ 0
-    → unitsEnded s l (sent (left w xs) ys) ≡ unitsSent s l (sent (left w xs) ys))
+    (λ (w : Writer) (r : Reader). InOrder w (λ (l : ℕ). []) (xs ++ ys) → number (afterCalls w xs) l ≡ 0 → number (afterCalls w (xs ++ ys)) l ≡ 0
+    → unitsEnded s l (sent (afterCalls w xs) ys) ≡ unitsSent s l (sent (afterCalls w xs) ys))
     (run .writer) (λ ok o. units-later s ok held (run .area) xs ys o l) (run .calls)
 
 pub nothing-gone : NothingGone
-unfolding left due sent
+unfolding afterCalls due sent
 nothing-gone s held xs run h l e =
     let b : Between s [] l = fresh-ends s held (λ (w : Writer) (r : Reader). number w l ≡ 0) (run .writer) (λ ok. unfold fresh in zeros 8 l) in
     no-more-gone s held [] xs run (λ c p. kept-few s c (256 ^ (channel s c) .octets) (pow256-pos ((channel s c) .octets)) false (framesOf s xs) h) l b

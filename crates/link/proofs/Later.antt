@@ -5,7 +5,7 @@ use mathlib.Core.Logic.{_⊎_, inl, inr}
 use Prim.Native.Nat.{ℕ, suc, _+_, _≤_, _<_}
 use native.Mathlib.Nat.{not-suc-le-zero, suc-ne-zero}
 use native.Mathlib.Omega.{arith}
-use mathlib.Core.Bool.{Bool, true, false, cond, _&&_}
+use mathlib.Core.Bool.{Bool, true, false, cond}
 use mathlib.Core.List.{List, [], _∷_, _++_, append-assoc}
 use lib.ListN.{getD}
 use lib.Seq.{getD-set-same}
@@ -21,7 +21,7 @@ use Rattle.rules.proofs.Valid.{Good}
 use Rattle.link.specs.Link.{Call, called, Frame, frameBy, sent}
 use Rattle.link.specs.Due.{spans, ending, kept, placeOf, noneGone, clean, dueIn, due}
 use Rattle.link.specs.Demand.{lending, InOrder}
-use Rattle.link.specs.Corollaries.{unitsSent, unitsEnded, left}
+use Rattle.link.specs.Corollaries.{begunIn, endedIn, unitsSent, unitsEnded, afterCalls}
 use Rattle.link.proofs.Spans.{ends-same}
 use Rattle.link.proofs.Batches.{units}
 use Rattle.link.proofs.Once.{ended, once}
@@ -37,13 +37,13 @@ module _ (s : Setting) where
     pub state : State
     pub ready : Ready s state
     pub order : InOrder (sender s state) (state .last) ys
-    pub leaves : left (sender s st) xs ≡ sender s state
-    pub ends : left (sender s st) (xs ++ ys) ≡ left (sender s state) ys
+    pub leaves : afterCalls (sender s st) xs ≡ sender s state
+    pub ends : afterCalls (sender s st) (xs ++ ys) ≡ afterCalls (sender s state) ys
     pub owes : (l : ℕ) → due s l (st .past) (sent (sender s st) (xs ++ ys))
         ≡ due s l (st .past) (sent (sender s st) xs) ++ due s l (state .past) (sent (sender s state) ys)
 
   pub reached : (xs ys : List Call) (st : State) → Ready s st → InOrder (sender s st) (st .last) (xs ++ ys) → Reached st xs ys
-  unfolding left sent due afterGone
+  unfolding afterCalls sent due afterGone
   reached [] ys st r o = record { state = st; ready = r; order = o; leaves = refl; ends = refl; owes = λ l. refl }
   reached (x ∷ xs) ys st r o =
       let n : Onward s st x (xs ++ ys) = onward s st x (xs ++ ys) o in
@@ -53,8 +53,8 @@ module _ (s : Setting) where
         state = q .state;
         ready = q .ready;
         order = q .order;
-        leaves = ap (λ (y : Writer). left y xs) w ∙ q .leaves;
-        ends = ap (λ (y : Writer). left y (xs ++ ys)) w ∙ q .ends;
+        leaves = ap (λ (y : Writer). afterCalls y xs) w ∙ q .leaves;
+        ends = ap (λ (y : Writer). afterCalls y (xs ++ ys)) w ∙ q .ends;
         owes = λ l.
             let f : List Frame = frame s st x ∷ st .past in
             let d : List (List ℕ) = dueIn s l (frame s st x) (st .past) in
@@ -128,13 +128,6 @@ module _ (s : Setting) (l : ℕ) where
   abbrev Clean : State → Type 0
   Clean st = (i : ℕ) → i < next st → clean s l (st .past) i ≡ true
 
-  -- The units that end in a frame, and those of the batch that it begins.
-  abbrev endsIn : Frame → List (List ℕ)
-  endsIn f = cond (f .lane =? l) (ending (f .number) (λ (i : ℕ). true) (spans z 0 (unitsOf kind (f .batch)))) []
-
-  abbrev beginsIn : Frame → List (List ℕ)
-  beginsIn f = cond (f .lane =? l && f .number =? 0) (unitsOf kind (f .batch)) []
-
   abbrev EvenIn : State → List (List ℕ) → List (List ℕ) → Type 0
   EvenIn st e f = Even kind z (next st) (st .last l) e f
 
@@ -160,7 +153,7 @@ module _ (s : Setting) (g : Good s) (st : State) (x : Call) (r : Ready s st) (c 
   last-own = rw (eq-eqb own own refl)
 
   even-own : (e f : List (List ℕ)) → EvenIn s own (afterGone s st x) e f
-      → EvenIn s own st (endsIn s own (frame s st x) ++ e) (beginsIn s own (frame s st x) ++ f)
+      → EvenIn s own st (endedIn s own (frame s st x) ++ e) (begunIn s own (frame s st x) ++ f)
   unfolding frameBy
   even-own e f h =
       rw (eq-eqb own own refl)
@@ -183,7 +176,7 @@ module _ (s : Setting) (g : Good s) (st : State) (x : Call) (r : Ready s st) (c 
         up-to true b = absurd (not-suc-le-zero b)
         up-to false b = omega arith
 
-    due-own : dueIn s own (frame s st x) (st .past) ≡ endsIn s own (frame s st x)
+    due-own : dueIn s own (frame s st x) (st .past) ≡ endedIn s own (frame s st x)
     unfolding dueIn frameBy
     due-own =
         ap (λ (us : List (List ℕ)). cond (own =? own) us [])
@@ -194,23 +187,23 @@ module _ (s : Setting) (g : Good s) (st : State) (x : Call) (r : Ready s st) (c 
 
 module _ (s : Setting) (g : Good s) (l : ℕ) where
   even-step : (st : State) (x : Call) → Ready s st → Goes s st x → (e f : List (List ℕ)) → EvenIn s l (afterGone s st x) e f
-      → EvenIn s l st (endsIn s l (frame s st x) ++ e) (beginsIn s l (frame s st x) ++ f)
+      → EvenIn s l st (endedIn s l (frame s st x) ++ e) (begunIn s l (frame s st x) ++ f)
   unfolding frameBy
   even-step st x r c e f h =
       same (x .lane) l
       (λ q.
-      subst (λ (i : ℕ). EvenIn s i (afterGone s st x) e f → EvenIn s i st (endsIn s i (frame s st x) ++ e) (beginsIn s i (frame s st x) ++ f)) q
+      subst (λ (i : ℕ). EvenIn s i (afterGone s st x) e f → EvenIn s i st (endedIn s i (frame s st x) ++ e) (begunIn s i (frame s st x) ++ f)) q
       (even-own s g st x r c e f) h)
       (λ n. rw (ne-eqb (x .lane) l n) (even-in s l (afterGone s st x) (next s l st) (st .last l) e f (number-other s l st x n) (batch-other s l st x n) h))
 
   -- It is kept, if it is of the lane's channel: what is due in it is what ends in it.
   due-step : (st : State) (x : Call) → Ready s st → Goes s st x → cond (placeOf s (x .lane) =? placeOf s l) (kept (x .passage)) true ≡ true → Clean s l st
-      → (dueIn s l (frame s st x) (st .past) ≡ endsIn s l (frame s st x)) × Clean s l (afterGone s st x)
+      → (dueIn s l (frame s st x) (st .past) ≡ endedIn s l (frame s st x)) × Clean s l (afterGone s st x)
   unfolding frameBy afterGone
   due-step st x r c q h =
       same (x .lane) l
       (λ e.
-      subst (λ (i : ℕ). Clean s i st → (dueIn s i (frame s st x) (st .past) ≡ endsIn s i (frame s st x)) × Clean s i (afterGone s st x)) e
+      subst (λ (i : ℕ). Clean s i st → (dueIn s i (frame s st x) (st .past) ≡ endedIn s i (frame s st x)) × Clean s i (afterGone s st x)) e
       (λ o. (due-own s g st x r c (is-kept (ap (placeOf s) e)) o, clean-own s g st x r c (is-kept (ap (placeOf s) e)) o)) h)
       (λ n. (
         due-not s l (frame s st x) (st .past) n ∙ sym (rw (ne-eqb (x .lane) l n)),
@@ -238,22 +231,23 @@ module _ (s : Setting) (g : Good s) (l : ℕ) where
       let d = due-step st x r (n .first) (and-left _ _ q′) h in
       ap (due s l (st .past)) (n .sends)
       ∙ ap₂ _++_ (d .0)
-      (all-due xs (afterGone s st x) (ready-gone s st x r) (n .order) (d .1) (and-right (cond (placeOf s (x .lane) =? placeOf s l) (kept (x .passage)) true) _ q′))
+      (all-due xs (afterGone s st x) (ready-gone s st x r) (n .order) (d .1)
+      (and-right (cond (placeOf s (x .lane) =? placeOf s l) (kept (x .passage)) true) _ q′))
       ∙ ap (unitsEnded s l) (sym (n .sends))
 
   -- The lane stands between batches afterwards: all that began has ended.
-  all-ended : (xs : List Call) (st : State) → Ready s st → InOrder (sender s st) (st .last) xs → number (left (sender s st) xs) l ≡ 0
+  all-ended : (xs : List Call) (st : State) → Ready s st → InOrder (sender s st) (st .last) xs → number (afterCalls (sender s st) xs) l ≡ 0
       → EvenIn s l st (unitsEnded s l (sent (sender s st) xs)) (unitsSent s l (sent (sender s st) xs))
-  unfolding sent unitsEnded unitsSent left ended
+  unfolding sent unitsEnded unitsSent afterCalls ended
   all-ended [] st r o e = rw e
   all-ended (x ∷ xs) st r o e =
       let n : Onward s st x xs = onward s st x xs o in
       subst (λ (fs : List Frame). EvenIn s l st (unitsEnded s l fs) (unitsSent s l fs)) (sym (n .sends))
       (even-step st x r (n .first) _ _
-      (all-ended xs (afterGone s st x) (ready-gone s st x r) (n .order) (subst (λ (w : Writer). number (left w xs) l ≡ 0) (n .first .leaves) e)))
+      (all-ended xs (afterGone s st x) (ready-gone s st x r) (n .order) (subst (λ (w : Writer). number (afterCalls w xs) l ≡ 0) (n .first .leaves) e)))
 
   -- It stood there before them too: what ended is what began.
   pub all-units : (xs : List Call) (st : State) → Ready s st → InOrder (sender s st) (st .last) xs → next s l st ≡ 0
-      → number (left (sender s st) xs) l ≡ 0 → unitsEnded s l (sent (sender s st) xs) ≡ unitsSent s l (sent (sender s st) xs)
+      → number (afterCalls (sender s st) xs) l ≡ 0 → unitsEnded s l (sent (sender s st) xs) ≡ unitsSent s l (sent (sender s st) xs)
   unfolding ended
   all-units xs st r o b e = even-in s l st 0 (st .last l) _ _ b refl (all-ended xs st r o e)

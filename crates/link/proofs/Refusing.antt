@@ -26,7 +26,7 @@ use Rattle.rules.proofs.States.{gap-setting}
 use Rattle.rules.proofs.Calls.{Ruled, verdict-facts, made-below, read-valid}
 use Rattle.link.specs.Link.{Lent, Arrival, Passage, Kept, Gone, Call, Frame, frameBy, sent, arriving, arrivals, reads}
 use Rattle.link.specs.Demand.{InOrder, enough, allRefused, passes, allPass, framesOf}
-use Rattle.link.specs.Corollaries.{endOf, ends, numbered, applying, RefusedOctets, refusedOf, octetsOf, inPlaceOf, inPlaces, KeptAccepted}
+use Rattle.link.specs.Corollaries.{endOf, ends, refusedBy, applying, RefusedOctets, refusedOf, octetsOf, inPlaceOf, inPlaces, KeptAccepted}
 use Rattle.link.proofs.Received.{enough-areas}
 use Rattle.link.proofs.Run.{State, sender, hearer, frame, afterGone, Ready, ready-gone, Onward, onward}
 use Rattle.link.proofs.Theorem.{fresh, fresh-ready, fresh-ends}
@@ -39,8 +39,8 @@ refusal Verdict.Idle = Done
 refusal (Verdict.Counted c) = Done
 refusal (Verdict.Read l) = Done
 
-judged-is : (s : Setting) (f : List ℕ) (n : ℕ) → refusal (judged s f n) ≡ numbered n
-unfolding judged numbered passed onChannel
+judged-is : (s : Setting) (f : List ℕ) (n : ℕ) → refusal (judged s f n) ≡ refusedBy n
+unfolding judged refusedBy passed onChannel
 judged-is s f zero = by-channel (channelAt s (vc f) (bypass f))
   where
     by-test : (c l : ℕ) (t : Bool) → refusal (cond t (Verdict.Counted c) (Verdict.Read l)) ≡ Done
@@ -67,7 +67,7 @@ module _ (r : Reader) (f h : List ℕ) (a : Lent) (ok : readerOk r ≡ true) (fu
   class-is (Verdict.Counted c) = refl
   class-is (Verdict.Read l) = refl
 
-  ends-as : endOf (answer .taken .answer .class) ≡ numbered (given (refusals (r .setting) f))
+  ends-as : endOf (answer .taken .answer .class) ≡ refusedBy (given (refusals (r .setting) f))
   unfolding read judge
   ends-as = class-is (verdict r f h (a .units) (a .records)) ∙ ap refusal verdict-is ∙ judged-is (r .setting) f (given (refusals (r .setting) f))
     where
@@ -112,7 +112,7 @@ reads-end : (s : Setting) (xs : List Arrival) (r : Reader) (h : List ℕ) → r 
 unfolding reads ends applying
 reads-end s [] r h e ok full z = refl
 reads-end s (a ∷ more) r h e ok full z =
-    ap₂ _∷_ (ends-as r (a .octets) h (a .lent) ok full (z .0) ∙ ap (λ (y : Setting). numbered (given (refusals y (a .octets)))) e)
+    ap₂ _∷_ (ends-as r (a .octets) h (a .lent) ok full (z .0) ∙ ap (λ (y : Setting). refusedBy (given (refusals y (a .octets)))) e)
     (reads-end s more _ _ (setting-stays r (a .octets) h (a .lent) ok full (z .0) ∙ e) (read-valid r (a .octets) h (a .lent .units) (a .lent .records) ok)
     (area-stays r (a .octets) h (a .lent) ok full (z .0)) (z .1))
 

@@ -20,33 +20,38 @@ use Rattle.link.specs.Demand.{framesOf, readsOf, Run, Near}
 
 -- ---- what comes out, and what there is to come out
 
--- The units of lane l's batches that begin in these frames, in sending order, whatever becomes of the frames: a batch begins with its
--- frame 0.
+-- The units of lane l's batch that begins with this frame: a batch begins with its frame 0.
+abbrev pub begunIn : Setting → ℕ → Frame → List (List ℕ)
+begunIn s l f = cond (f .lane =? l && f .number =? 0) (unitsOf ((lane s l) .kind) (f .batch)) []
+
+-- The units of lane l that end in this frame.
+abbrev pub endedIn : Setting → ℕ → Frame → List (List ℕ)
+endedIn s l f =
+    cond (f .lane =? l) (ending (f .number) (λ (i : ℕ). true) (spans (zone s (channelOf s l)) 0 (unitsOf ((lane s l) .kind) (f .batch)))) []
+
+-- Of all these frames, in sending order, whatever becomes of them: the units of batches that begin, and the units that end.
 unfoldable pub unitsSent : Setting → ℕ → List Frame → List (List ℕ)
 unitsSent s l [] = []
-unitsSent s l (f ∷ fs) = cond (f .lane =? l && f .number =? 0) (unitsOf ((lane s l) .kind) (f .batch)) [] ++ unitsSent s l fs
+unitsSent s l (f ∷ fs) = begunIn s l f ++ unitsSent s l fs
 
--- The units of lane l that end in these frames, in sending order, whatever becomes of the frames.
 unfoldable pub unitsEnded : Setting → ℕ → List Frame → List (List ℕ)
 unitsEnded s l [] = []
-unitsEnded s l (f ∷ fs) =
-    cond (f .lane =? l)
-    (ending (f .number) (λ (i : ℕ). true) (spans (zone s (channelOf s l)) 0 (unitsOf ((lane s l) .kind) (f .batch)))) []
-    ++ unitsEnded s l fs
+unitsEnded s l (f ∷ fs) = endedIn s l f ++ unitsEnded s l fs
 
 -- The state that calls leave at the writer.
-unfoldable pub left : Writer → List Call → Writer
-left w [] = w
-left w (x ∷ xs) = left ((called w x) .sender .state) xs
+unfoldable pub afterCalls : Writer → List Call → Writer
+afterCalls w [] = w
+afterCalls w (x ∷ xs) = afterCalls ((called w x) .sender .state) xs
 
 -- After these calls lane l stands between batches: its next frame is the first of one.
 abbrev pub Between : Setting → List Call → ℕ → Type 0
-Between s xs l = number (left ((setUpWriter s) .state) xs) l ≡ 0
+Between s xs l = number (afterCalls ((setUpWriter s) .state) xs) l ≡ 0
 
 -- The frames of the later calls ys.
 abbrev pub later : Setting → List Call → List Call → List Frame
-later s xs ys = sent (left ((setUpWriter s) .state) xs) ys
+later s xs ys = sent (afterCalls ((setUpWriter s) .state) xs) ys
 
+-- Every frame is kept; every frame is gone.
 unfoldable pub allKept : List Frame → Bool
 allKept [] = true
 allKept (f ∷ fs) = kept (f .passage) && allKept fs
@@ -69,8 +74,8 @@ EverythingGone =
     (s : Setting) (held : List ℕ) (xs : List Call) → Run s held xs → allGone (framesOf s xs) ≡ true
     → (l : ℕ) → handedOut l (readsOf s held xs) ≡ []
 
--- "Whatever was lost before, once the lane stands between batches and its channel loses no more, every later unit comes out", as soon as
--- it ends: after what was due so far, all units that end in the later frames.
+-- "Whatever was lost before, once the lane stands between batches and its channel loses no more, every later unit comes out": after what
+-- was due in the first calls, all units that end in the frames of the later ones.
 abbrev pub NoMoreGone : Type 0
 NoMoreGone =
     (s : Setting) (held : List ℕ) (xs ys : List Call) → Run s held (xs ++ ys) → Near s (xs ++ ys)
@@ -96,14 +101,15 @@ unfoldable pub ends : List Got → List Outcome
 ends [] = []
 ends (o ∷ os) = endOf (o .taken .answer .class) ∷ ends os
 
--- The first of refusals 3 to 12 that applies to octets, if one does.
-unfoldable pub numbered : ℕ → Outcome
-numbered zero = Done
-numbered (suc n) = Refused (suc n)
+-- Refused by this number; 0 is none.
+unfoldable pub refusedBy : ℕ → Outcome
+refusedBy zero = Done
+refusedBy (suc n) = Refused (suc n)
 
+-- What refusals 3 to 12 say of octets: the first that applies.
 unfoldable pub applying : Setting → List Arrival → List Outcome
 applying s [] = []
-applying s (a ∷ more) = numbered (given (refusals s (a .octets))) ∷ applying s more
+applying s (a ∷ more) = refusedBy (given (refusals s (a .octets))) ∷ applying s more
 
 -- "Octets refused in a run are exactly those to which one of 3 to 12 applies", and by that number: 1 and 2 refuse nothing in a run.
 abbrev pub RefusedOctets : Type 0
