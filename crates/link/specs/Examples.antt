@@ -126,6 +126,11 @@ wanted =
     ∷ (c₁ ∷ c₁ ∷ packet 18 0xE1 ∷ packet 10 0xE2 ∷ packet 14 0xE3 ∷ packet 14 0xE3 ∷ packet 10 0xF1 ∷ packet 11 0xF2 ∷ [])
     ∷ (u₂ ∷ w₂ ∷ v₂ ∷ []) ∷ [] ∷ []
 
+-- ---- a run of `paired` in which nothing is gone and every batch is finished
+
+unfoldable pub unharmed : List Call
+unharmed = keep 0 a₀ ∷ keep 2 v₂ ∷ keep 1 f₁ ∷ keep 0 a₀ ∷ keep 2 v₂ ∷ keep 0 b₀ ∷ keep 0 b₀ ∷ []
+
 -- ---- a long run
 
 -- Two channels, with counts of one octet and of two, a packet lane each; Z is 21 and 20.
