@@ -3,7 +3,6 @@
 use mathlib.Core.Path.{refl}
 use Prim.Native.Nat.{zero, suc}
 use native.Mathlib.Omega.{arith}
-use Rattle.rules.specs.Errors.{paired}
 use Rattle.link.specs.Demand.{Run, Near}
 use Rattle.link.specs.Examples.{held, mixed, long, gapOf}
 use Rattle.link.proofs.Computes.{tests, all, Orderly, ordered-is}
@@ -26,10 +25,10 @@ near-long (suc (suc c)) h = absurd (omega arith)
 
 -- ---- at n = 1, 256 frames gone between two kept ones
 
-in-order-far : Orderly paired (gapOf 254)
+in-order-far : Orderly mixed (gapOf 254)
 unfolding all tests
 in-order-far = refl
 
-pub meets-far : Run paired held (gapOf 254)
+pub meets-far : Run mixed held (gapOf 254)
 unfolding all
 meets-far = record { writer = refl; reader = refl; calls = ordered-is _ _ (gapOf 254) in-order-far; area = refl; link = refl }

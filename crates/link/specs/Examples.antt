@@ -1,9 +1,9 @@
 -- Runs that the demand is tried on: two that meet its premises, and one with as many frames gone as there are counts.
-use Prim.Native.Nat.{ℕ, zero, suc, _-_}
+use Prim.Native.Nat.{ℕ, _-_}
 use mathlib.Core.Bool.{false}
 use mathlib.Core.List.{List, [], _∷_, _++_}
 use lib.ListN.{drop, set, take, replicate}
-use Rattle.rules.specs.declared.Kind.the-variants.{Packets}
+use Rattle.rules.specs.declared.Kind.the-variants.{Packets, Access}
 use Rattle.rules.specs.declared.Setting.{Setting}
 use Rattle.rules.specs.Settings.{noChannel, noLane}
 use Rattle.rules.specs.Errors.{packetFrame}
@@ -119,7 +119,7 @@ calls =
     ∷ keep 0 a₀
     ∷ []
 
--- What is due on lanes 0 to 3, of which 3 is none, by hand.
+-- What is due on lanes 0, 1, 2 and on 3, which is none, by hand.
 unfoldable pub wanted : List (List (List ℕ))
 wanted =
     (d₀ ∷ d₀ ∷ [])
@@ -133,7 +133,8 @@ unharmed = keep 0 a₀ ∷ keep 2 v₂ ∷ keep 1 f₁ ∷ keep 0 a₀ ∷ keep 
 
 -- ---- a long run
 
--- Two channels, with counts of one octet and of two, a packet lane each; Z is 21 and 20.
+-- Two channels, with counts of one octet and of two; Z is 21 and 20. Lanes 0 and 1 carry packets on the one and on the other, lanes 2 and 3
+-- access units.
 unfoldable pub mixed : Setting
 mixed =
     record {
@@ -145,18 +146,18 @@ mixed =
       listed = 2;
       channels =
           record { vc = 3; service = 0; octets = 1; ocf = false } ∷ record { vc = 4; service = 0; octets = 2; ocf = false } ∷ replicate 6 noChannel;
-      numbered = 2;
+      numbered = 4;
       lanes =
           record { channel = 0; map = 5; kind = Packets; longest = 64; upid = 0 } ∷ record { channel = 1; map = 5; kind = Packets; longest = 64; upid = 0 }
-          ∷ replicate 6 noLane;
+          ∷ record { channel = 0; map = 6; kind = Access; longest = 42; upid = 5 } ∷ record { channel = 1; map = 6; kind = Access; longest = 42; upid = 5 }
+          ∷ replicate 4 noLane;
     }
 
--- n calls of one kind.
-unfoldable pub times : ℕ → Call → List Call → List Call
-times zero x xs = xs
-times (suc n) x xs = x ∷ times n x xs
+-- n frames of an access lane are gone, with a unit of one octet each.
+abbrev pub gone : ℕ → ℕ → List Call
+gone n l = replicate n (lose l (0x77 ∷ []) [])
 
--- A packet of one frame, and two of two frames, on either lane.
+-- A packet of one frame, and two of two frames of lane 1.
 abbrev pub g₀ : List ℕ
 g₀ = packet 20 0x77
 
@@ -166,47 +167,33 @@ h₁ = packet 40 0xA1
 abbrev pub i₁ : List ℕ
 i₁ = packet 40 0xB1
 
--- n frames of a lane gone, and then these calls.
-abbrev pub gone : ℕ → ℕ → List Call → List Call
-gone n l xs = times n (lose l g₀ []) xs
-
 unfoldable pub long : List Call
 long =
-    -- Before the first kept frame of lane 0 more are gone than there are counts. It has count 44, and areas longer than asked for.
-    gone 300 0 (
-    call 0 g₀ (Kept roomy)
+    -- Before the first kept frame of the first channel more are gone than there are counts. It has count 44, and areas longer than asked for.
+    gone 300 2
+    ++ (call 0 g₀ (Kept roomy) ∷ [])
     -- Over the wrap: the first half of one packet has count 253, the second half of another count 1.
-    ∷ gone 208 0 (
-    keep 0 a₀
-    ∷ lose 0 a₀ []
-    ∷ lose 0 g₀ []
-    ∷ lose 0 b₀ []
-    ∷ keep 0 b₀
+    ++ gone 208 2
+    ++ (keep 0 a₀ ∷ lose 0 a₀ [] ∷ lose 2 w₂ [] ∷ lose 0 b₀ [] ∷ keep 0 b₀ ∷ [])
     -- Nothing is gone over the wrap: the two frames of a packet have counts 255 and 0.
-    ∷ gone 253 0 (
-    keep 0 a₀
-    ∷ keep 0 a₀
+    ++ gone 253 2
+    ++ (keep 0 a₀ ∷ keep 0 a₀ ∷ [])
     -- With counts of two octets 256 frames gone are seen: the first half of one packet and the second half of another.
-    ∷ keep 1 h₁
-    ∷ lose 1 h₁ []
-    ∷ gone 254 1 (
-    lose 1 i₁ []
-    ∷ keep 1 i₁
-    -- After the last kept frame more are gone than there are counts.
-    ∷ gone 300 0 []
-    )
-    )
-    )
-    )
+    ++ (keep 1 h₁ ∷ lose 1 h₁ [] ∷ [])
+    ++ gone 254 3
+    ++ (lose 1 i₁ [] ∷ keep 1 i₁ ∷ [])
+    -- After the last kept frame of the first channel more are gone than there are counts.
+    ++ gone 300 2
 
+-- What is due on lanes 0 and 1, by hand.
 unfoldable pub wantedLong : List (List (List ℕ))
-wantedLong = (g₀ ∷ a₀ ∷ []) ∷ [] ∷ [] ∷ [] ∷ []
+wantedLong = (g₀ ∷ a₀ ∷ []) ∷ [] ∷ []
 
 -- ---- as many frames gone as there are counts
 
 -- The first half of one packet, n + 2 frames gone, the second half of another.
 unfoldable pub gapOf : ℕ → List Call
-gapOf n = keep 0 a₀ ∷ lose 0 a₀ [] ∷ gone n 0 (lose 0 b₀ [] ∷ keep 0 b₀ ∷ [])
+gapOf n = (keep 0 a₀ ∷ lose 0 a₀ [] ∷ []) ++ gone n 2 ++ (lose 0 b₀ [] ∷ keep 0 b₀ ∷ [])
 
 -- ---- what a run of a setting gives
 
@@ -214,15 +201,24 @@ gapOf n = keep 0 a₀ ∷ lose 0 a₀ [] ∷ gone n 0 (lose 0 b₀ [] ∷ keep 0
 abbrev pub held : List ℕ
 held = replicate 65536 0x66
 
--- What reads hand out on lanes 0 to 3, and what is due there.
-unfoldable pub onEach : List Got → List (List (List ℕ))
-onEach os = handedOut 0 os ∷ handedOut 1 os ∷ handedOut 2 os ∷ handedOut 3 os ∷ []
+-- What reads hand out on some lanes, and what is due there.
+unfoldable pub onEach : List ℕ → List Got → List (List (List ℕ))
+onEach [] os = []
+onEach (l ∷ ls) os = handedOut l os ∷ onEach ls os
 
-unfoldable pub got : Setting → List Call → List (List (List ℕ))
-got s xs = onEach (readsOf s held xs)
+unfoldable pub got : Setting → List ℕ → List Call → List (List (List ℕ))
+got s ls xs = onEach ls (readsOf s held xs)
 
-unfoldable pub dueOnEach : Setting → List Frame → List (List (List ℕ))
-dueOnEach s fs = due s 0 [] fs ∷ due s 1 [] fs ∷ due s 2 [] fs ∷ due s 3 [] fs ∷ []
+unfoldable pub dueOnEach : Setting → List ℕ → List Frame → List (List (List ℕ))
+dueOnEach s [] fs = []
+dueOnEach s (l ∷ ls) fs = due s l [] fs ∷ dueOnEach s ls fs
 
-unfoldable pub owed : Setting → List Call → List (List (List ℕ))
-owed s xs = dueOnEach s (framesOf s xs)
+unfoldable pub owed : Setting → List ℕ → List Call → List (List (List ℕ))
+owed s ls xs = dueOnEach s ls (framesOf s xs)
+
+-- The lanes of `paired` and a number that is none; the packet lanes of `mixed`.
+abbrev pub pairedLanes : List ℕ
+pairedLanes = 0 ∷ 1 ∷ 2 ∷ 3 ∷ []
+
+abbrev pub mixedLanes : List ℕ
+mixedLanes = 0 ∷ 1 ∷ []
