@@ -17,7 +17,7 @@ use Rattle.rules.specs.Tests.{_=?_}
 use Rattle.rules.specs.Settings.{lane, channelOf, number, zone}
 use Rattle.rules.specs.Writing.{batchOk, unitsOf, frames, numberAfter}
 use Rattle.rules.proofs.Tests.{same, and-left, and-right}
-use Rattle.rules.proofs.Valid.{Good}
+use Rattle.rules.specs.Valid.{Good}
 use Rattle.link.specs.Link.{Call, called, Frame, frameBy, sent}
 use Rattle.link.specs.Due.{spans, ending, kept, placeOf, noneGone, clean, dueIn, due}
 use Rattle.link.specs.Demand.{lending, InOrder}

@@ -23,7 +23,7 @@ use Rattle.rules.specs.Calls.{Got, laidOut, readOn, onVerdict, verdict, read}
 use Rattle.rules.proofs.Tests.{and-left, and-right}
 use Rattle.rules.proofs.Areas.{length-laid}
 use Rattle.rules.proofs.States.{gap-setting}
-use Rattle.rules.proofs.Calls.{Ruled, verdict-facts, made-below, read-valid}
+use Rattle.rules.proofs.Calls.{Ruled, verdict-cond, verdict-facts, made-below, read-valid}
 use Rattle.link.specs.Link.{Lent, Arrival, Passage, Kept, Gone, Call, Frame, frameBy, sent, arriving, arrivals, reads}
 use Rattle.link.specs.Demand.{InOrder, enough, allRefused, passes, allPass, framesOf}
 use Rattle.link.specs.Corollaries.{endOf, ends, refusedBy, applying, RefusedOctets, refusedOf, octetsOf, inPlaceOf, inPlaces, KeptAccepted}
@@ -72,7 +72,7 @@ module _ (r : Reader) (f h : List ℕ) (a : Lent) (ok : readerOk r ≡ true) (fu
   ends-as = class-is (verdict r f h (a .units) (a .records)) ∙ ap refusal verdict-is ∙ judged-is (r .setting) f (given (refusals (r .setting) f))
     where
       verdict-is : verdict r f h (a .units) (a .records) ≡ judge (r .setting) f
-      verdict-is = unfold verdict in rw (ok, enough-areas h a full lent)
+      verdict-is = verdict-cond r f h (a .units) (a .records) ∙ rw (ok, enough-areas h a full lent)
 
   setting-stays : answer .taken .state .setting ≡ r .setting
   unfolding read
