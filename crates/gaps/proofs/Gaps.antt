@@ -1,23 +1,22 @@
 -- A frame's count: what is missing, what lanes drop, and the state after it.
 use mathlib.Core.Path.{_≡_, refl, sym, ap, ap₂, _∙_}
-use Prim.Native.Nat.{ℕ, zero, suc, _+_, _-_, _*_, _%_, _^_, _≤_, _<_}
+use Prim.Native.Nat.{ℕ, zero, suc, _+_, _*_, _%_, _^_, _≤_, _<_}
 use native.Mathlib.Nat.{zero-lt-suc, pow-le-pow-right, mod-eq-of-lt, add-zero, zero-add, add-assoc}
 use borrow.Author.Tests.{eq-eqb, ne-eqb}
 use native.Mathlib.Numerals.{add-one}
 use native.Mathlib.Omega.{arith}
 use mathlib.Core.Bool.{Bool, true, false, cond}
-use mathlib.Core.List.{List, [], _∷_, _++_, append-nil}
+use mathlib.Core.List.{List, [], _∷_, _++_}
 use lib.ListN.{length, getD, take, drop, set, length-set, length-take, drop-of-length-le, take-append-drop}
 use lib.Seq.{length-take-le, getD-take, drop-cons, take-suc, take-suc-set, drop-set-lt, append-snoc}
 use Rattle.rules.specs.declared.Lane.{Lane}
 use Rattle.rules.specs.declared.Setting.{Setting}
 use Rattle.rules.specs.declared.Expect.{Expect}
 use Rattle.rules.specs.declared.Reader.{Reader}
-use Rattle.rules.specs.declared.Gap.{Gap}
 use Rattle.rules.specs.Tests.{_=?_}
 use Rattle.rules.specs.Settings.{noLane, channel, lane, expect, heldBy, readerOk}
 use Rattle.rules.specs.Reading.{missing, expected, emptied, lost, lanesOf, gapBy, gap}
-use Rattle.rules.specs.Valid.{Good, GoodReader}
+use Rattle.rules.specs.Valid.{GoodReader}
 use Rattle.rules.proofs.Valid.{good-reader}
 use Rattle.rules.specs.Areas.{heldSize, partSize}
 

@@ -5,11 +5,11 @@ use native.Mathlib.Omega.{arith}
 use mathlib.Core.Bool.{true, false}
 use mathlib.Core.List.{List, [], _∷_, _++_}
 use lib.ListN.{length, getD, take, drop, replicate}
-use Rattle.rules.specs.Errors.{paired}
 use Rattle.link.specs.Link.{Call}
-use Rattle.link.specs.Demand.{Run, Exact, keptOn, fewGone}
-use Rattle.link.specs.Examples.{a₀, b₀, gapOf, framesOf, onEach, got, dueOnEach, owed}
-use Rattle.link.proofs.Example.{tests, all, held, Orderly, ordered-is}
+use Rattle.link.specs.Demand.{keptOn, fewGone, framesOf, Run, Exact}
+use Rattle.link.specs.Examples.{a₀, b₀, mixed, gapOf, held, onEach, got, dueOnEach, owed, mixedLanes}
+use Rattle.link.proofs.Computes.{all}
+use Rattle.link.proofs.LongRuns.{meets-far}
 
 abbrev far : List Call
 far = gapOf 254
@@ -19,35 +19,26 @@ abbrev mixture : List ℕ
 mixture = take 21 a₀ ++ drop 21 b₀
 
 -- Of the frames of channel 0, one is kept, 256 are gone, and one is kept: as many as the bound does not allow.
-pub gone-256 : keptOn paired 0 (framesOf far) ≡ true ∷ (replicate 256 false ++ (true ∷ []))
+pub gone-256 : keptOn mixed 0 (framesOf mixed far) ≡ true ∷ (replicate 256 false ++ (true ∷ []))
 unfolding all
 gone-256 = refl
 
-pub not-near : fewGone 256 false 0 (keptOn paired 0 (framesOf far)) ≡ false
+pub not-near : fewGone 256 false 0 (keptOn mixed 0 (framesOf mixed far)) ≡ false
 unfolding all
 not-near = refl
 
--- All other premises are met.
-in-order-far : Orderly far
-unfolding all tests
-in-order-far = refl
-
-pub meets-far : Run paired held far
-unfolding all
-meets-far = record { writer = refl; reader = refl; calls = ordered-is _ _ far in-order-far; area = refl; link = refl }
-
 -- The mixture is handed out, and nothing is due.
-pub mixture-out : got far ≡ (mixture ∷ []) ∷ [] ∷ [] ∷ [] ∷ []
+pub mixture-out : got mixed mixedLanes far ≡ (mixture ∷ []) ∷ [] ∷ []
 unfolding all
 mixture-out = refl
 
-pub nothing-due : owed far ≡ [] ∷ [] ∷ [] ∷ [] ∷ []
+pub nothing-due : owed mixed mixedLanes far ≡ [] ∷ [] ∷ []
 unfolding all
 nothing-due = refl
 
 -- So the demand without the bound is false.
-pub bound-needed : ((h : List ℕ) (xs : List Call) → Run paired h xs → Exact paired h xs 0) → ⊥
-unfolding framesOf onEach got dueOnEach owed
+pub bound-needed : ((h : List ℕ) (xs : List Call) → Run mixed h xs → Exact mixed h xs 0) → ⊥
+unfolding onEach got dueOnEach owed
 bound-needed d =
     let first : List (List (List ℕ)) → List (List ℕ) = λ (xs : List (List (List ℕ))). getD xs 0 [] in
     let e : mixture ∷ [] ≡ [] = sym (ap first mixture-out) ∙ d held far meets-far ∙ ap first nothing-due in
@@ -55,7 +46,7 @@ bound-needed d =
     absurd (omega arith)
 
 -- With one fewer gone the bound holds, and nothing comes out.
-pub one-fewer : (fewGone 256 false 0 (keptOn paired 0 (framesOf (gapOf 253))) ≡ true)
-    × (got (gapOf 253) ≡ [] ∷ [] ∷ [] ∷ [] ∷ [])
+pub one-fewer : (fewGone 256 false 0 (keptOn mixed 0 (framesOf mixed (gapOf 253))) ≡ true)
+    × (got mixed mixedLanes (gapOf 253) ≡ [] ∷ [] ∷ [])
 unfolding all
 one-fewer = (refl, refl)

@@ -12,6 +12,12 @@ pub mod Run
 pub mod Views
 pub mod Steps
 pub mod Theorem
+pub mod Computes
+pub mod Premises
+pub mod LongRuns
+pub mod Later
+pub mod Corollaries
+pub mod Refusing
 pub mod Example
 pub mod Shown
 pub mod Bound

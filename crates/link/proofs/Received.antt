@@ -154,7 +154,7 @@ module _ (hs h xs : List ℕ) (i : ℕ) (ih : i < 8) (slots : length hs ≡ 8) (
 
 -- ---- a frame that is read
 
-enough-areas : (h : List ℕ) (a : Lent) → length h ≡ 65536 → enough a ≡ true → areasShort h (a .units) (a .records) ≡ false
+pub enough-areas : (h : List ℕ) (a : Lent) → length h ≡ 65536 → enough a ≡ true → areasShort h (a .units) (a .records) ≡ false
 unfolding areasShort enough
 enough-areas h a e q =
     let u : 12288 ≤ length (a .units) = leb-true _ _ (and-left _ _ q) in

@@ -117,7 +117,23 @@ module _ (s : Setting) where
           → (write (sender st) (x .lane) (x .batch) (x .insert) (x .ocf) (x .area)) .sender .state ≡ sender (afterGone st x)
       after z = unfold write written writerAfter afterGone in rw z
 
-  ready-gone : (st : State) (x : Call) → Ready st → Ready (afterGone st x)
+  -- The first call of some in order goes, and the others are in order after it.
+  pub record Onward (st : State) (x : Call) (xs : List Call) : Type 0 where
+    pub first : Goes st x
+    pub sends : sent (sender st) (x ∷ xs) ≡ frame st x ∷ sent (sender (afterGone st x)) xs
+    pub order : InOrder (sender (afterGone st x)) ((afterGone st x) .last) xs
+
+  pub onward : (st : State) (x : Call) (xs : List Call) → InOrder (sender st) (st .last) (x ∷ xs) → Onward st x xs
+  unfolding sent frameBy afterGone
+  onward st x xs o =
+      let c : Goes st x = goes st x (o .0) (o .1) in
+      record {
+        first = c;
+        sends = ap (λ (y : Writer). frame st x ∷ sent y xs) (c .leaves);
+        order = subst (λ (y : Writer). InOrder y (lending (x .lane) (x .batch) (st .last)) xs) (c .leaves) (o .2);
+      }
+
+  pub ready-gone : (st : State) (x : Call) → Ready st → Ready (afterGone st x)
   unfolding afterGone
   ready-gone st x r =
       record {
@@ -215,13 +231,10 @@ module _ (s : Setting) where
       unfolding sent arrivals reads handedOut due allPass frameBy afterGone afterKept
       run [] st r o p k = refl
       run (x ∷ xs) st r o p k =
-          let c : Goes st x = goes st x (o .0) (o .1) in
-          let w : Writer = sender (afterGone st x) in
-          let rest : List Frame = sent w xs in
-          let e : sent (sender st) (x ∷ xs) ≡ frame st x ∷ rest = ap (λ (y : Writer). frame st x ∷ sent y xs) (c .leaves) in
-          let o′ : InOrder w (lending (x .lane) (x .batch) (st .last)) xs = subst (λ (y : Writer). InOrder y (lending (x .lane) (x .batch) (st .last)) xs) (c .leaves) (o .2) in
-          let p′ : (passes s (x .passage) && allPass s rest) ≡ true = subst (λ (fs : List Frame). allPass s fs ≡ true) e p in
-          subst (Says st) (sym e)
-          (step st x rest r c (and-left _ _ p′) (subst (Knows st) e k)
-          (λ r′ k′. run xs (afterGone st x) r′ o′ (and-right (passes s (x .passage)) _ p′) k′)
-          (λ r′ k′. run xs (afterKept st x) r′ o′ (and-right (passes s (x .passage)) _ p′) k′))
+          let n : Onward st x xs = onward st x xs o in
+          let rest : List Frame = sent (sender (afterGone st x)) xs in
+          let p′ : (passes s (x .passage) && allPass s rest) ≡ true = subst (λ (fs : List Frame). allPass s fs ≡ true) (n .sends) p in
+          subst (Says st) (sym (n .sends))
+          (step st x rest r (n .first) (and-left _ _ p′) (subst (Knows st) (n .sends) k)
+          (λ r′ k′. run xs (afterGone st x) r′ (n .order) (and-right (passes s (x .passage)) _ p′) k′)
+          (λ r′ k′. run xs (afterKept st x) r′ (n .order) (and-right (passes s (x .passage)) _ p′) k′))

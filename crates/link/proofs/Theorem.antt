@@ -29,12 +29,12 @@ use Rattle.link.specs.Due.{placeOf, due}
 use Rattle.link.specs.Demand.{InOrder, allPass, keptOn, fewGone, Demand}
 use Rattle.link.proofs.Spans.{heldFrom, held-none}
 use Rattle.link.proofs.Views.{due-not, view}
-use Rattle.link.proofs.Run.{State, frame, Ready, Goes, run}
+use Rattle.link.proofs.Run.{State, sender, hearer, frame, Ready, Goes, run}
 use Rattle.link.proofs.Steps.{zone-some, Knows, channel-8, if-gone, none-other, if-kept}
 
 -- ---- fresh ends
 
-unfoldable fresh : List ℕ → State
+unfoldable pub fresh : List ℕ → State
 fresh h =
     record {
       counts = replicate 8 0;
@@ -47,7 +47,7 @@ fresh h =
     }
 
 module _ (s : Setting) (ok : settingOk s ≡ true) (h : List ℕ) (full : length h ≡ 65536) where
-  fresh-ready : Ready s (fresh h)
+  pub fresh-ready : Ready s (fresh h)
   unfolding fresh freshReader
   fresh-ready =
       record { counts-8 = refl; next-8 = refl; expects-8 = refl; held-8 = refl; full = full; valid = fresh-reader s ok }
@@ -78,7 +78,7 @@ module _ (s : Setting) (ok : settingOk s ≡ true) (h : List ℕ) (full : length
 
 -- ---- demand 3
 
-writer-accepted : (s : Setting) → (setUpWriter s) .outcome ≡ Done → settingOk s ≡ true
+pub writer-accepted : (s : Setting) → (setUpWriter s) .outcome ≡ Done → settingOk s ≡ true
 unfolding setUpWriter
 writer-accepted s e = go (settingOk s) e
   where
@@ -86,12 +86,26 @@ writer-accepted s e = go (settingOk s) e
     go true q = refl
     go false q = let z : _≡_ {A = ℕ} 0 1 = cc in absurd (omega arith)
 
-from-fresh : (s : Setting) (h : List ℕ) (xs : List Call) → settingOk s ≡ true → length h ≡ 65536 → InOrder (freshWriter s) (λ (l : ℕ). []) xs
-    → allPass s (sent (freshWriter s) xs) ≡ true
-    → ((c : ℕ) → c < s .listed → fewGone (256 ^ (channel s c) .octets) false 0 (keptOn s c (sent (freshWriter s) xs)) ≡ true) → (l : ℕ)
-    → handedOut l (reads (freshReader s) h (arrivals (sent (freshWriter s) xs))) ≡ due s l [] (sent (freshWriter s) xs)
-unfolding freshReader freshWriter fresh frameBy
-from-fresh s h xs ok full order pass near l =
+-- What is shown of two fresh ends holds of those that set-up leaves.
+pub fresh-ends : (s : Setting) (h : List ℕ) (P : Writer → Reader → Type 0) → (setUpWriter s) .outcome ≡ Done
+    → (settingOk s ≡ true → P (sender s (fresh h)) (hearer s (fresh h))) → P ((setUpWriter s) .state) ((setUpReader s) .state)
+unfolding fresh freshReader freshWriter
+fresh-ends s h P e f =
+    let ok : settingOk s ≡ true = writer-accepted s e in
+    subst (λ (w : Writer). P w ((setUpReader s) .state)) (sym (ap (λ (o : Sender). o .state) (setup-accepted s ok .1)))
+    (subst (P (freshWriter s)) (sym (ap (λ (o : Listener). o .state) (setup-accepted s ok .0))) (f ok))
+
+-- The demand of these two ends.
+abbrev DemandOf : Setting → List ℕ → List Call → ℕ → Writer → Reader → Type 0
+DemandOf s h xs l w r =
+    InOrder w (λ (l : ℕ). []) xs → allPass s (sent w xs) ≡ true
+    → ((c : ℕ) → c < s .listed → fewGone (256 ^ (channel s c) .octets) false 0 (keptOn s c (sent w xs)) ≡ true)
+    → handedOut l (reads r h (arrivals (sent w xs))) ≡ due s l [] (sent w xs)
+
+from-fresh : (s : Setting) (h : List ℕ) (xs : List Call) → settingOk s ≡ true → length h ≡ 65536 → (l : ℕ)
+    → DemandOf s h xs l (sender s (fresh h)) (hearer s (fresh h))
+unfolding fresh frameBy
+from-fresh s h xs ok full l order pass near =
     let g : Good s = good s ok in
     split (s .numbered) l
     (λ b.
@@ -100,15 +114,7 @@ from-fresh s h xs ok full order pass near l =
     (λ st x rest r c small q k. (none-other s g l st x (n st x c), tt)) xs (fresh h) (fresh-ready s ok h full) order pass tt)
     (λ b.
     run s g l (Knows s g l b) (if-gone s g l b) (if-kept s g l b) xs (fresh h) (fresh-ready s ok h full) order pass
-    (fresh-knows s ok h full l b (sent (freshWriter s) xs) (near (placeOf s l) (g .lanes l b .channel))))
+    (fresh-knows s ok h full l b (sent (sender s (fresh h)) xs) (near (placeOf s l) (g .lanes l b .channel))))
 
 pub demand : Demand
-demand s h xs d near l =
-    let ok : settingOk s ≡ true = writer-accepted s (d .writer) in
-    let r : (setUpReader s) .state ≡ freshReader s = ap (λ (o : Listener). o .state) (setup-accepted s ok .0) in
-    let w : (setUpWriter s) .state ≡ freshWriter s = ap (λ (o : Sender). o .state) (setup-accepted s ok .1) in
-    subst (λ (y : Writer). handedOut l (reads ((setUpReader s) .state) h (arrivals (sent y xs))) ≡ due s l [] (sent y xs)) (sym w)
-    (subst (λ (y : Reader). handedOut l (reads y h (arrivals (sent (freshWriter s) xs))) ≡ due s l [] (sent (freshWriter s) xs)) (sym r)
-    (from-fresh s h xs ok (d .area) (subst (λ (y : Writer). InOrder y (λ (l : ℕ). []) xs) w (d .calls))
-    (subst (λ (y : Writer). allPass s (sent y xs) ≡ true) w (d .link))
-    (λ c b. subst (λ (y : Writer). fewGone (256 ^ (channel s c) .octets) false 0 (keptOn s c (sent y xs)) ≡ true) w (near c b)) l))
+demand s h xs d near l = fresh-ends s h (DemandOf s h xs l) (d .writer) (λ ok. from-fresh s h xs ok (d .area) l) (d .calls) (d .link) near

@@ -12,7 +12,7 @@ use Rattle.rules.specs.declared.Outcome.the-variants.{Done}
 use Rattle.rules.specs.Tests.{_≤?_, _<?_, _=?_, _≠?_, given}
 use Rattle.rules.specs.Settings.{channel, number}
 use Rattle.rules.specs.Refusals.{refusals}
-use Rattle.rules.specs.Calls.{setUpReader, setUpWriter}
+use Rattle.rules.specs.Calls.{setUpReader, setUpWriter, Got}
 use Rattle.link.specs.Link.{Lent, Arrival, Passage, Kept, Gone, Call, called, Frame, sent, arrivals, reads, handedOut}
 use Rattle.link.specs.Due.{kept, placeOf, due}
 
@@ -64,6 +64,13 @@ fewGone m any g (false ∷ ks) = fewGone m any (suc g) ks
 
 -- ---- the demand
 
+-- The frames of a run, and what its reads give: both ends are fresh.
+abbrev pub framesOf : Setting → List Call → List Frame
+framesOf s xs = sent ((setUpWriter s) .state) xs
+
+abbrev pub readsOf : Setting → List ℕ → List Call → List Got
+readsOf s held xs = reads ((setUpReader s) .state) held (arrivals (framesOf s xs))
+
 -- "Two fresh ends of one accepted setting; a list of calls of the writer; each frame kept, or gone": what is asked of all but the
 -- number of frames gone. The held area is of the size asked for, with anything in it: no lane holds octets yet.
 pub record Run (s : Setting) (held : List ℕ) (xs : List Call) : Type 0 where
@@ -71,19 +78,17 @@ pub record Run (s : Setting) (held : List ℕ) (xs : List Call) : Type 0 where
   pub reader : (setUpReader s) .outcome ≡ Done
   pub calls : InOrder ((setUpWriter s) .state) (λ (l : ℕ). []) xs
   pub area : length held ≡ 65536
-  pub link : allPass s (sent ((setUpWriter s) .state) xs) ≡ true
+  pub link : allPass s (framesOf s xs) ≡ true
 
 -- "Between two kept frames of one channel and service fewer gone than 256^n."
 abbrev pub Near : Setting → List Call → Type 0
-Near s xs = (c : ℕ) → c < s .listed → fewGone (256 ^ (channel s c) .octets) false 0 (keptOn s c (sent ((setUpWriter s) .state) xs)) ≡ true
+Near s xs = (c : ℕ) → c < s .listed → fewGone (256 ^ (channel s c) .octets) false 0 (keptOn s c (framesOf s xs)) ≡ true
 
 -- "What the reads hand out, taken from the unit area by the records, is in sending order and octet for octet the list of exactly those
 -- units for which no frame of that channel and service is gone from the frame where the unit begins to the frame where it ends; and
 -- nothing else." For a number l that is no lane both are empty.
 abbrev pub Exact : Setting → List ℕ → List Call → ℕ → Type 0
-Exact s held xs l =
-    handedOut l (reads ((setUpReader s) .state) held (arrivals (sent ((setUpWriter s) .state) xs)))
-    ≡ due s l [] (sent ((setUpWriter s) .state) xs)
+Exact s held xs l = handedOut l (readsOf s held xs) ≡ due s l [] (framesOf s xs)
 
 -- "Then, lane by lane".
 abbrev pub Demand : Type 0

@@ -1,11 +1,16 @@
--- Runs that the demand is tried on: one that meets its premises, and one with as many frames gone as there are counts.
-use Prim.Native.Nat.{ℕ, zero, suc, _-_}
+-- Runs that the demand is tried on: two that meet its premises, and one with as many frames gone as there are counts.
+use Prim.Native.Nat.{ℕ, _-_}
+use mathlib.Core.Bool.{false}
 use mathlib.Core.List.{List, [], _∷_, _++_}
 use lib.ListN.{drop, set, take, replicate}
-use Rattle.rules.specs.Errors.{paired, packetFrame}
-use Rattle.rules.specs.Calls.{setUpReader, setUpWriter, Got}
-use Rattle.link.specs.Link.{Lent, Arrival, Passage, Kept, Gone, Call, Frame, sent, arrivals, reads, handedOut}
+use Rattle.rules.specs.declared.Kind.the-variants.{Packets, Access}
+use Rattle.rules.specs.declared.Setting.{Setting}
+use Rattle.rules.specs.Settings.{noChannel, noLane}
+use Rattle.rules.specs.Errors.{packetFrame}
+use Rattle.rules.specs.Calls.{Got}
+use Rattle.link.specs.Link.{Lent, Arrival, Passage, Kept, Gone, Call, Frame, handedOut}
 use Rattle.link.specs.Due.{due}
+use Rattle.link.specs.Demand.{framesOf, readsOf}
 
 -- A packet of n octets, of which all after the header are x.
 unfoldable pub packet : ℕ → ℕ → List ℕ
@@ -14,6 +19,10 @@ packet n x = 0x00 ∷ 0x01 ∷ 0xC0 ∷ 0x00 ∷ 0x00 ∷ (n - 7) ∷ replicate 
 -- Areas full of x.
 unfoldable pub full : ℕ → Lent
 full x = record { units = replicate 12288 x; records = replicate 9600 x }
+
+-- Areas longer than asked for.
+unfoldable pub roomy : Lent
+roomy = record { units = replicate 12300 0x33; records = replicate 9650 0x33 }
 
 unfoldable pub call : ℕ → List ℕ → Passage → Call
 call l b p = record { lane = l; batch = b; insert = []; ocf = []; area = replicate 40 0x55; passage = p }
@@ -33,7 +42,8 @@ lose l b xs = call l b (Gone (instead xs))
 abbrev pub damaged : ℕ → List ℕ → List ℕ
 damaged k z = set (packetFrame 5 k 0xFFFF z) 0 0x40
 
--- ---- lanes 0 and 1 carry packets on one channel, lane 2 access units on the same virtual channel with the other service; Z = 21
+-- ---- a run of the setting `paired`: lanes 0 and 1 carry packets on one channel, lane 2 access units of up to 42 octets on the same
+-- virtual channel with the other service; Z = 21
 
 abbrev pub a₀ : List ℕ
 a₀ = packet 42 0xA0
@@ -52,9 +62,14 @@ c₁ = packet 10 0xC1
 abbrev pub e₁ : List ℕ
 e₁ = packet 18 0xE1 ++ packet 10 0xE2 ++ packet 14 0xE3
 
+-- One frame with two packets.
+abbrev pub f₁ : List ℕ
+f₁ = packet 10 0xF1 ++ packet 11 0xF2
+
 abbrev pub u₂ : List ℕ
 u₂ = replicate 30 0x12
 
+-- At the longest.
 abbrev pub v₂ : List ℕ
 v₂ = replicate 42 0x22
 
@@ -83,46 +98,127 @@ calls =
     ∷ keep 2 v₂
     ∷ keep 1 e₁
     ∷ keep 2 w₂
-    -- A frame of lane 1 is gone: two of its packets, and one that lane 0 has begun. The last batch is unfinished.
+    -- A frame of lane 1 is gone: two of its packets, and one that lane 0 has begun. The octets in its place are nothing to the unit that
+    -- lane 2 has begun, which is as long as may be.
     ∷ keep 0 a₀
+    ∷ keep 2 v₂
     ∷ lose 1 e₁ ((0xC0 ∷ 0x02 ∷ []) ∷ replicate 32 0x00 ∷ [])
+    ∷ keep 2 v₂
     ∷ keep 1 e₁
     ∷ keep 0 a₀
+    -- Two packets of one frame. The first octets of one unit and the last of another; what stands in the places of the frames between is
+    -- nothing to the packet that lane 0 has begun. The last batch is unfinished.
+    ∷ keep 1 f₁
     ∷ keep 0 d₀
+    ∷ keep 2 v₂
+    ∷ lose 2 v₂ ((0xC0 ∷ 0x02 ∷ []) ∷ [])
+    ∷ lose 2 u₂ (replicate 32 0x00 ∷ [])
+    ∷ keep 2 u₂
+    ∷ keep 0 d₀
+    ∷ keep 0 d₀
+    ∷ keep 0 a₀
     ∷ []
 
-abbrev pub e₁-packets : List (List ℕ)
-e₁-packets = packet 18 0xE1 ∷ packet 10 0xE2 ∷ packet 14 0xE3 ∷ []
-
--- What is due, by hand.
+-- What is due on lanes 0, 1, 2 and on 3, which is none, by hand.
 unfoldable pub wanted : List (List (List ℕ))
-wanted = (d₀ ∷ []) ∷ (c₁ ∷ c₁ ∷ e₁-packets ++ (packet 14 0xE3 ∷ [])) ∷ (u₂ ∷ w₂ ∷ []) ∷ [] ∷ []
+wanted =
+    (d₀ ∷ d₀ ∷ [])
+    ∷ (c₁ ∷ c₁ ∷ packet 18 0xE1 ∷ packet 10 0xE2 ∷ packet 14 0xE3 ∷ packet 14 0xE3 ∷ packet 10 0xF1 ∷ packet 11 0xF2 ∷ [])
+    ∷ (u₂ ∷ w₂ ∷ v₂ ∷ []) ∷ [] ∷ []
+
+-- ---- a run of `paired` in which nothing is gone and every batch is finished
+
+unfoldable pub unharmed : List Call
+unharmed = keep 0 a₀ ∷ keep 2 v₂ ∷ keep 1 f₁ ∷ keep 0 a₀ ∷ keep 2 v₂ ∷ keep 0 b₀ ∷ keep 0 b₀ ∷ []
+
+-- ---- a long run
+
+-- Two channels, with counts of one octet and of two; Z is 21 and 20. Lanes 0 and 1 carry packets on the one and on the other, lanes 2 and 3
+-- access units.
+unfoldable pub mixed : Setting
+mixed =
+    record {
+      length = 32;
+      craft = 42;
+      bit = 0;
+      insert = 0;
+      check = false;
+      listed = 2;
+      channels =
+          record { vc = 3; service = 0; octets = 1; ocf = false } ∷ record { vc = 4; service = 0; octets = 2; ocf = false } ∷ replicate 6 noChannel;
+      numbered = 4;
+      lanes =
+          record { channel = 0; map = 5; kind = Packets; longest = 64; upid = 0 } ∷ record { channel = 1; map = 5; kind = Packets; longest = 64; upid = 0 }
+          ∷ record { channel = 0; map = 6; kind = Access; longest = 42; upid = 5 } ∷ record { channel = 1; map = 6; kind = Access; longest = 42; upid = 5 }
+          ∷ replicate 4 noLane;
+    }
+
+-- n frames of an access lane are gone, with a unit of one octet each.
+abbrev pub gone : ℕ → ℕ → List Call
+gone n l = replicate n (lose l (0x77 ∷ []) [])
+
+-- A packet of one frame, and two of two frames of lane 1.
+abbrev pub g₀ : List ℕ
+g₀ = packet 20 0x77
+
+abbrev pub h₁ : List ℕ
+h₁ = packet 40 0xA1
+
+abbrev pub i₁ : List ℕ
+i₁ = packet 40 0xB1
+
+unfoldable pub long : List Call
+long =
+    -- Before the first kept frame of the first channel more are gone than there are counts. It has count 44, and areas longer than asked for.
+    gone 300 2
+    ++ (call 0 g₀ (Kept roomy) ∷ [])
+    -- Over the wrap: the first half of one packet has count 253, the second half of another count 1.
+    ++ gone 208 2
+    ++ (keep 0 a₀ ∷ lose 0 a₀ [] ∷ lose 2 w₂ [] ∷ lose 0 b₀ [] ∷ keep 0 b₀ ∷ [])
+    -- Nothing is gone over the wrap: the two frames of a packet have counts 255 and 0.
+    ++ gone 253 2
+    ++ (keep 0 a₀ ∷ keep 0 a₀ ∷ [])
+    -- With counts of two octets 256 frames gone are seen: the first half of one packet and the second half of another.
+    ++ (keep 1 h₁ ∷ lose 1 h₁ [] ∷ [])
+    ++ gone 254 3
+    ++ (lose 1 i₁ [] ∷ keep 1 i₁ ∷ [])
+    -- After the last kept frame of the first channel more are gone than there are counts.
+    ++ gone 300 2
+
+-- What is due on lanes 0 and 1, by hand.
+unfoldable pub wantedLong : List (List (List ℕ))
+wantedLong = (g₀ ∷ a₀ ∷ []) ∷ [] ∷ []
 
 -- ---- as many frames gone as there are counts
 
--- n calls of one kind.
-unfoldable pub times : ℕ → Call → List Call → List Call
-times zero x xs = xs
-times (suc n) x xs = x ∷ times n x xs
-
 -- The first half of one packet, n + 2 frames gone, the second half of another.
 unfoldable pub gapOf : ℕ → List Call
-gapOf n = keep 0 a₀ ∷ lose 0 a₀ [] ∷ times n (lose 0 (packet 21 0x77) []) (lose 0 b₀ [] ∷ keep 0 b₀ ∷ [])
+gapOf n = (keep 0 a₀ ∷ lose 0 a₀ [] ∷ []) ++ gone n 2 ++ (lose 0 b₀ [] ∷ keep 0 b₀ ∷ [])
 
--- ---- what a run of them gives
+-- ---- what a run of a setting gives
 
-unfoldable pub framesOf : List Call → List Frame
-framesOf xs = sent ((setUpWriter paired) .state) xs
+-- A held area with anything in it.
+abbrev pub held : List ℕ
+held = replicate 65536 0x66
 
--- What reads hand out on lanes 0 to 3, of which 3 is none, and what is due there.
-unfoldable pub onEach : List Got → List (List (List ℕ))
-onEach os = handedOut 0 os ∷ handedOut 1 os ∷ handedOut 2 os ∷ handedOut 3 os ∷ []
+-- What reads hand out on some lanes, and what is due there.
+unfoldable pub onEach : List ℕ → List Got → List (List (List ℕ))
+onEach [] os = []
+onEach (l ∷ ls) os = handedOut l os ∷ onEach ls os
 
-unfoldable pub got : List Call → List (List (List ℕ))
-got xs = onEach (reads ((setUpReader paired) .state) (replicate 65536 0x66) (arrivals (framesOf xs)))
+unfoldable pub got : Setting → List ℕ → List Call → List (List (List ℕ))
+got s ls xs = onEach ls (readsOf s held xs)
 
-unfoldable pub dueOnEach : List Frame → List (List (List ℕ))
-dueOnEach fs = due paired 0 [] fs ∷ due paired 1 [] fs ∷ due paired 2 [] fs ∷ due paired 3 [] fs ∷ []
+unfoldable pub dueOnEach : Setting → List ℕ → List Frame → List (List (List ℕ))
+dueOnEach s [] fs = []
+dueOnEach s (l ∷ ls) fs = due s l [] fs ∷ dueOnEach s ls fs
 
-unfoldable pub owed : List Call → List (List (List ℕ))
-owed xs = dueOnEach (framesOf xs)
+unfoldable pub owed : Setting → List ℕ → List Call → List (List (List ℕ))
+owed s ls xs = dueOnEach s ls (framesOf s xs)
+
+-- The lanes of `paired` and a number that is none; the packet lanes of `mixed`.
+abbrev pub pairedLanes : List ℕ
+pairedLanes = 0 ∷ 1 ∷ 2 ∷ 3 ∷ []
+
+abbrev pub mixedLanes : List ℕ
+mixedLanes = 0 ∷ 1 ∷ []

@@ -2,4 +2,5 @@
 pub mod Link
 pub mod Due
 pub mod Demand
+pub mod Corollaries
 pub mod Examples

@@ -173,7 +173,12 @@ edges =
     (packetFrame 5 0 20 fill21 ∷ packetFrame 5 0 21 fill21 ∷ packetFrame 5 0 0xFFFF fill21 ∷ forged (8 ∷ []) (0x01 ∷ []) frame₀
     ∷ forged (8 ∷ []) (0x20 ∷ []) frame₀ ∷ forged (3 ∷ 8 ∷ []) (0x6E ∷ 0xFF ∷ []) frame₀ ∷ [])
     ∷ [])
-    ((0 ∷ 12 ∷ 0 ∷ 12 ∷ 12 ∷ 0 ∷ []) ∷ []) ∷ []
+    ((0 ∷ 12 ∷ 0 ∷ 12 ∷ 12 ∷ 0 ∷ []) ∷ [])
+    -- "Low 11 bits ... all ones": with ten of them, or with the other ten, a packet is not idle.
+    ∷ case 14
+    (ofPackets [] (At 0) ((0x03 ∷ 0xFF ∷ drop 2 (packetOf 10)) ++ replicate 11 0xE0)
+    ++ ofPackets [] (At 0) ((0x07 ∷ 0xFE ∷ drop 2 (packetOf 10)) ++ replicate 11 0xE0))
+    ((0x03 ∷ 0xFF ∷ drop 2 (packetOf 10)) ∷ [] ∷ (11 ∷ 0 ∷ 0 ∷ []) ∷ (0x07 ∷ 0xFE ∷ drop 2 (packetOf 10)) ∷ [] ∷ (11 ∷ 0 ∷ 0 ∷ []) ∷ []) ∷ []
 
 -- ---- edges of the frame and of the calls
 

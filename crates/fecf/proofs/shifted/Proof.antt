@@ -1,5 +1,5 @@
 -- `fecf::shifted` meets its contract: twice the register's low fifteen bits is twice the register, modulo 2^16.
-use mathlib.Core.Path.{_≡_, sym}
+use mathlib.Core.Path.{_≡_}
 use Prim.Native.Nat.{_*_, _%_}
 use native.Mathlib.Omega.{arith}
 use borrow.Author.Tests.{le-leb, lt-leb}

@@ -1,4 +1,4 @@
--- `writer::put_data` meets its contract: the pointer fits two octets, and the piece is the batch's, cut after z octets or where it ends.
+-- `frames::put_data` meets its contract: the pointer fits two octets, and the piece is the batch's, cut after z octets or where it ends.
 use Prim.Native.Nat.{ℕ, _+_, _-_, _*_}
 use mathlib.Core.Path.{_≡_, sym, ap, ap₂, _∙_}
 use mathlib.Core.List.{List, _++_}

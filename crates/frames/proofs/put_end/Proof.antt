@@ -1,4 +1,4 @@
--- `writer::put_end` meets its contract: the check is over the octets before it as they stand once the OCF is laid.
+-- `frames::put_end` meets its contract: the check is over the octets before it as they stand once the OCF is laid.
 use mathlib.Core.Path.{_≡_, sym, ap, _∙_}
 use Prim.Native.Nat.{ℕ, _+_, _≤_}
 use native.Mathlib.Omega.{arith}

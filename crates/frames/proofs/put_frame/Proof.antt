@@ -1,4 +1,4 @@
--- `writer::put_frame` meets its contract: front, data field and end are laid one after another, and the check sees the whole of what stands before.
+-- `frames::put_frame` meets its contract: front, data field and end are laid one after another, and the check sees the whole of what stands before.
 use Prim.Native.Nat.{ℕ, _+_}
 use mathlib.Core.Path.{_≡_, sym, ap, _∙_}
 use mathlib.Core.Bool.{cond}

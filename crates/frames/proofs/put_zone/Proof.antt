@@ -1,4 +1,4 @@
--- `writer::put_zone` meets its contract: the piece is laid, and the fill behind it.
+-- `frames::put_zone` meets its contract: the piece is laid, and the fill behind it.
 use mathlib.Core.Path.{_≡_, ap, _∙_}
 use Prim.Native.Nat.{ℕ, _+_, _-_}
 use native.Mathlib.Omega.{arith}

@@ -1,13 +1,11 @@
--- `reader::emptied_of` meets its contract: the loop keeps that the lanes below i have dropped theirs and the others are as they were.
+-- `gaps::emptied_of` meets its contract: the loop keeps that the lanes below i have dropped theirs and the others are as they were.
 use lib.ListN.{length-map}
-use Prim.Native.Nat.{_-_, _<_}
+use Prim.Native.Nat.{_-_}
 use lib.ListN.{length}
-use mathlib.Core.Path.{_≡_, sym, _∙_}
+use mathlib.Core.Path.{_≡_}
 use mathlib.Core.Logic.{⊎-elim}
-use native.Mathlib.Omega.{arith}
 use borrow.Author.Needs.{needs}
 use Rattle.rules.specs.Reading.{lanesOf}
-use Rattle.rules.specs.Tests.{_=?_}
 use Rattle.gaps.proofs.Gaps.{Emptying, emptying-none, its, drops, keeps, emptied-now}
 use Rattle.gaps.proofs.emptied_of.Statement.{statement}
 use Rattle.gaps.proofs.emptied_of.Tie as tie

@@ -1,6 +1,5 @@
--- `reader::gap_of` meets its contract: by whether frames are missing, as the rule is.
-use Prim.Native.Nat.{ℕ, _+_, _-_, _<_, _≤_}
-use mathlib.Core.Path.{_≡_, refl, sym, ap, _∙_}
+-- `gaps::gap_of` meets its contract: by whether frames are missing, as the rule is.
+use mathlib.Core.Path.{sym, _∙_}
 use native.Mathlib.Omega.{arith}
 use borrow.Author.Needs.{needs}
 use Rattle.rules.proofs.Octets.{pow256-pos}

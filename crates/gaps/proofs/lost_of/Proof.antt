@@ -1,13 +1,10 @@
--- `reader::lost_of` meets its contract: the loop keeps what the lanes below i have dropped.
+-- `gaps::lost_of` meets its contract: the loop keeps what the lanes below i have dropped.
 use lib.ListN.{length-map}
-use Prim.Native.Nat.{_-_, _+_, _*_, _<_, _≤_}
-use lib.ListN.{length, drop}
-use mathlib.Core.Path.{_≡_, refl, sym, _∙_}
+use Prim.Native.Nat.{_-_}
+use lib.ListN.{length}
+use mathlib.Core.Path.{_≡_}
 use mathlib.Core.Logic.{⊎-elim}
-use native.Mathlib.Omega.{arith}
 use borrow.Author.Needs.{needs}
-use Rattle.rules.specs.Reading.{lanesOf, lost as gone}
-use Rattle.rules.specs.Tests.{_=?_}
 use Rattle.gaps.proofs.Gaps.{Losing, losing-none, loses, spares, lost-now}
 use Rattle.gaps.proofs.lost_of.Statement.{statement}
 use Rattle.gaps.proofs.lost_of.Tie as tie

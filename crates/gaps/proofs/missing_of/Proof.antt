@@ -1,6 +1,6 @@
--- `reader::missing_of` meets its contract: counts are below 256^n, so nothing wraps at 2^64.
-use Prim.Native.Nat.{ℕ, _%_, _^_, _+_, _-_, _≤_}
-use mathlib.Core.Path.{_≡_, refl, sym, ap, ap₂, _∙_}
+-- `gaps::missing_of` meets its contract: counts are below 256^n, so nothing wraps at 2^64.
+use Prim.Native.Nat.{ℕ, _%_, _^_, _+_, _-_}
+use mathlib.Core.Path.{sym, ap, _∙_}
 use mathlib.Core.Bool.{cond, Bool}
 use native.Mathlib.Omega.{arith}
 use Rattle.rules.specs.Reading.{missing}
