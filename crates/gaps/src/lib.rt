@@ -2,7 +2,7 @@
 ghost use mathlib.Core.Path.{_≡_};
 ghost use mathlib.Core.Bool.{true};
 ghost use Prim.Native.Nat.{ℕ, _+_, _^_, _≤_, _<_};
-ghost use lib.ListN.{length, getD};
+ghost use lib.ListN.{getD};
 ghost use Rattle.rules.specs.Tests.{_=?_};
 ghost use Rattle.rules.specs.Settings.{readerOk, channel};
 ghost use Rattle.rules.specs.Reading.{missing, emptied, lost, lanesOf, gap};

@@ -134,16 +134,16 @@ fn judge_data(s: Setting, c: usize, l: usize, k: u64, frame: &[u8]) -> Sighting
     })
 }
 
-// A frame of channel c with count k that no lane reads.
-fn counted(c: usize, k: u64) -> Sighting
-    ensures { λ r. ⌜ r ≡ Seen (countedSight c k) ⌝ }
+// A frame with this count, of the channel at this place, that no lane reads.
+fn counted(channel: usize, count: u64) -> Sighting
+    ensures { λ r. ⌜ r ≡ Seen (countedSight channel count) ⌝ }
 {
     let on = Place::Nowhere;
     let place = Place::Nowhere;
     Sighting::Seen(Sight {
-        channel: c,
+        channel: channel,
         lane: on,
-        count: k,
+        count: count,
         rule: 0,
         place: place,
         begin: 0,
