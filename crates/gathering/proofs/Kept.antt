@@ -16,22 +16,9 @@ use Rattle.rules.specs.Areas.{joined}
 use Rattle.rules.specs.Packets.{measured, measure, whole, packetsUpTo, packets}
 use Rattle.rules.specs.Writing.{noneAbove, batchOk}
 use Rattle.rules.proofs.Tests.{split, and-left, and-right}
-use Rattle.packets.proofs.Batches.{packets-front, long-here}
+use Rattle.rules.proofs.Measures.{measure-take, packet-long}
+use Rattle.packets.proofs.Batches.{packets-front}
 use Rattle.gathering.specs.Gathering.{fitting, gathered}
-
--- ---- the measure looks at the first six octets
-
-pub measure-take : (g : ℕ) (xs : List ℕ) → 6 ≤ g → measure (take g xs) ≡ measure xs
-unfolding measure measured
-measure-take g xs h =
-    split (length xs) g (λ k. ap measure (take-all g xs k))
-    (λ k.
-    let l : length (take g xs) ≡ g = length-take-le g xs (omega arith) in
-    rw (l, getD-take g xs 0 0 (omega arith), getD-take g xs 1 0 (omega arith), getD-take g xs 4 0 (omega arith), getD-take g xs 5 0 (omega arith))
-    (rw (ne-eqb g 0 (λ q. omega arith), ne-eqb (length xs) 0 (λ q. omega arith), le-ltb g 6 h, le-ltb (length xs) 6 (omega arith))))
-
-pub packet-long : (xs : List ℕ) (n : ℕ) → measure xs ≡ Packet n → 7 ≤ n
-packet-long xs n e = long-here xs 0 (measure xs) (ap measure (sym (take-all (length xs - 0) xs (omega arith)))) n e
 
 -- ---- one packet
 

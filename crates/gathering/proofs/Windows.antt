@@ -18,7 +18,8 @@ use Rattle.rules.specs.Packets.{measure, packets}
 use Rattle.rules.proofs.Tests.{split}
 use Rattle.gathering.specs.declared.Wrong.the-variants as wrong
 use Rattle.gathering.specs.Gathering.{fitting, gathered, wrongOf, wrongAt}
-use Rattle.gathering.proofs.Kept.{measure-take, packet-long, step, fitting-front}
+use Rattle.rules.proofs.Measures.{measure-take, packet-long}
+use Rattle.gathering.proofs.Kept.{step, fitting-front}
 
 -- ---- the batch
 

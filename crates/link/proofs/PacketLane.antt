@@ -23,6 +23,7 @@ use Rattle.rules.specs.Packets.{measured, measure}
 use Rattle.rules.specs.Writing.{startFrom, inside}
 use Rattle.rules.specs.Reading.{Made, hands, both, become, endFate, joinedFate, leadFate, lead, sizedNext, nextOf, front, walk, packetLane}
 use Rattle.rules.proofs.Tests.{split}
+use Rattle.rules.proofs.Measures.{measure-none, measure-fill}
 use Rattle.rules.proofs.Lanes.{walk-front}
 use Rattle.link.specs.Due.{spans, ending}
 use Rattle.link.proofs.Whole.{Whole, Wholes}
@@ -112,14 +113,14 @@ module _ (longest z : ℕ) (zp : 0 < z) (j k : ℕ) (jk : j ≤ k) where
   not-lost a h = le-leb _ _ (le-trans jk (frame-from z zp a k h))
 
   fill-next : (n : ℕ) → 1 ≤ longest → nextOf longest (measure (filler (suc n))) (length (filler (suc n))) ≡ Skip 1
-  unfolding nextOf sizedNext measure measured
+  unfolding nextOf sizedNext
   fill-next n h =
       let l : 1 ≤ length (filler (suc n)) = omega arith in
-      rw (ne-eqb (suc (length (filler n))) 0 (λ q. omega arith), le-leb _ _ h, le-leb _ _ l)
+      rw (measure-fill (filler n), le-leb _ _ h, le-leb _ _ l)
 
   -- "The rest of the last zone is E0 octets": each is an idle packet.
   walk-fill : (n : ℕ) → 1 ≤ longest → yield (walk longest (filler n)) ≡ yields [] []
-  walk-fill zero h = ap yield (walk-front longest []) ∙ unfold nextOf measure measured in refl
+  walk-fill zero h = ap yield (walk-front longest []) ∙ rw measure-none (unfold nextOf in refl)
   walk-fill (suc n) h =
       ap yield (walk-front longest (filler (suc n)) ∙ ap (λ (s : Next). front s (filler (suc n)) (walk longest)) (fill-next n h))
       ∙ walk-fill n h

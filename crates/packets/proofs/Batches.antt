@@ -21,7 +21,7 @@ use Rattle.rules.specs.Areas.{joined}
 use Rattle.rules.specs.Packets.{measured, measure, whole, packetsUpTo, packets}
 use Rattle.rules.specs.Writing.{noneAbove, batchOk, startFrom}
 use Rattle.rules.proofs.Tests.{same}
-use Rattle.rules.proofs.Lanes.{measure-cases}
+use Rattle.rules.proofs.Measures.{measure-cases, measure-none, packet-long}
 
 -- ---- the packets' own equation: no count of packets in it
 
@@ -42,9 +42,9 @@ whole-same xs f g h =
     (λ n k l. ap (λ (ps : List (List ℕ)). take n xs ∷ ps) (h (drop n xs) (rw length-drop (omega arith))))
 
 none-left : (n : ℕ) (xs : List ℕ) → length xs ≤ 0 → packetsUpTo n xs ≡ []
-unfolding packetsUpTo measure measured
+unfolding packetsUpTo
 none-left zero xs h = refl
-none-left (suc n) [] h = refl
+none-left (suc n) [] h = rw measure-none
 none-left (suc n) (x ∷ xs) h = absurd (not-suc-le-zero h)
 
 enough : (n m : ℕ) (xs : List ℕ) → length xs ≤ n → length xs ≤ m → packetsUpTo n xs ≡ packetsUpTo m xs
@@ -60,12 +60,6 @@ packets-front xs =
     ∙ whole-same xs (packetsUpTo (length xs)) packets (λ ys l. enough (length xs) (length ys) ys (omega arith) (le-refl _))
 
 -- ---- the packet at the front
-
-packet-long : (xs : List ℕ) (n : ℕ) → measure xs ≡ Packet n → 7 ≤ n
-packet-long xs n =
-    measure-cases (λ (m : Measure). m ≡ Packet n → 7 ≤ n) xs (λ l e. let z : _≡_ {A = ℕ} 0 1 = cc in omega arith)
-    (λ k l e. let q : k ≡ n = cc in omega arith) (λ k l e. let z : _≡_ {A = ℕ} 0 1 = cc in omega arith)
-    (λ e. let z : _≡_ {A = ℕ} 0 1 = cc in omega arith)
 
 -- The rest of the octets from one on, as code lends it.
 rest : (b : List ℕ) (i : ℕ) → take (length b - i) (drop i b) ≡ drop i b

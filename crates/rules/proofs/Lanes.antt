@@ -20,31 +20,13 @@ use Rattle.rules.specs.declared.Fate.{Fate}
 use Rattle.rules.specs.declared.Fate.the-variants.{Hand, Blank, Hold, Drop}
 use Rattle.rules.specs.Tests.{_≤?_, _<?_, _=?_}
 use Rattle.rules.specs.Areas.{joined}
-use Rattle.rules.specs.Packets.{sized, measured, measure}
+use Rattle.rules.specs.Packets.{measure}
 use Rattle.rules.specs.Reading.{Made, nothing, holds, drops, fills, hands, idles, both, become, endFate, joinedFate, leadFate, lead, sizedNext, nextOf, front, walkUpTo, walk, packetLane, unitFate, followFate, portion, accessLane, laneStep}
 use Rattle.rules.proofs.Areas.{joined-append}
+use Rattle.rules.proofs.Measures.{measure-cases, measure-none}
 use Rattle.rules.specs.Valid.{least}
 
 -- ---- what the decisions can be: to show something of one, show it of each case with what holds there
-
--- What the front of some octets can be.
-pub measure-cases : (P : Measure → Type 0) (xs : List ℕ) → (length xs < 6 → P Lacks) → ((n : ℕ) → 7 ≤ n → P (Packet n))
-    → ((n : ℕ) → 1 ≤ n → P (Idle n)) → P Unreadable → P (measure xs)
-unfolding measure measured sized
-measure-cases P xs lacks packet idle bad =
-    go (length xs =? 0) refl (getD xs 0 0 / 32 =? 0b000) (length xs <? 6) refl ((getD xs 0 0 * 256 + getD xs 1 0) % 2048 =? 2047) (getD xs 0 0 =? 0xE0)
-  where
-    size : ℕ
-    size = 7 + (getD xs 4 0 * 256 + getD xs 5 0)
-
-    go : (p : Bool) → length xs =? 0 ≡ p → (q r : Bool) → length xs <? 6 ≡ r → (s u : Bool)
-        → P (cond p Lacks (cond q (cond r Lacks (cond s (Idle size) (Packet size))) (cond u (Idle 1) Unreadable)))
-    go true e q r f s u = let z : length xs ≡ 0 = eqb-true _ _ e in lacks (omega arith)
-    go false e true true f s u = lacks (ltb-true _ _ f)
-    go false e true false f true u = idle size (omega arith)
-    go false e true false f false u = packet size (omega arith)
-    go false e false r f s true = idle 1 (omega arith)
-    go false e false r f s false = bad
 
 -- What becomes of the packet at the front of some octets. One that is held has fewer octets here than the longest.
 sized-cases : (P : Next → Type 0) (longest k n : ℕ) (done : Next) → (k ≤ longest → k ≤ n → P done) → (n < longest → P Keep) → P Lose
@@ -135,9 +117,9 @@ module _ (longest : ℕ) where
       (λ n a b c. ap (idles n) (h (drop n xs) (rw length-drop (omega arith)))) (λ k. refl) refl
 
   none-left : (n : ℕ) (xs : List ℕ) → length xs ≤ 0 → walkUpTo longest n xs ≡ nothing
-  unfolding walkUpTo nextOf measure measured
+  unfolding walkUpTo nextOf
   none-left zero xs h = refl
-  none-left (suc n) [] h = refl
+  none-left (suc n) [] h = rw measure-none
   none-left (suc n) (x ∷ xs) h = absurd (not-suc-le-zero h)
 
   enough : (n m : ℕ) (xs : List ℕ) → length xs ≤ n → length xs ≤ m → walkUpTo longest n xs ≡ walkUpTo longest m xs

@@ -4,6 +4,7 @@ pub mod Areas
 pub mod Octets
 pub mod Counts
 pub mod Valid
+pub mod Measures
 pub mod Lanes
 pub mod Judged
 pub mod States

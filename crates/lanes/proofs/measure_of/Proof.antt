@@ -2,7 +2,7 @@
 use mathlib.Core.Path.{_∙_}
 use lib.ListN.{length-append}
 use borrow.Author.Needs.{needs}
-use Rattle.rules.specs.Packets.{measure}
+use Rattle.rules.proofs.Measures.{measure-by}
 use Rattle.lanes.proofs.measure_of.Statement.{statement}
 use Rattle.lanes.proofs.measure_of.Tie as tie
 
@@ -25,8 +25,7 @@ measured-of-requires : tie.Need-measured-of-requires
 measured-of-requires c κs = search needs
 
 returns : tie.Need-returns
-unfolding measure
-returns c = c .measured-of .ensures ∙ rw (c .before .before .before .before .octet-of .ensures, c .before .before .before .octet-of2 .ensures, c .before .before .octet-of3 .ensures, c .before .octet-of4 .ensures, length-append)
+returns c = c .measured-of .ensures ∙ rw (measure-by, c .before .before .before .before .octet-of .ensures, c .before .before .before .octet-of2 .ensures, c .before .before .octet-of3 .ensures, c .before .octet-of4 .ensures, length-append)
 
 pub measure-of-spec : {M : Type 1} → statement M
 measure-of-spec =

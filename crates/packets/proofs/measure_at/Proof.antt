@@ -1,7 +1,7 @@
 -- The four octets that the rule reads, and how many there are.
 use mathlib.Core.Path.{_∙_}
 use borrow.Author.Needs.{needs}
-use Rattle.rules.specs.Packets.{measure}
+use Rattle.rules.proofs.Measures.{measure-by}
 use Rattle.packets.proofs.measure_at.Statement.{statement}
 use Rattle.packets.proofs.measure_at.Tie as tie
 
@@ -21,10 +21,9 @@ measured-of-requires : tie.Need-measured-of-requires
 measured-of-requires c κs = search needs
 
 returns : tie.Need-returns
-unfolding measure
 returns c =
     c .measured-of .ensures
-    ∙ rw (c .before .before .before .before .octet .ensures, c .before .before .before .octet2 .ensures, c .before .before .octet3 .ensures, c .before .octet4 .ensures)
+    ∙ rw (measure-by, c .before .before .before .before .octet .ensures, c .before .before .before .octet2 .ensures, c .before .before .octet3 .ensures, c .before .octet4 .ensures)
 
 pub measure-at-spec : {M : Type 1} → statement M
 measure-at-spec =
