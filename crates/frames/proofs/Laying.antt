@@ -88,7 +88,8 @@ frame-laid area a d ocf t from z e f room =
 pub frame-is : (s : Setting) (x : Line) (b insert ocf : List ℕ)
     → lineFrame s x b insert ocf
     ≡ (let whole : List ℕ = (primary s (x .channel) (x .lane) (x .count) ++ insert)
-    ++ (dataHeader (ruleOf (x .lane .kind) (x .number)) (x .lane .upid) (pointerOf (x .lane .kind) (x .zone) b (x .number)) ++ zoneOf (x .lane .kind) (x .zone) b (x .number))
+    ++ (dataHeader (ruleOf (x .lane .kind) (x .number)) (x .lane .upid) (pointerOf (x .lane .kind) (x .zone) b (x .number)) ++ zoneOf (x .lane .kind)
+    (x .zone) b (x .number))
     ++ ocf in
     whole ++ cond (s .check) (be 2 (checkOf whole)) [])
 unfolding lineFrame checked body

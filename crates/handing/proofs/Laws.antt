@@ -34,14 +34,16 @@ records-append : (i : Info) (start : ℕ) (es bs : List (List ℕ))
 unfolding recordsFrom joined
 records-append i start [] bs = ap (λ (n : ℕ). recordsFrom i n bs) (sym (add-zero start))
 records-append i start (e ∷ es) bs =
-    let n : start + length e + length (joined es) ≡ start + length (e ++ joined es) = add-assoc start (length e) (length (joined es)) ∙ ap (λ (k : ℕ). start + k) (sym (length-append e (joined es))) in
+    let n : start + length e + length (joined es) ≡ start + length (e ++ joined es) = add-assoc start (length e) (length (joined es)) ∙ ap
+    (λ (k : ℕ). start + k) (sym (length-append e (joined es))) in
     ap (λ (x : List ℕ). recordOf i start (length e) ++ x)
     (records-append i (start + length e) es bs ∙ ap (λ (k : ℕ). recordsFrom i (start + length e) es ++ recordsFrom i k bs) n)
     ∙ sym (append-assoc (recordOf i start (length e)) (recordsFrom i (start + length e) es) (recordsFrom i (start + length (e ++ joined es)) bs))
 
 -- Four octets and three numbers of four, laid one after another, are a record.
 pub record-laid : (area : List ℕ) (from : ℕ) (i : Info) (start size : ℕ) → from + recordSize ≤ length area
-    → laid (laid (laid (laid area from (i .lane ∷ i .vc ∷ i .map ∷ i .service ∷ [])) (from + 4) (be 4 start)) (from + 8) (be 4 size)) (from + 12) (be 4 (i .count))
+    → laid (laid (laid (laid area from (i .lane ∷ i .vc ∷ i .map ∷ i .service ∷ [])) (from + 4) (be 4 start)) (from + 8) (be 4 size)) (from + 12)
+    (be 4 (i .count))
     ≡ laid area from (recordOf i start size)
 unfolding recordOf
 record-laid area from i start size room =
@@ -135,7 +137,8 @@ module _ {t : Tally} {u r : List ℕ} (a b : Made) (room : Room t u r (both a b)
               ∙ ap (laid u (t .octets)) (sym (joined-append (a .units) (b .units)));
           recordArea =
               second .recordArea ∙ ap₂ (λ (x : List ℕ) (n : ℕ). laid x n (recordsFrom i (t₁ .octets) (b .units))) (first .recordArea) at
-              ∙ laid-laid r (recordSize * t .count) (recordsFrom i (t .octets) (a .units)) (omega (arith, room-first .records)) (recordsFrom i (t₁ .octets) (b .units))
+              ∙ laid-laid r (recordSize * t .count) (recordsFrom i (t .octets) (a .units)) (omega (arith, room-first .records))
+              (recordsFrom i (t₁ .octets) (b .units))
               ∙ ap (λ (n : ℕ). laid r (recordSize * t .count) (recordsFrom i (t .octets) (a .units) ++ recordsFrom i n (b .units))) (first .octets)
               ∙ ap (laid r (recordSize * t .count)) (sym (records-append i (t .octets) (a .units) (b .units)));
           count = omega arith;
@@ -188,7 +191,12 @@ module _ {i : Info} {t : Tally} {u r : List ℕ} {whole rest : Made} {t₁ : Tal
   pub begun-on : {a rest′ : Made} {t₂ : Tally} {u₂ r₂ : List ℕ} → rest ≡ both a rest′ → Handed i t₁ u₁ r₁ a t₂ u₂ r₂ → Begun i t u r whole rest′ t₂ u₂ r₂
   begun-on {a} {rest′} e next =
       let split : whole ≡ both (both (begun .sofar) a) rest′ = begun .split ∙ ap (both (begun .sofar)) e ∙ both-both (begun .sofar) a rest′ in
-      record { sofar = both (begun .sofar) a; split = split; handed = handed-both (begun .sofar) a (room-first (both (begun .sofar) a) rest′ (rw split at room)) (begun .handed) next }
+      record {
+        sofar = both (begun .sofar) a;
+        split = split;
+        handed = handed-both (begun .sofar) a
+            (room-first (both (begun .sofar) a) rest′ (rw split at room)) (begun .handed) next;
+      }
 
   -- All of the rest is handed out, or held.
   pub begun-went : {d : List ℕ} {l : Led} {u₂ r₂ d₂ : List ℕ} → Went i t₁ u₁ r₁ d rest l u₂ r₂ d₂ → Went i t u r d whole l u₂ r₂ d₂

@@ -56,14 +56,21 @@ same-length c = search needs
 
 returns : tie.Need-returns
 returns c =
-    let a = c .before .before .before .before .before .before .before .before .before .before .before .before .before .before .before .before .args in
+    let c₈ = c .before .before .before .before .before .before .before .before in
+    let a = c₈ .before .before .before .before .before .before .before .before .args in
     let q = c .before .before .before .before .before .before .piece-end .ensures in
     c .before .before .put-zone .ensures
-    ∙ ap (λ (d : List ℕ). laid d (a .from + 3) (take (c .before .before .before .before .before .before .piece-end .result - a .i * a .z) (drop (a .i * a .z) (a .batch .now)) ++ replicate (a .z - length (take (c .before .before .before .before .before .before .piece-end .result - a .i * a .z) (drop (a .i * a .z) (a .batch .now)))) (c .before .before .before .before .before .fill-of .result))) (c .before .before .before .before .before .before .before .before .before .lay-number .ensures)
-    ∙ data-laid (a .area .now) (a .from) (c .before .before .before .before .before .before .before .before .before .before .before .before .before .rule-of .result) (a .upid) (c .before .before .before .before .before .before .before .before .before .before .before .before .pointer-of .result) (c .before .before .before .before .before .before .before .before .before .before .before .data-header-of .result) (a .kind) (a .z) (a .batch .now) (a .i) (c .before .before .before .before .before .fill-of .result)
-    (take (c .before .before .before .before .before .before .piece-end .result - a .i * a .z) (drop (a .i * a .z) (a .batch .now))) (search needs) (c .before .before .before .before .before .before .before .before .before .before .before .data-header-of .ensures)
-    (piece-is (a .batch .now) (a .z) (a .i * a .z) (c .before .before .before .before .before .before .piece-end .result) (q .0) (q .1) (q .2) (q .3)) (c .before .before .before .before .before .fill-of .ensures)
-    ∙ ap₂ (λ (r p : ℕ). laid (a .area .now) (a .from) (Rattle.rules.specs.Frames.dataHeader r (a .upid) p ++ Rattle.rules.specs.Writing.zoneOf (a .kind) (a .z) (a .batch .now) (a .i))) (c .before .before .before .before .before .before .before .before .before .before .before .before .before .rule-of .ensures) (c .before .before .before .before .before .before .before .before .before .before .before .before .pointer-of .ensures)
+    ∙ ap (λ (d : List ℕ). laid d (a .from + 3) (take (c .before .before .before .before .before .before .piece-end .result - a .i * a .z)
+    (drop (a .i * a .z) (a .batch .now)) ++ replicate (a .z - length (take (c .before .before .before .before .before .before .piece-end .result - a .i * a .z) (drop (a .i * a .z) (a .batch .now)))) (c .before .before .before .before .before .fill-of .result))) (c₈ .before .lay-number .ensures)
+    ∙ data-laid (a .area .now) (a .from) (c₈ .before .before .before .before .before .rule-of .result) (a .upid)
+    (c₈ .before .before .before .before .pointer-of .result) (c₈ .before .before .before .data-header-of .result) (a .kind) (a .z) (a .batch .now) (a .i)
+    (c .before .before .before .before .before .fill-of .result)
+    (take (c .before .before .before .before .before .before .piece-end .result - a .i * a .z) (drop (a .i * a .z) (a .batch .now))) (search needs)
+    (c₈ .before .before .before .data-header-of .ensures)
+    (piece-is (a .batch .now) (a .z) (a .i * a .z) (c .before .before .before .before .before .before .piece-end .result) (q .0) (q .1) (q .2) (q .3))
+    (c .before .before .before .before .before .fill-of .ensures)
+    ∙ ap₂ (λ (r p : ℕ). laid (a .area .now) (a .from) (Rattle.rules.specs.Frames.dataHeader r (a .upid) p ++ Rattle.rules.specs.Writing.zoneOf (a .kind)
+    (a .z) (a .batch .now) (a .i))) (c₈ .before .before .before .before .before .rule-of .ensures) (c₈ .before .before .before .before .pointer-of .ensures)
 
 pub put-data-spec : {M : Type 1} → statement M
 put-data-spec =

@@ -34,8 +34,9 @@ cast-lay-number c = search needs
 
 lay-number-requires : tie.Need-lay-number-requires
 lay-number-requires c κs =
-    let a = c .before .before .before .before .before .before .before .before .before .before .args in
-    let h : a .from + length (a .ocf .now) + 2 ≤ length (a .area .now) = rw (c .before .before .before .if1 .taken) at (c .before .before .before .before .before .before .before .before .before .before .pre) in
+    let c₈ = c .before .before .before .before .before .before .before .before in
+    let a = c₈ .before .before .args in
+    let h : a .from + length (a .ocf .now) + 2 ≤ length (a .area .now) = rw (c .before .before .before .if1 .taken) at (c₈ .before .before .pre) in
     rw (c .before .before .before .before .before .before .lay .ensures, length-laid (a .area .now) (a .from) (a .ocf .now) (omega arith)) h
 
 same-length : tie.Need-same-length
@@ -43,11 +44,12 @@ same-length c = search needs
 
 returns : tie.Need-returns
 returns c =
-    let a = c .before .before .before .before .before .before .before .before .before .before .before .before .before .args in
+    let c₈ = c .before .before .before .before .before .before .before .before in
+    let a = c₈ .before .before .before .before .before .args in
     let n = a .from + length (a .ocf .now) in
     rw (c .before .before .before .before .before .before .if1 .taken)
-    (c .before .before .lay-number .ensures ∙ ap (λ (v : ℕ). laid (c .before .before .before .before .before .before .before .before .before .lay .last .0) n (be 2 v)) (c .before .before .before .before .check-of .ensures)
-    ∙ ap (λ (x : List ℕ). laid x n (be 2 (checkOf (take n x)))) (c .before .before .before .before .before .before .before .before .before .lay .ensures) ∙ end-laid (a .area .now) (a .from) (a .ocf .now) (omega arith))
+    (c .before .before .lay-number .ensures ∙ ap (λ (v : ℕ). laid (c₈ .before .lay .last .0) n (be 2 v)) (c .before .before .before .before .check-of .ensures)
+    ∙ ap (λ (x : List ℕ). laid x n (be 2 (checkOf (take n x)))) (c₈ .before .lay .ensures) ∙ end-laid (a .area .now) (a .from) (a .ocf .now) (omega arith))
 
 same-length-2 : tie.Need-same-length-2
 same-length-2 c = search needs

@@ -40,18 +40,21 @@ same-length c = search needs
 
 returns : tie.Need-returns
 returns c =
-    let q = c .before .before .before .before .before .before .before .before .before .before .before .before .before .before .before .before .before .before .before .args in
+    let c₈ = c .before .before .before .before .before .before .before .before in
+    let c₁₆ = c₈ .before .before .before .before .before .before .before .before in
+    let q = c₁₆ .before .before .before .args in
     let x = q .x in
     let k = x .lane .kind in
     let from = 7 + x .channel .octets + length (q .insert .now) in
     let a = primary (q .s) (x .channel) (x .lane) (x .count) ++ q .insert .now in
-    let d = dataHeader (ruleOf k (x .number)) (x .lane .upid) (pointerOf k (x .zone) (q .batch .now) (x .number)) ++ zoneOf k (x .zone) (q .batch .now) (x .number) in
+    let d = dataHeader (ruleOf k (x .number)) (x .lane .upid) (pointerOf k (x .zone) (q .batch .now) (x .number)) ++ zoneOf k (x .zone) (q .batch .now)
+    (x .number) in
     let la = primary-length (q .s) (x .channel) (x .lane) (x .count) (q .insert .now) in
     let ld = data-length (ruleOf k (x .number)) (x .lane .upid) (pointerOf k (x .zone) (q .batch .now) (x .number)) k (x .zone) (q .batch .now) (x .number) in
     c .before .before .put-end .ensures
     ∙ ap (λ (y : List ℕ). laid y (from + 3 + x .zone) (q .ocf .now ++ cond (q .s .check) (be 2 (checkOf (take (from + 3 + x .zone) y ++ q .ocf .now))) []))
-    (c .before .before .before .before .before .before .put-data .ensures ∙ ap (λ (y : List ℕ). laid y from d) (c .before .before .before .before .before .before .before .before .before .before .before .put-front .ensures))
-    ∙ frame-laid (q .area .now) a d (q .ocf .now) (q .s .check) from (x .zone) (sym la) (sym ld) (omega (arith, c .before .before .before .before .before .before .before .before .before .before .before .before .before .before .before .before .before .before .before .pre .room, la, ld))
+    (c .before .before .before .before .before .before .put-data .ensures ∙ ap (λ (y : List ℕ). laid y from d) (c₈ .before .before .before .put-front .ensures))
+    ∙ frame-laid (q .area .now) a d (q .ocf .now) (q .s .check) from (x .zone) (sym la) (sym ld) (omega (arith, c₁₆ .before .before .before .pre .room, la, ld))
     ∙ ap (laid (q .area .now) 0) (sym (frame-is (q .s) x (q .batch .now) (q .insert .now) (q .ocf .now)))
 
 pub put-frame-spec : {M : Type 1} → statement M

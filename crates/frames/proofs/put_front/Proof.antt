@@ -29,10 +29,12 @@ same-length c = search needs
 
 returns : tie.Need-returns
 returns c =
-    let a = c .before .before .before .before .before .before .before .before .before .before .before .before .before .before .before .args in
+    let c₈ = c .before .before .before .before .before .before .before .before in
+    let a = c₈ .before .before .before .before .before .before .before .args in
     c .before .before .lay .ensures
     ∙ ap (λ (x : List ℕ). laid x (7 + a .c .octets) (a .insert .now))
-    (c .before .before .before .before .before .before .lay-number2 .ensures ∙ ap (λ (x : List ℕ). laid x 7 (be (a .c .octets) (a .k))) (c .before .before .before .before .before .before .before .before .before .before .lay-number .ensures ∙ ap (λ (n : ℕ). laid (a .area .now) 0 (be 7 n)) (c .before .before .before .before .before .before .before .before .before .before .before .before .header-of .ensures)))
+    (c .before .before .before .before .before .before .lay-number2 .ensures ∙ ap (λ (x : List ℕ). laid x 7 (be (a .c .octets) (a .k)))
+    (c₈ .before .before .lay-number .ensures ∙ ap (λ (n : ℕ). laid (a .area .now) 0 (be 7 n)) (c₈ .before .before .before .before .header-of .ensures)))
     ∙ front-laid (a .area .now) (a .s) (a .c) (a .l) (a .k) (a .insert .now) (search needs)
 
 pub put-front-spec : {M : Type 1} → statement M

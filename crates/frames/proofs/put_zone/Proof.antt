@@ -27,8 +27,10 @@ same-length c = search needs
 
 returns : tie.Need-returns
 returns c =
-    let a = c .before .before .before .before .before .before .before .before .before .before .args in
-    c .before .before .lay-fill .ensures ∙ ap (λ (x : List ℕ). laid x (a .from + length (a .piece .now)) (replicate (a .z - length (a .piece .now)) (a .x))) (c .before .before .before .before .before .before .lay .ensures)
+    let c₈ = c .before .before .before .before .before .before .before .before in
+    let a = c₈ .before .before .args in
+    c .before .before .lay-fill .ensures ∙ ap (λ (x : List ℕ). laid x (a .from + length (a .piece .now)) (replicate (a .z - length (a .piece .now)) (a .x)))
+    (c .before .before .before .before .before .before .lay .ensures)
     ∙ laid-laid (a .area .now) (a .from) (a .piece .now) (omega arith) (replicate (a .z - length (a .piece .now)) (a .x))
 
 pub put-zone-spec : {M : Type 1} → statement M

@@ -16,13 +16,17 @@ add-middle : tie.Need-add-middle
 add-middle c = search needs
 
 add-end : tie.Need-add-end
-add-end c = let q = two-fit (c .before .before .before .before .args .first .now) (c .before .before .before .before .args .second .now) (c .before .before .before .before .pre) in search needs
+add-end c = let q = two-fit (c .before .before .before .before .args .first .now) (c .before .before .before .before .args .second .now)
+    (c .before .before .before .before .pre) in search needs
 
 lay-requires : tie.Need-lay-requires
-lay-requires c κs = let q = two-fit (c .before .before .before .before .before .args .first .now) (c .before .before .before .before .before .args .second .now) (c .before .before .before .before .before .pre) in search needs
+lay-requires c κs = let q = two-fit (c .before .before .before .before .before .args .first .now)
+    (c .before .before .before .before .before .args .second .now) (c .before .before .before .before .before .pre) in search needs
 
 lay-requires-2 : tie.Need-lay-requires-2
-lay-requires-2 c κs = let q = two-fit (c .before .before .before .before .before .before .before .before .before .args .first .now) (c .before .before .before .before .before .before .before .before .before .args .second .now) (c .before .before .before .before .before .before .before .before .before .pre) in search needs
+lay-requires-2 c κs =
+    let c₈ = c .before .before .before .before .before .before .before .before in
+    let q = two-fit (c₈ .before .args .first .now) (c₈ .before .args .second .now) (c₈ .before .pre) in search needs
 
 mul-lay-record : tie.Need-mul-lay-record
 mul-lay-record c = search needs
@@ -44,14 +48,18 @@ same-length-2 c = search needs
 
 returns : tie.Need-returns
 returns c =
-    let a = c .before .before .before .before .before .before .before .before .before .before .before .before .before .before .before .before .before .before .args in
-    let fit = two-fit (a .first .now) (a .second .now) (c .before .before .before .before .before .before .before .before .before .before .before .before .before .before .before .before .before .before .pre) in
+    let c₈ = c .before .before .before .before .before .before .before .before in
+    let c₁₆ = c₈ .before .before .before .before .before .before .before .before in
+    let a = c₁₆ .before .before .args in
+    let fit = two-fit (a .first .now) (a .second .now) (c₁₆ .before .before .pre) in
     let n : length (a .first .now ++ a .second .now) ≡ length (a .first .now) + length (a .second .now) = length-append (a .first .now) (a .second .now) in
     let size : a .t .octets + length (a .first .now) + length (a .second .now) - a .t .octets ≡ length (a .first .now ++ a .second .now) = omega arith in
     one-handed
-    (c .before .before .before .before .before .before .before .before .lay2 .ensures ∙ ap (λ (x : List ℕ). laid x (a .t .octets + length (a .first .now)) (a .second .now)) (c .before .before .before .before .before .before .before .before .before .before .before .before .lay .ensures)
+    (c .before .before .before .before .before .before .before .before .lay2 .ensures ∙ ap
+    (λ (x : List ℕ). laid x (a .t .octets + length (a .first .now)) (a .second .now)) (c₈ .before .before .before .before .lay .ensures)
     ∙ laid-laid (a .units .now) (a .t .octets) (a .first .now) (omega arith) (a .second .now))
-    (c .before .before .before .lay-record .ensures ∙ ap (λ (k : ℕ). laid (a .records .now) (recordSize * a .t .count) (recordOf (a .info) (a .t .octets) k)) size)
+    (c .before .before .before .lay-record .ensures ∙ ap (λ (k : ℕ). laid (a .records .now) (recordSize * a .t .count) (recordOf (a .info) (a .t .octets) k))
+    size)
     refl (omega arith) refl refl refl
 
 pub hand-out-spec : {M : Type 1} → statement M

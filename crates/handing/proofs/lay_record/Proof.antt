@@ -38,13 +38,16 @@ same-length c = search needs
 
 returns : tie.Need-returns
 returns c =
-    let a = c .before .before .before .before .before .before .before .before .before .before .before .before .before .before .before .before .before .before .args in
+    let c₈ = c .before .before .before .before .before .before .before .before in
+    let c₁₆ = c₈ .before .before .before .before .before .before .before .before in
+    let a = c₁₆ .before .before .args in
     c .before .before .lay-number3 .ensures
     ∙ ap (λ (x : List ℕ). laid x (a .from + 12) (be 4 (a .info .count)))
     (c .before .before .before .before .before .before .lay-number2 .ensures
     ∙ ap (λ (x : List ℕ). laid x (a .from + 8) (be 4 (a .size)))
-    (c .before .before .before .before .before .before .before .before .before .before .lay-number .ensures ∙ ap (λ (x : List ℕ). laid x (a .from + 4) (be 4 (a .start))) (c .before .before .before .before .before .before .before .before .before .before .before .before .before .before .lay .ensures)))
-    ∙ record-laid (a .area .now) (a .from) (a .info) (a .start) (a .size) (c .before .before .before .before .before .before .before .before .before .before .before .before .before .before .before .before .before .before .pre)
+    (c₈ .before .before .lay-number .ensures ∙ ap (λ (x : List ℕ). laid x (a .from + 4) (be 4 (a .start)))
+    (c₈ .before .before .before .before .before .before .lay .ensures)))
+    ∙ record-laid (a .area .now) (a .from) (a .info) (a .start) (a .size) (c₁₆ .before .before .pre)
 
 pub lay-record-spec : {M : Type 1} → statement M
 lay-record-spec =

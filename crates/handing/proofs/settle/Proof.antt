@@ -20,7 +20,9 @@ slice-aggregate-hand-out : tie.Need-slice-aggregate-hand-out
 slice-aggregate-hand-out c = sym (held-length (c .before .before .before .before .before .before .before .pre))
 
 hand-out-requires : tie.Need-hand-out-requires
-hand-out-requires c κs = rw (c .before .before .before .enum-told .given .1) at (c .before .before .before .before .before .before .before .before .before .pre .room)
+hand-out-requires c κs =
+    let c₈ = c .before .before .before .before .before .before .before .before in
+    rw (c .before .before .before .enum-told .given .1) at (c₈ .before .pre .room)
 
 same-length : tie.Need-same-length
 same-length c = search needs
@@ -32,7 +34,8 @@ same-length-3 : tie.Need-same-length-3
 same-length-3 c = search needs
 
 returns : tie.Need-returns
-returns c = rw (c .before .before .before .before .before .before .before .before .enum-told .given .1) (part-stays refl (c .before .before .before .before .hand-out .ensures))
+returns c = rw (c .before .before .before .before .before .before .before .before .enum-told .given .1)
+    (part-stays refl (c .before .before .before .before .hand-out .ensures))
 
 enum-told-2 : tie.Need-enum-told-2
 enum-told-2 c = search needs
@@ -59,11 +62,12 @@ same-length-4 c = search needs
 
 returns-3 : tie.Need-returns-3
 returns-3 c =
+    let c₈ = c .before .before .before .before .before .before .before .before in
     rw (c .before .before .before .before .enum-told3 .given .1)
     (record {
       handed = only-counted refl refl refl (omega arith) (omega arith) (omega arith);
-      part = c .before .before .lay .ensures ∙ follow-laid (c .before .before .before .before .before .before .before .before .before .before .pre);
-      held = sym (follow-length (c .before .before .before .before .before .before .before .before .before .before .pre));
+      part = c .before .before .lay .ensures ∙ follow-laid (c₈ .before .before .pre);
+      held = sym (follow-length (c₈ .before .before .pre));
     })
 
 enum-told-4 : tie.Need-enum-told-4

@@ -24,16 +24,21 @@ add-s : tie.Need-add-s
 add-s c = search needs
 
 slice-aggregate-portion-step : tie.Need-slice-aggregate-portion-step
-slice-aggregate-portion-step c = let q = rw (c .before .before .before .before .place .given .1) at (c .before .before .before .before .before .before .before .before .before .before .pre .0) in sym (length-take-le _ _ (omega arith))
+slice-aggregate-portion-step c =
+    let c₈ = c .before .before .before .before .before .before .before .before in
+    let q = rw (c .before .before .before .before .place .given .1) at (c₈ .before .before .pre .0) in sym (length-take-le _ _ (omega arith))
 
 portion-step-requires : tie.Need-portion-step-requires
 unfolding accessLane
 portion-step-requires c κs =
-    let a = c .before .before .before .before .before .before .before .before .before .before .before .before .args in
+    let c₈ = c .before .before .before .before .before .before .before .before in
+    let a = c₈ .before .before .before .before .args in
     let p = c .before .before .before .before .before .before .place .given .0 .0 in
-    let q : p < length (a .zone .now) = rw (c .before .before .before .before .before .before .place .given .1) at (c .before .before .before .before .before .before .before .before .before .before .before .before .pre .0) in
+    let q : p < length (a .zone .now) = rw (c .before .before .before .before .before .before .place .given .1) at
+    (c₈ .before .before .before .before .pre .0) in
     let n : length (take (p + 1) (a .zone .now)) ≡ p + 1 = length-take-le (p + 1) (a .zone .now) (omega arith) in
-    ready-second _ _ (rw (c .before .before .before .before .before .before .place .given .1) at (c .before .before .before .before .before .before .before .before .before .before .before .before .pre .1)) (a .h) (take (p + 1) (a .zone .now)) (c .before .before .before .before .before .before .before .before .before .before .before .before .pre .1 .inside) (omega arith)
+    ready-second _ _ (rw (c .before .before .before .before .before .before .place .given .1) at (c₈ .before .before .before .before .pre .1)) (a .h)
+    (take (p + 1) (a .zone .now)) (c₈ .before .before .before .before .pre .1 .inside) (omega arith)
     (only-counted {i = a .info} refl refl refl (omega arith) refl (omega arith))
 
 same-length : tie.Need-same-length
@@ -48,15 +53,20 @@ same-length-3 c = search needs
 returns : tie.Need-returns
 unfolding accessLane
 returns c =
-    rw (c .before .before .before .before .before .before .before .before .before .before .before .before .before .place .given .1)
-    (went-after _ _ (rw (c .before .before .before .before .before .before .before .before .before .before .before .before .before .place .given .1) at (c .before .before .before .before .before .before .before .before .before .before .before .before .before .before .before .before .before .before .before .pre .1 .room)) (only-counted refl refl refl (omega arith) refl (omega arith)) (c .before .before .before .before .before .before .portion-step .ensures))
+    let c₈ = c .before .before .before .before .before .before .before .before in
+    let c₁₆ = c₈ .before .before .before .before .before .before .before .before in
+    rw (c₈ .before .before .before .before .before .place .given .1)
+    (went-after _ _ (rw (c₈ .before .before .before .before .before .place .given .1) at (c₁₆ .before .before .before .pre .1 .room))
+    (only-counted refl refl refl (omega arith) refl (omega arith)) (c .before .before .before .before .before .before .portion-step .ensures))
 
 enum-told : tie.Need-enum-told
 enum-told c = search needs
 
 portion-step-requires-2 : tie.Need-portion-step-requires-2
 unfolding accessLane
-portion-step-requires-2 c κs = rw (c .before .before .before .enum-told .given .1) at (c .before .before .before .before .before .before .before .before .before .pre .1)
+portion-step-requires-2 c κs =
+    let c₈ = c .before .before .before .before .before .before .before .before in
+    rw (c .before .before .before .enum-told .given .1) at (c₈ .before .pre .1)
 
 same-length-4 : tie.Need-same-length-4
 same-length-4 c = search needs
@@ -69,7 +79,9 @@ same-length-6 c = search needs
 
 returns-2 : tie.Need-returns-2
 unfolding accessLane
-returns-2 c = rw (c .before .before .before .before .before .before .before .before .before .before .enum-told .given .1) (c .before .before .before .before .before .before .portion-step2 .ensures)
+returns-2 c =
+    let c₈ = c .before .before .before .before .before .before .before .before in
+    rw (c₈ .before .before .enum-told .given .1) (c .before .before .before .before .before .before .portion-step2 .ensures)
 
 pub access-step-spec : {M : Type 1} → statement M
 access-step-spec =

@@ -12,14 +12,21 @@ enum-told c = search needs
 packet-step-requires : tie.Need-packet-step-requires
 unfolding laneStep
 packet-step-requires c κs =
-    (c .before .before .before .before .before .before .before .before .before .pre .inside, omega (arith, c .before .before .before .before .before .before .before .before .before .pre .zone, c .before .before .before .before .before .before .before .before .before .pre .part), rw (c .before .before .before .enum-told .given .1) at (lent-ready (c .before .before .before .before .before .before .before .before .before .args .rule) (c .before .before .before .before .before .before .before .before .before .pre)))
+    let c₈ = c .before .before .before .before .before .before .before .before in (
+      c₈ .before .pre .inside,
+      omega (arith, c₈ .before .pre .zone, c₈ .before .pre .part),
+      rw (c .before .before .before .enum-told .given .1) at
+          (lent-ready (c₈ .before .args .rule) (c₈ .before .pre)),
+    )
 
 enum-told-2 : tie.Need-enum-told-2
 enum-told-2 c = search needs
 
 access-step-requires : tie.Need-access-step-requires
 unfolding laneStep
-access-step-requires c κs = (c .before .before .before .before .before .before .before .before .before .pre .inside, rw (c .before .before .before .enum-told2 .given .1) at (lent-ready (c .before .before .before .before .before .before .before .before .before .args .rule) (c .before .before .before .before .before .before .before .before .before .pre)))
+access-step-requires c κs =
+    let c₈ = c .before .before .before .before .before .before .before .before in
+    (c₈ .before .pre .inside, rw (c .before .before .before .enum-told2 .given .1) at (lent-ready (c₈ .before .args .rule) (c₈ .before .pre)))
 
 same-length : tie.Need-same-length
 same-length c = search needs
@@ -32,7 +39,9 @@ same-length-3 c = search needs
 
 returns : tie.Need-returns
 unfolding laneStep
-returns c = rw (c .before .before .before .before .before .before .before .before .before .before .enum-told .given .1) (stepped (c .before .before .before .before .before .before .packet-step .ensures))
+returns c =
+    let c₈ = c .before .before .before .before .before .before .before .before in
+    rw (c₈ .before .before .enum-told .given .1) (stepped (c .before .before .before .before .before .before .packet-step .ensures))
 
 same-length-4 : tie.Need-same-length-4
 same-length-4 c = search needs
@@ -45,7 +54,9 @@ same-length-6 c = search needs
 
 returns-2 : tie.Need-returns-2
 unfolding laneStep
-returns-2 c = rw (c .before .before .before .before .before .before .before .before .before .before .enum-told2 .given .1) (stepped (c .before .before .before .before .before .before .access-step .ensures))
+returns-2 c =
+    let c₈ = c .before .before .before .before .before .before .before .before in
+    rw (c₈ .before .before .enum-told2 .given .1) (stepped (c .before .before .before .before .before .before .access-step .ensures))
 
 pub lane-step-spec : {M : Type 1} → statement M
 lane-step-spec =

@@ -20,7 +20,10 @@ lead-fate-requires : tie.Need-lead-fate-requires
 lead-fate-requires c κs = search needs
 
 settle-requires : tie.Need-settle-requires
-settle-requires c κs = rw (lead-is (c .before .before .before .before .before .before .before .before .before .before .pre) _ _ (c .before .before .before .before .measure-of .ensures) (c .before .before .before .lead-fate .ensures)) at (c .before .before .before .before .before .before .before .before .before .before .pre)
+settle-requires c κs =
+    let c₈ = c .before .before .before .before .before .before .before .before in
+    rw (lead-is (c₈ .before .before .pre) _ _ (c .before .before .before .before .measure-of .ensures) (c .before .before .before .lead-fate .ensures)) at
+    (c₈ .before .before .pre)
 
 same-length : tie.Need-same-length
 same-length c = search needs
@@ -32,7 +35,11 @@ same-length-3 : tie.Need-same-length-3
 same-length-3 c = search needs
 
 returns : tie.Need-returns
-returns c = rw (lead-is (c .before .before .before .before .before .before .before .before .before .before .before .before .before .before .before .before .before .pre) _ _ (c .before .before .before .before .before .before .before .before .before .before .before .measure-of .ensures) (c .before .before .before .before .before .before .before .before .before .before .lead-fate .ensures)) (c .before .before .before .before .before .before .settle .ensures)
+returns c =
+    let c₈ = c .before .before .before .before .before .before .before .before in
+    let c₁₆ = c₈ .before .before .before .before .before .before .before .before in
+    rw (lead-is (c₁₆ .before .pre) _ _ (c₈ .before .before .before .measure-of .ensures) (c₈ .before .before .lead-fate .ensures))
+    (c .before .before .before .before .before .before .settle .ensures)
 
 pub lead-step-spec : {M : Type 1} → statement M
 lead-step-spec =

@@ -15,23 +15,31 @@ enum-known-place : tie.Need-enum-known-place
 enum-known-place c = search needs
 
 slice-aggregate-lead-step : tie.Need-slice-aggregate-lead-step
-slice-aggregate-lead-step c = let q = rw (c .before .before .before .place .given .1) at (c .before .before .before .before .before .before .before .before .before .pre .0) in sym (length-take-le _ _ (omega arith))
+slice-aggregate-lead-step c =
+    let c₈ = c .before .before .before .before .before .before .before .before in
+    let q = rw (c .before .before .before .place .given .1) at (c₈ .before .pre .0) in sym (length-take-le _ _ (omega arith))
 
 lead-step-requires : tie.Need-lead-step-requires
 unfolding packetLane
 lead-step-requires c κs =
-    let a = c .before .before .before .before .before .before .before .before .before .before .before .args in
+    let c₈ = c .before .before .before .before .before .before .before .before in
+    let a = c₈ .before .before .before .args in
     let p = c .before .before .before .before .before .place .given .0 .0 in
-    let q : p < length (a .zone .now) = rw (c .before .before .before .before .before .place .given .1) at (c .before .before .before .before .before .before .before .before .before .before .before .pre .0) in
+    let q : p < length (a .zone .now) = rw (c .before .before .before .before .before .place .given .1) at (c₈ .before .before .before .pre .0) in
     let n : length (take p (a .zone .now)) ≡ p = length-take-le p (a .zone .now) (omega arith) in
-    ready-first _ _ (rw (c .before .before .before .before .before .place .given .1) at (c .before .before .before .before .before .before .before .before .before .before .before .pre .2)) (take p (a .zone .now)) (lead-none _ _ _) (omega arith)
+    ready-first _ _ (rw (c .before .before .before .before .before .place .given .1) at (c₈ .before .before .before .pre .2)) (take p (a .zone .now))
+    (lead-none _ _ _) (omega arith)
 
 walk-step-requires : tie.Need-walk-step-requires
 unfolding packetLane
 walk-step-requires c κs =
-    let q = rw (c .before .before .before .before .before .before .before .before .before .before .before .before .before .before .before .before .place .given .1) at (c .before .before .before .before .before .before .before .before .before .before .before .before .before .before .before .before .before .before .before .before .before .before .pre .0) in
-    let r = rw (c .before .before .before .before .before .before .before .before .before .before .before .before .before .before .before .before .place .given .1) at (c .before .before .before .before .before .before .before .before .before .before .before .before .before .before .before .before .before .before .before .before .before .before .pre .2 .room) in
-    (omega arith, search needs, room-second _ _ r (c .before .before .before .before .before .before .before .before .before .before .lead-step .ensures .handed))
+    let c₈ = c .before .before .before .before .before .before .before .before in
+    let c₁₆ = c₈ .before .before .before .before .before .before .before .before in
+    let q = rw (c₈ .before .before .before .before .before .before .before .before .place .given .1) at
+    (c₁₆ .before .before .before .before .before .before .pre .0) in
+    let r = rw (c₈ .before .before .before .before .before .before .before .before .place .given .1) at
+    (c₁₆ .before .before .before .before .before .before .pre .2 .room) in
+    (omega arith, search needs, room-second _ _ r (c₈ .before .before .lead-step .ensures .handed))
 
 same-length : tie.Need-same-length
 same-length c = search needs
@@ -45,15 +53,22 @@ same-length-3 c = search needs
 returns : tie.Need-returns
 unfolding packetLane
 returns c =
-    rw (c .before .before .before .before .before .before .before .before .before .before .before .before .before .before .before .before .before .before .before .before .before .before .before .place .given .1)
-    (went-both _ _ (rw (c .before .before .before .before .before .before .before .before .before .before .before .before .before .before .before .before .before .before .before .before .before .before .before .place .given .1) at (c .before .before .before .before .before .before .before .before .before .before .before .before .before .before .before .before .before .before .before .before .before .before .before .before .before .before .before .before .before .pre .2)) (lead-none _ _ _) (c .before .before .before .before .before .before .before .before .before .before .before .before .before .before .before .before .before .lead-step .ensures) (c .before .before .before .before .before .before .walk-step .ensures))
+    let c₈ = c .before .before .before .before .before .before .before .before in
+    let c₁₆ = c₈ .before .before .before .before .before .before .before .before in
+    let c₂₄ = c₁₆ .before .before .before .before .before .before .before .before in
+    rw (c₁₆ .before .before .before .before .before .before .before .place .given .1)
+    (went-both _ _ (rw (c₁₆ .before .before .before .before .before .before .before .place .given .1) at
+    (c₂₄ .before .before .before .before .before .pre .2)) (lead-none _ _ _) (c₁₆ .before .lead-step .ensures)
+    (c .before .before .before .before .before .before .walk-step .ensures))
 
 enum-told : tie.Need-enum-told
 enum-told c = search needs
 
 lead-step-requires-2 : tie.Need-lead-step-requires-2
 unfolding packetLane
-lead-step-requires-2 c κs = rw (c .before .before .before .enum-told .given .1) at (c .before .before .before .before .before .before .before .before .before .pre .2)
+lead-step-requires-2 c κs =
+    let c₈ = c .before .before .before .before .before .before .before .before in
+    rw (c .before .before .before .enum-told .given .1) at (c₈ .before .pre .2)
 
 same-length-4 : tie.Need-same-length-4
 same-length-4 c = search needs
@@ -66,7 +81,9 @@ same-length-6 c = search needs
 
 returns-2 : tie.Need-returns-2
 unfolding packetLane
-returns-2 c = rw (c .before .before .before .before .before .before .before .before .before .before .enum-told .given .1) (c .before .before .before .before .before .before .lead-step2 .ensures)
+returns-2 c =
+    let c₈ = c .before .before .before .before .before .before .before .before in
+    rw (c₈ .before .before .enum-told .given .1) (c .before .before .before .before .before .before .lead-step2 .ensures)
 
 pub packet-step-spec : {M : Type 1} → statement M
 packet-step-spec =

@@ -15,9 +15,10 @@ unit-fate-requires c κs = search needs
 
 settle-requires : tie.Need-settle-requires
 settle-requires c κs =
-    let e = begin-is (c .before .before .before .before .before .before .before .before .before .before .pre) _ _ (c .before .before .before .before .before .if1 .taken) (c .before .before .before .unit-fate .ensures) in
-    ready-second _ _ (rw e at (c .before .before .before .before .before .before .before .before .before .before .pre)) 0 (c .before .before .before .before .before .before .before .before .before .before .args .next .now) (omega arith) (omega arith)
-    (only-counted {i = c .before .before .before .before .before .before .before .before .before .before .args .info} refl refl refl (omega arith) (omega arith) refl)
+    let c₈ = c .before .before .before .before .before .before .before .before in
+    let e = begin-is (c₈ .before .before .pre) _ _ (c .before .before .before .before .before .if1 .taken) (c .before .before .before .unit-fate .ensures) in
+    ready-second _ _ (rw e at (c₈ .before .before .pre)) 0 (c₈ .before .before .args .next .now) (omega arith) (omega arith)
+    (only-counted {i = c₈ .before .before .args .info} refl refl refl (omega arith) (omega arith) refl)
 
 same-length : tie.Need-same-length
 same-length c = search needs
@@ -30,14 +31,19 @@ same-length-3 c = search needs
 
 returns : tie.Need-returns
 returns c =
-    let e = begin-is (c .before .before .before .before .before .before .before .before .before .before .before .before .before .before .before .before .before .pre) _ _ (c .before .before .before .before .before .before .before .before .before .before .before .before .if1 .taken) (c .before .before .before .before .before .before .before .before .before .before .unit-fate .ensures) in
-    rw e (went-after _ _ (rw e at (c .before .before .before .before .before .before .before .before .before .before .before .before .before .before .before .before .before .pre .room)) (only-counted refl refl refl (omega arith) (omega arith) refl) (c .before .before .before .before .before .before .settle .ensures))
+    let c₈ = c .before .before .before .before .before .before .before .before in
+    let c₁₆ = c₈ .before .before .before .before .before .before .before .before in
+    let e = begin-is (c₁₆ .before .pre) _ _ (c₈ .before .before .before .before .if1 .taken) (c₈ .before .before .unit-fate .ensures) in
+    rw e (went-after _ _ (rw e at (c₁₆ .before .pre .room)) (only-counted refl refl refl (omega arith) (omega arith) refl)
+    (c .before .before .before .before .before .before .settle .ensures))
 
 follow-fate-requires : tie.Need-follow-fate-requires
 follow-fate-requires c κs = search needs
 
 settle-requires-2 : tie.Need-settle-requires-2
-settle-requires-2 c κs = rw (follow-is (c .before .before .before .before .before .before .before .before .before .pre) _ _ (c .before .before .before .before .if1 .left) (c .before .before .before .follow-fate .ensures)) at (c .before .before .before .before .before .before .before .before .before .pre)
+settle-requires-2 c κs =
+    let c₈ = c .before .before .before .before .before .before .before .before in
+    rw (follow-is (c₈ .before .pre) _ _ (c .before .before .before .before .if1 .left) (c .before .before .before .follow-fate .ensures)) at (c₈ .before .pre)
 
 same-length-4 : tie.Need-same-length-4
 same-length-4 c = search needs
@@ -49,7 +55,10 @@ same-length-6 : tie.Need-same-length-6
 same-length-6 c = search needs
 
 returns-2 : tie.Need-returns-2
-returns-2 c = rw (follow-is (c .before .before .before .before .before .before .before .before .before .before .before .before .before .before .before .before .pre) _ _ (c .before .before .before .before .before .before .before .before .before .before .before .if1 .left) (c .before .before .before .before .before .before .before .before .before .before .follow-fate .ensures)) (c .before .before .before .before .before .before .settle2 .ensures)
+returns-2 c =
+    let c₈ = c .before .before .before .before .before .before .before .before in
+    rw (follow-is (c₈ .before .before .before .before .before .before .before .before .pre) _ _ (c₈ .before .before .before .if1 .left)
+    (c₈ .before .before .follow-fate .ensures)) (c .before .before .before .before .before .before .settle2 .ensures)
 
 pub portion-step-spec : {M : Type 1} → statement M
 portion-step-spec =

@@ -37,7 +37,8 @@ enum-known-next : tie.Need-enum-known-next Inv-loop μ-loop
 enum-known-next c = search needs
 
 add-e : tie.Need-add-e Inv-loop μ-loop
-add-e c = let turn = given (c .before .before .before .before .before .before .loop .inv) (c .before .before .before .next-at .ensures) (c .before .next .given .1) in search needs
+add-e c = let turn = given (c .before .before .before .before .before .before .loop .inv) (c .before .before .before .next-at .ensures)
+    (c .before .next .given .1) in search needs
 
 slice-aggregate-hand-out : tie.Need-slice-aggregate-hand-out Inv-loop μ-loop
 slice-aggregate-hand-out c = search needs
@@ -49,34 +50,55 @@ part-hand-out-start : tie.Need-part-hand-out-start Inv-loop μ-loop
 part-hand-out-start c = search needs
 
 part-hand-out-end : tie.Need-part-hand-out-end Inv-loop μ-loop
-part-hand-out-end c = let turn = given (c .before .before .before .before .before .before .before .loop .inv) (c .before .before .before .before .next-at .ensures) (c .before .before .next .given .1) in search needs
+part-hand-out-end c = let turn = given (c .before .before .before .before .before .before .before .loop .inv)
+    (c .before .before .before .before .next-at .ensures) (c .before .before .next .given .1) in search needs
 
 hand-out-requires : tie.Need-hand-out-requires Inv-loop μ-loop
-hand-out-requires c κs = turn-room (c .before .before .before .before .before .before .before .before .before .before .loop .inv) (c .before .before .before .before .before .before .before .before .before .before .before .before .before .before .pre .1) (given (c .before .before .before .before .before .before .before .before .before .before .loop .inv) (c .before .before .before .before .before .before .before .next-at .ensures) (c .before .before .before .before .before .next .given .1))
+hand-out-requires c κs =
+    let c₈ = c .before .before .before .before .before .before .before .before in
+    turn-room (c₈ .before .before .loop .inv) (c₈ .before .before .before .before .before .before .pre .1)
+    (given (c₈ .before .before .loop .inv) (c .before .before .before .before .before .before .before .next-at .ensures)
+    (c .before .before .before .before .before .next .given .1))
 
 loop-less : tie.Need-loop-less Inv-loop μ-loop
-loop-less c = let turn = given (c .before .before .before .before .before .before .before .before .before .before .before .before .before .before .before .loop .inv) (c .before .before .before .before .before .before .before .before .before .before .before .before .next-at .ensures) (c .before .before .before .before .before .before .before .before .before .before .next .given .1) in omega arith
+loop-less c =
+    let c₈ = c .before .before .before .before .before .before .before .before in
+    let turn = given (c₈ .before .before .before .before .before .before .before .loop .inv) (c₈ .before .before .before .before .next-at .ensures)
+    (c₈ .before .before .next .given .1) in omega arith
 
 loop-again : tie.Need-loop-again Inv-loop μ-loop
-loop-again c = turn-on (c .before .before .before .before .before .before .before .before .before .before .before .before .before .before .before .loop .inv) (c .before .before .before .before .before .before .before .before .before .before .before .before .before .before .before .before .before .before .before .pre .1) (given (c .before .before .before .before .before .before .before .before .before .before .before .before .before .before .before .loop .inv) (c .before .before .before .before .before .before .before .before .before .before .before .before .next-at .ensures) (c .before .before .before .before .before .before .before .before .before .before .next .given .1)) (c .before .before .before .before .hand-out .ensures)
+loop-again c =
+    let c₈ = c .before .before .before .before .before .before .before .before in
+    let c₁₆ = c₈ .before .before .before .before .before .before .before .before in
+    turn-on (c₈ .before .before .before .before .before .before .before .loop .inv) (c₁₆ .before .before .before .pre .1)
+    (given (c₈ .before .before .before .before .before .before .before .loop .inv) (c₈ .before .before .before .before .next-at .ensures)
+    (c₈ .before .before .next .given .1)) (c .before .before .before .before .hand-out .ensures)
 
 enum-known-next-2 : tie.Need-enum-known-next-2 Inv-loop μ-loop
 enum-known-next-2 c = search needs
 
 add-t : tie.Need-add-t Inv-loop μ-loop
 add-t c =
-    let room = turn-room (c .before .before .before .before .before .before .before .loop .inv) (c .before .before .before .before .before .before .before .before .before .before .before .pre .1) (skipped (c .before .before .before .before .before .before .before .loop .inv) (c .before .before .before .before .next-at .ensures) (c .before .before .next2 .given .1)) in
+    let c₈ = c .before .before .before .before .before .before .before .before in
+    let room = turn-room (c .before .before .before .before .before .before .before .loop .inv) (c₈ .before .before .before .pre .1)
+    (skipped (c .before .before .before .before .before .before .before .loop .inv) (c .before .before .before .before .next-at .ensures)
+    (c .before .before .next2 .given .1)) in
     search needs
 
 add-at : tie.Need-add-at Inv-loop μ-loop
-add-at c = let turn = skipped (c .before .before .before .before .before .before .before .loop .inv) (c .before .before .before .before .next-at .ensures) (c .before .before .next2 .given .1) in search needs
+add-at c = let turn = skipped (c .before .before .before .before .before .before .before .loop .inv) (c .before .before .before .before .next-at .ensures)
+    (c .before .before .next2 .given .1) in search needs
 
 loop-less-2 : tie.Need-loop-less-2 Inv-loop μ-loop
-loop-less-2 c = let turn = skipped (c .before .before .before .before .before .before .before .loop .inv) (c .before .before .before .before .next-at .ensures) (c .before .before .next2 .given .1) in omega arith
+loop-less-2 c = let turn = skipped (c .before .before .before .before .before .before .before .loop .inv)
+    (c .before .before .before .before .next-at .ensures) (c .before .before .next2 .given .1) in omega arith
 
 loop-again-2 : tie.Need-loop-again-2 Inv-loop μ-loop
 loop-again-2 c =
-    turn-on (c .before .before .before .before .before .before .before .loop .inv) (c .before .before .before .before .before .before .before .before .before .before .before .pre .1) (skipped (c .before .before .before .before .before .before .before .loop .inv) (c .before .before .before .before .next-at .ensures) (c .before .before .next2 .given .1))
+    let c₈ = c .before .before .before .before .before .before .before .before in
+    turn-on (c .before .before .before .before .before .before .before .loop .inv) (c₈ .before .before .before .pre .1)
+    (skipped (c .before .before .before .before .before .before .before .loop .inv) (c .before .before .before .before .next-at .ensures)
+    (c .before .before .next2 .given .1))
     (only-counted refl refl refl (omega arith) (omega arith) (omega arith))
 
 enum-told : tie.Need-enum-told Inv-loop μ-loop
@@ -95,22 +117,38 @@ returns : tie.Need-returns Inv-loop μ-loop
 returns c = record { within = tt; begun = finished (c .before .loop .inv) (c .if1 .taken) }
 
 same-length-3 : tie.Need-same-length-3 Inv-loop μ-loop
-same-length-3 c = begun-units (c .before .before .before .before .before .before .before .before .before .pre .1) (c .before .before .before .before .before .loop .inv .begun)
+same-length-3 c =
+    let c₈ = c .before .before .before .before .before .before .before .before in
+    begun-units (c₈ .before .pre .1) (c .before .before .before .before .before .loop .inv .begun)
 
 same-length-4 : tie.Need-same-length-4 Inv-loop μ-loop
-same-length-4 c = begun-records (c .before .before .before .before .before .before .before .before .before .pre .1) (c .before .before .before .before .before .loop .inv .begun)
+same-length-4 c =
+    let c₈ = c .before .before .before .before .before .before .before .before in
+    begun-records (c₈ .before .pre .1) (c .before .before .before .before .before .loop .inv .begun)
 
 returns-2 : tie.Need-returns-2 Inv-loop μ-loop
-returns-2 c = record { within = c .before .before .before .before .before .loop .inv .inside; begun = kept (c .before .before .before .before .before .loop .inv) (c .before .before .next-at .ensures) (c .enum-told .given .1) }
+returns-2 c = record {
+  within = c .before .before .before .before .before .loop .inv .inside;
+  begun = kept
+      (c .before .before .before .before .before .loop .inv) (c .before .before .next-at .ensures) (c .enum-told .given .1);
+}
 
 same-length-5 : tie.Need-same-length-5 Inv-loop μ-loop
-same-length-5 c = begun-units (c .before .before .before .before .before .before .before .before .before .pre .1) (c .before .before .before .before .before .loop .inv .begun)
+same-length-5 c =
+    let c₈ = c .before .before .before .before .before .before .before .before in
+    begun-units (c₈ .before .pre .1) (c .before .before .before .before .before .loop .inv .begun)
 
 same-length-6 : tie.Need-same-length-6 Inv-loop μ-loop
-same-length-6 c = begun-records (c .before .before .before .before .before .before .before .before .before .pre .1) (c .before .before .before .before .before .loop .inv .begun)
+same-length-6 c =
+    let c₈ = c .before .before .before .before .before .before .before .before in
+    begun-records (c₈ .before .pre .1) (c .before .before .before .before .before .loop .inv .begun)
 
 returns-3 : tie.Need-returns-3 Inv-loop μ-loop
-returns-3 c = record { within = c .before .before .before .before .before .loop .inv .inside; begun = lost (c .before .before .before .before .before .loop .inv) (c .before .before .next-at .ensures) (c .enum-told2 .given .1) }
+returns-3 c = record {
+  within = c .before .before .before .before .before .loop .inv .inside;
+  begun = lost
+      (c .before .before .before .before .before .loop .inv) (c .before .before .next-at .ensures) (c .enum-told2 .given .1);
+}
 
 pub read-on-spec : {M : Type 1} → statement M
 read-on-spec =

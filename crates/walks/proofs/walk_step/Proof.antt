@@ -23,20 +23,27 @@ same-length-2 c = search needs
 
 returns : tie.Need-returns
 returns c =
-    begun-went (c .before .before .before .before .before .before .before .before .before .before .before .before .before .before .pre .2) (rw (c .enum-told .given .1) at (c .before .before .before .before .before .before .before .read-on .ensures .begun))
+    let c₈ = c .before .before .before .before .before .before .before .before in
+    begun-went (c₈ .before .before .before .before .before .before .pre .2)
+    (rw (c .enum-told .given .1) at (c .before .before .before .before .before .before .before .read-on .ensures .begun))
     (part-stays refl (only-counted refl refl refl (omega arith) (omega arith) (omega arith)))
 
 enum-known-end : tie.Need-enum-known-end
 enum-known-end c = search needs
 
 sub-rest : tie.Need-sub-rest
-sub-rest c = let q = rw (c .before .end .given .1) at (c .before .before .before .before .before .before .before .before .read-on .ensures .within) in search needs
+sub-rest c = let q = rw (c .before .end .given .1) at (c .before .before .before .before .before .before .before .before .read-on .ensures .within)
+    in search needs
 
 sub-lay : tie.Need-sub-lay
-sub-lay c = let q = rw (c .before .before .end .given .1) at (c .before .before .before .before .before .before .before .before .before .read-on .ensures .within) in search needs
+sub-lay c =
+    let c₈ = c .before .before .before .before .before .before .before .before in
+    let q = rw (c .before .before .end .given .1) at (c₈ .before .read-on .ensures .within) in search needs
 
 part-lay-start : tie.Need-part-lay-start
-part-lay-start c = rw (c .before .before .end .given .1) at (c .before .before .before .before .before .before .before .before .before .read-on .ensures .within)
+part-lay-start c =
+    let c₈ = c .before .before .before .before .before .before .before .before in
+    rw (c .before .before .end .given .1) at (c₈ .before .read-on .ensures .within)
 
 part-lay-end : tie.Need-part-lay-end
 part-lay-end c = search needs
@@ -55,9 +62,12 @@ same-length-5 c = search needs
 
 returns-2 : tie.Need-returns-2
 returns-2 c =
-    let a = c .before .before .before .before .before .before .before .before .before .before .before .before .before .before .before .before .before .before .before .before .args in
+    let c₈ = c .before .before .before .before .before .before .before .before in
+    let c₁₆ = c₈ .before .before .before .before .before .before .before .before in
+    let a = c₁₆ .before .before .before .before .args in
     let from = c .before .before .before .before .before .before .end .given .0 .0 in
-    begun-went (c .before .before .before .before .before .before .before .before .before .before .before .before .before .before .before .before .before .before .before .before .pre .2) (rw (c .before .before .before .before .before .before .end .given .1) at (c .before .before .before .before .before .before .before .before .before .before .before .before .before .read-on .ensures .begun))
+    begun-went (c₁₆ .before .before .before .before .pre .2) (rw (c .before .before .before .before .before .before .end .given .1) at
+    (c₈ .before .before .before .before .before .read-on .ensures .begun))
     (record {
       handed = only-counted refl refl refl (omega arith) (omega arith) (omega arith);
       part = c .before .before .lay .ensures ∙ ap (laid (a .part .now) 0) (rest-lent (a .zone .now) from);
@@ -68,12 +78,15 @@ enum-known-end-2 : tie.Need-enum-known-end-2
 enum-known-end-2 c = search needs
 
 sub-s : tie.Need-sub-s
-sub-s c = let q = rw (c .before .end2 .given .1) at (c .before .before .before .before .before .before .before .before .read-on .ensures .within) in search needs
+sub-s c = let q = rw (c .before .end2 .given .1) at (c .before .before .before .before .before .before .before .before .read-on .ensures .within)
+    in search needs
 
 add-s : tie.Need-add-s
 add-s c =
-    let n = length-drop (c .before .before .end2 .given .0 .0) (c .before .before .before .before .before .before .before .before .before .before .before .before .before .before .before .before .args .zone .now) in
-    let q = begun-room (c .before .before .before .before .before .before .before .before .before .before .before .before .before .before .before .before .pre .2) (rw (c .before .before .end2 .given .1) at (c .before .before .before .before .before .before .before .before .before .read-on .ensures .begun)) in
+    let c₈ = c .before .before .before .before .before .before .before .before in
+    let n = length-drop (c .before .before .end2 .given .0 .0) (c₈ .before .before .before .before .before .before .before .before .args .zone .now) in
+    let q = begun-room (c₈ .before .before .before .before .before .before .before .before .pre .2)
+    (rw (c .before .before .end2 .given .1) at (c₈ .before .read-on .ensures .begun)) in
     search needs
 
 same-length-6 : tie.Need-same-length-6
@@ -84,8 +97,10 @@ same-length-7 c = search needs
 
 returns-3 : tie.Need-returns-3
 returns-3 c =
-    let n = length-drop (c .before .before .end2 .given .0 .0) (c .before .before .before .before .before .before .before .before .before .before .before .before .before .before .before .before .args .zone .now) in
-    begun-went (c .before .before .before .before .before .before .before .before .before .before .before .before .before .before .before .before .pre .2) (rw (c .before .before .end2 .given .1) at (c .before .before .before .before .before .before .before .before .before .read-on .ensures .begun))
+    let c₈ = c .before .before .before .before .before .before .before .before in
+    let n = length-drop (c .before .before .end2 .given .0 .0) (c₈ .before .before .before .before .before .before .before .before .args .zone .now) in
+    begun-went (c₈ .before .before .before .before .before .before .before .before .pre .2)
+    (rw (c .before .before .end2 .given .1) at (c₈ .before .read-on .ensures .begun))
     (part-stays refl (only-counted refl refl refl (omega arith) (omega arith) (omega arith)))
 
 pub walk-step-spec : {M : Type 1} → statement M
