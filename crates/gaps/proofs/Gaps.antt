@@ -188,7 +188,12 @@ module _ (r : Reader) (c k m : ℕ) (e : m ≡ 256 ^ channel (r .setting) c .oct
   gap-some h = rw e (by-cases gone h)
     where
       state : Reader
-      state = record { setting = r .setting; expects = set (r .expects) c (record { known = true; count = (k + 1) % 256 ^ channel (r .setting) c .octets }); held = r .held }
+      state = record {
+        setting = r .setting;
+        expects = set (r .expects) c
+            (record { known = true; count = (k + 1) % 256 ^ channel (r .setting) c .octets });
+        held = r .held;
+      }
 
       by-cases : (n : ℕ) → (n ≡ 0 → ⊥)
           → record {
@@ -228,5 +233,6 @@ unfolding gap
 gap-small r c k g =
     let n = length-take (r .setting .numbered) (r .setting .lanes) in
     let few = g .setting .numbered in
-    let b = lost-small (its c) (lanesOf (r .setting)) (r .held) (λ i h. omega (arith, g .held i (omega arith), g .setting .lanes i (omega arith) .kind .most)) in
+    let b = lost-small (its c) (lanesOf (r .setting)) (r .held) (λ i h. omega (arith, g .held i (omega arith), g .setting .lanes i (omega arith) .kind .most))
+    in
     gapBy-small _ c _ (omega arith)

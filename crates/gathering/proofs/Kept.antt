@@ -134,7 +134,15 @@ module _ (longest : ℕ) (xs : List ℕ) where
   gathered-ok some =
       let f = fitted longest 32768 xs in
       let l : length (take (gathered longest xs) xs) ≡ gathered longest xs = length-take-le _ xs (f .inside) in
-      rw (l, f .packs, f .short, le-leb 1 (gathered longest xs) (omega arith), le-leb (gathered longest xs) 32768 (f .small), eq-eqb (gathered longest xs) (gathered longest xs) refl)
+      rw (
+        l,
+        f .packs,
+        f .short,
+        le-leb 1 (gathered longest xs) (omega arith),
+        le-leb (gathered longest xs) 32768 (f .small),
+        eq-eqb (gathered longest xs)
+            (gathered longest xs) refl,
+      )
 
   -- The octets left begin with no packet that would still fit.
   pub gathered-full : (n : ℕ) → measure (drop (gathered longest xs) xs) ≡ Packet n → n ≤ length (drop (gathered longest xs) xs) → n ≤ longest

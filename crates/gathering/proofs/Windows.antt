@@ -97,7 +97,8 @@ wrong-window longest w xs h six = ap (λ (m : Measure). wrongOf longest m (lengt
     none : cond (length (take w xs) =? 0) wrong.Nothing wrong.Cut ≡ cond (length xs =? 0) wrong.Nothing wrong.Cut
     none =
         split (length xs) w (λ k. rw (take-all w xs k))
-        (λ k. let l : length (take w xs) ≡ w = length-take-le w xs (omega arith) in rw (l, ne-eqb w 0 (λ q. omega arith), ne-eqb (length xs) 0 (λ q. omega arith)))
+        (λ k. let l : length (take w xs) ≡ w = length-take-le w xs (omega arith) in rw
+        (l, ne-eqb w 0 (λ q. omega arith), ne-eqb (length xs) 0 (λ q. omega arith)))
 
     go : (m : Measure) → wrongOf longest m (length (take w xs)) ≡ wrongOf longest m (length xs)
     go Lacks = none

@@ -82,7 +82,8 @@ module _ (longest z : ℕ) (zp : 0 < z) (zl : z ≤ 4096) (j k : ℕ) (jk : j �
   lane-reads Packets enough ok h =
       let p : Batch longest b = packet-batch longest b ok in
       let l : k * z < length (joined (packets b)) = rw (p .joins) (frame-within z zp b k h) in
-      ap (λ (q : Place). yield (packetLane longest (heldFrom z j 0 (k * z) (packets b)) q (zoneOf Packets z b k))) (points-back z (startFrom (packets b) (k * z) - k * z) zl)
+      ap (λ (q : Place). yield (packetLane longest (heldFrom z j 0 (k * z) (packets b)) q (zoneOf Packets z b k)))
+      (points-back z (startFrom (packets b) (k * z) - k * z) zl)
       ∙ subst
       (λ (x : List ℕ).
       yield (packetLane longest (heldFrom z j 0 (k * z) (packets b)) (inside z (startFrom (packets b) (k * z) - k * z)) (zoneOf Packets z x k))
@@ -91,7 +92,8 @@ module _ (longest z : ℕ) (zp : 0 < z) (zl : z ≤ 4096) (j k : ℕ) (jk : j �
       (packet-lane longest z zp j k jk (omega arith) (packets b) 0 (k * z) (p .wholes) (zero-add (k * z)) l)
   lane-reads Access enough ok h =
       unfold batchOk in
-      ap (λ (q : Place). yield (accessLane longest (ruleOf Access k =? 0b001) (heldFrom z j 0 (k * z) (b ∷ [])) q (zoneOf Access z b k))) (points-back z (length b - 1 - k * z) zl)
+      ap (λ (q : Place). yield (accessLane longest (ruleOf Access k =? 0b001) (heldFrom z j 0 (k * z) (b ∷ [])) q (zoneOf Access z b k)))
+      (points-back z (length b - 1 - k * z) zl)
       ∙ access-lane longest z zp j k jk b (leb-true _ _ (all-at _ 1 ok)) (frame-within z zp b k h)
 
 -- After the last frame nothing is held.

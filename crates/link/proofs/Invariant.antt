@@ -181,7 +181,8 @@ module _ (kind : Kind) (longest z n : ℕ) (zp : 0 < z) (zl : z ≤ 4096) (enoug
           hold = heldAfter n (v .expect) (v .count) (v .hold);
           batch = v .batch;
         }) whole′ flags
-    inv-beside whole′ h = kept (v .number) (r .j) (heldAfter n (v .expect) (v .count) (v .hold)) (v .batch) whole′ (r .since) (λ i l. h i ∙ r .wholly i l) settled
+    inv-beside whole′ h = kept (v .number) (r .j) (heldAfter n (v .expect) (v .count) (v .hold)) (v .batch) whole′ (r .since)
+        (λ i l. h i ∙ r .wholly i l) settled
 
     -- It is the lane's next frame, of the batch b.
     module _ (b : List ℕ) (ok : batchOk kind longest b ≡ true) (turn : (v .number ≡ 0) ⊎ (b ≡ v .batch)) (inside : v .number < frames z b)

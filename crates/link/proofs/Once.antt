@@ -71,7 +71,8 @@ module _ (z : ℕ) (zp : 0 < z) where
       ∙ ap (λ (vs : List (List ℕ)). u ∷ vs) (all-ended us (a + length u) n (f .1) (omega (arith, l)))
 
 -- Of a batch: its units end in its frames, each once and in order.
-pub once : (kind : Kind) (longest z : ℕ) → 0 < z → (b : List ℕ) → batchOk kind longest b ≡ true → ended (frames z b) (spans z 0 (unitsOf kind b)) ≡ unitsOf kind b
+pub once : (kind : Kind) (longest z : ℕ) → 0 < z → (b : List ℕ) → batchOk kind longest b ≡ true → ended (frames z b) (spans z 0 (unitsOf kind b))
+    ≡ unitsOf kind b
 once kind longest z zp b ok =
     let u : Units kind b = units kind longest b ok in
     all-ended z zp (unitsOf kind b) 0 (frames z b) (u .filled) (rw (u .joins) (omega (arith, frame-all z zp b)))

@@ -151,7 +151,8 @@ module _ (longest z : ℕ) (zp : 0 < z) (j k : ℕ) (jk : j ≤ k) where
           ∙ ap (λ (r : Yield). yields (u ∷ r .units) (r .held)) ih
           ∙ sym
           (ap₂ yields
-          (first-within z zp k (λ (i : ℕ). j ≤? i) u us a (omega (arith, s)) (omega arith) ∙ ap (λ (t : Bool). cond t (u ∷ []) [] ++ ends (a + length u) us) (not-lost a h))
+          (first-within z zp k (λ (i : ℕ). j ≤? i) u us a (omega (arith, s)) (omega arith) ∙ ap (λ (t : Bool). cond t (u ∷ []) [] ++ ends (a + length u) us)
+          (not-lost a h))
           (held-past z j a m u us g))
 
       part : m < length u → (n ≡ 0) ⊎ (length (u ++ joined us) ≤ m)
@@ -239,9 +240,12 @@ module _ (longest z : ℕ) (zp : 0 < z) (j k : ℕ) (jk : j ≤ k) where
       goes : z < left → Says (cond live (take o u) []) (inside z left) (zoneFrom o (u ∷ us))
       unfolding packetLane
       goes h =
-          let x : take z (drop o (joined (u ∷ us))) ≡ take z (drop o u) = ap (take z) octets-from ∙ take-append-le z (drop o u) (joined us) (rw left-length (omega arith)) in
+          let x : take z (drop o (joined (u ∷ us))) ≡ take z (drop o u) = ap (take z) octets-from ∙ take-append-le z (drop o u) (joined us)
+          (rw left-length (omega arith)) in
           let l : length (take z (drop o u)) ≡ z = length-take-le z (drop o u) (rw left-length (omega arith)) in
-          let f : take z (drop o (joined (u ∷ us))) ++ filler behind ≡ take z (drop o u) = ap (λ (ys : List ℕ). ys ++ filler (z - length ys)) x ∙ ap (λ (n : ℕ). take z (drop o u) ++ filler (z - n)) l ∙ ap (λ (n : ℕ). take z (drop o u) ++ filler n) (sub-self z) ∙ append-nil (take z (drop o u)) in
+          let f : take z (drop o (joined (u ∷ us))) ++ filler behind ≡ take z (drop o u) = ap (λ (ys : List ℕ). ys ++ filler (z - length ys)) x ∙ ap
+          (λ (n : ℕ). take z (drop o u) ++ filler (z - n)) l ∙ ap (λ (n : ℕ). take z (drop o u) ++ filler n) (sub-self z) ∙ append-nil (take z (drop o u))
+          in
           ap₂ (λ (p : Place) (zs : List ℕ). yield (packetLane longest (cond live (take o u) []) p zs)) (inside-not left (omega arith)) f
           ∙ lead-goes h live
           ∙ sym
@@ -299,10 +303,12 @@ module _ (longest z : ℕ) (zp : 0 < z) (j k : ℕ) (jk : j ≤ k) where
       at-end h =
           let g : left ≤ z = omega arith in
           let n : z - left ≡ 0 = omega arith in
-          let l : length (take z (drop o (joined (u ∷ us)))) ≡ z = length-take-le z (drop o (joined (u ∷ us))) (omega (arith, ap length octets-from, length-append (drop o u) (joined us), left-length)) in
+          let l : length (take z (drop o (joined (u ∷ us)))) ≡ z = length-take-le z (drop o (joined (u ∷ us)))
+          (omega (arith, ap length octets-from, length-append (drop o u) (joined us), left-length)) in
           let f : behind ≡ 0 = omega (arith, l) in
           let none : take (z - left) (joined us) ++ filler behind ≡ [] = ap₂ (λ (i m : ℕ). take i (joined us) ++ filler m) n f in
-          let nil : yields [] [] ≡ yields (ends (a + length u) us) (held (a + length u) (o + z - length u) us) = sym (ap (λ (xs : List ℕ). yield (walk longest xs)) none ∙ walk-fill 0 one) ∙ rest-due g in
+          let nil : yields [] [] ≡ yields (ends (a + length u) us) (held (a + length u) (o + z - length u) us) = sym
+          (ap (λ (xs : List ℕ). yield (walk longest xs)) none ∙ walk-fill 0 one) ∙ rest-due g in
           ap₂ (λ (p : Place) (zs : List ℕ). yield (packetLane longest (cond live (take o u) []) p zs)) (inside-not left (omega arith))
           (zone-ends g ∙ ap (λ (ys : List ℕ). drop o u ++ ys) none ∙ append-nil (drop o u))
           ∙ lead-ends true live
@@ -334,27 +340,34 @@ module _ (longest z : ℕ) (zp : 0 < z) (j k : ℕ) (jk : j ≤ k) where
       (λ h. here o e h)
     where
       past : length u ≤ o
-          → yield (packetLane longest (held (a + length u) (o - length u) us) (inside z (startFrom us (o - length u) - (o - length u))) (zoneFrom (o - length u) us))
+          → yield (packetLane longest (held (a + length u) (o - length u) us) (inside z (startFrom us (o - length u) - (o - length u)))
+          (zoneFrom (o - length u) us))
           ≡ yields (ends (a + length u) us) (held (a + length u) (o - length u + z) us)
-          → yield (packetLane longest (held a o (u ∷ us)) (inside z (startFrom (u ∷ us) o - o)) (zoneFrom o (u ∷ us))) ≡ yields (ends a (u ∷ us)) (held a (o + z) (u ∷ us))
+          → yield (packetLane longest (held a o (u ∷ us)) (inside z (startFrom (u ∷ us) o - o)) (zoneFrom o (u ∷ us))) ≡ yields (ends a (u ∷ us))
+          (held a (o + z) (u ∷ us))
       past h ih =
           let s = w .0 .some in
           let p : startFrom (u ∷ us) o - o ≡ startFrom us (o - length u) - (o - length u) = omega (arith, start-on u us o (omega arith)) in
-          let d : drop o (u ++ joined us) ≡ drop (o - length u) (joined us) = ap (λ (i : ℕ). drop i (u ++ joined us)) (sym (add-sub-of-le h)) ∙ drop-append-add u (joined us) (o - length u) in
+          let d : drop o (u ++ joined us) ≡ drop (o - length u) (joined us) = ap (λ (i : ℕ). drop i (u ++ joined us)) (sym (add-sub-of-le h))
+          ∙ drop-append-add u (joined us) (o - length u) in
           let n : o - length u + z ≡ o + z - length u = omega arith in
           ap₂ (λ (x : List ℕ) (q : Place). yield (packetLane longest x q (zoneFrom o (u ∷ us)))) (held-past z j a o u us h) (ap (inside z) p)
-          ∙ ap (λ (xs : List ℕ). yield (packetLane longest (held (a + length u) (o - length u) us) (inside z (startFrom us (o - length u) - (o - length u))) (take z xs ++ filler (z - length (take z xs))))) d
+          ∙ ap (λ (xs : List ℕ). yield (packetLane longest (held (a + length u) (o - length u) us) (inside z (startFrom us (o - length u) - (o - length u)))
+          (take z xs ++ filler (z - length (take z xs))))) d
           ∙ ih
           ∙ ap (λ (i : ℕ). yields (ends (a + length u) us) (held (a + length u) i us)) n
           ∙ sym (ap₂ yields (first-before z zp k (λ (i : ℕ). j ≤? i) u us a s (omega arith)) (held-past z j a (o + z) u us (omega arith)))
 
       here : (o : ℕ) → a + o ≡ k * z → o < length u
-          → yield (packetLane longest (held a o (u ∷ us)) (inside z (startFrom (u ∷ us) o - o)) (zoneFrom o (u ∷ us))) ≡ yields (ends a (u ∷ us)) (held a (o + z) (u ∷ us))
+          → yield (packetLane longest (held a o (u ∷ us)) (inside z (startFrom (u ∷ us) o - o)) (zoneFrom o (u ∷ us))) ≡ yields (ends a (u ∷ us))
+          (held a (o + z) (u ∷ us))
       here zero e h =
           ap₂ (λ (x : List ℕ) (n : ℕ). yield (packetLane longest x (inside z n) (zoneFrom 0 (u ∷ us))))
           (held-here z j a 0 u us h ∙ either (j ≤? (a / z)) []) (ap (λ (n : ℕ). n - 0) (start-zero (u ∷ us)))
           ∙ starts one u us a 0 w e refl
       here (suc o) e h =
-          let p : startFrom (u ∷ us) (suc o) - suc o ≡ length u - suc o = ap (λ (n : ℕ). n - suc o) (start-on u us (suc o) (omega arith) ∙ ap (λ (n : ℕ). length u + startFrom us n) (sub-eq-zero-of-le (omega arith)) ∙ ap (λ (n : ℕ). length u + n) (start-zero us) ∙ add-zero (length u)) in
+          let p : startFrom (u ∷ us) (suc o) - suc o ≡ length u - suc o = ap (λ (n : ℕ). n - suc o)
+          (start-on u us (suc o) (omega arith) ∙ ap (λ (n : ℕ). length u + startFrom us n) (sub-eq-zero-of-le (omega arith)) ∙ ap
+          (λ (n : ℕ). length u + n) (start-zero us) ∙ add-zero (length u)) in
           ap₂ (λ (x : List ℕ) (n : ℕ). yield (packetLane longest x (inside z n) (zoneFrom (suc o) (u ∷ us)))) (held-here z j a (suc o) u us h) p
           ∙ began one u us a (suc o) w e (omega arith) h

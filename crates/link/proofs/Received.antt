@@ -111,7 +111,8 @@ module _ (s : Setting) (g : Good s) (l : ℕ) (lh : l < s .numbered) where
       n : l < length (lanesOf s)
       n = omega (arith, length-take (s .numbered) (s .lanes), slot)
 
-      go : (t : Bool) → getD (cond t hs (emptied (λ (x : Lane). x .channel =? c) (lanesOf s) hs)) l 0 ≡ cond t (getD hs l 0) (cond (placeOf s l =? c) 0 (getD hs l 0))
+      go : (t : Bool) → getD (cond t hs (emptied (λ (x : Lane). x .channel =? c) (lanesOf s) hs)) l 0 ≡ cond t (getD hs l 0)
+          (cond (placeOf s l =? c) 0 (getD hs l 0))
       go true = refl
       go false =
           emptied-at (λ (x : Lane). x .channel =? c) (lanesOf s) hs l n
@@ -211,7 +212,8 @@ module _ (s : Setting) (es : List Expect) (hs h : List ℕ) (a : Lent) (i v : �
     unfolding read onVerdict readOn
     read-is =
         rw (verdict-cond (reader s es hs) f h (a .units) (a .records), ok, enough-areas h a full lent, back .read)
-        (ap (λ (x : ℕ). laidOut (gap (reader s es hs) c x) i x (madeBy (gap (reader s es hs) c x) i (channelOf s i) f h) h (a .units) (a .records)) (back .count))
+        (ap (λ (x : ℕ). laidOut (gap (reader s es hs) c x) i x (madeBy (gap (reader s es hs) c x) i (channelOf s i) f h) h (a .units) (a .records))
+        (back .count))
 
     made-is : madeBy g i (channelOf s i) f h ≡ made b k
     unfolding madeBy makes
@@ -244,7 +246,9 @@ module _ (s : Setting) (es : List Expect) (hs h : List ℕ) (a : Lent) (i v : �
         below : length ((made b k) .held) ≤ 8192
         below =
             let q = gr .setting .lanes i ih .kind in
-            let p : length ((made b k) .held) < (lane s i) .longest = unfold makes in lane-below ((lane s i) .kind) ((lane s i) .longest) (ruleOf ((lane s i) .kind) k) (holds after h i) (pointsTo (pointerOf ((lane s i) .kind) (zone s (channelOf s i)) b k)) (zoneOf ((lane s i) .kind) (zone s (channelOf s i)) b k) (q .enough) in
+            let p : length ((made b k) .held) < (lane s i) .longest = unfold makes in lane-below ((lane s i) .kind) ((lane s i) .longest)
+            (ruleOf ((lane s i) .kind) k) (holds after h i) (pointsTo (pointerOf ((lane s i) .kind) (zone s (channelOf s i)) b k))
+            (zoneOf ((lane s i) .kind) (zone s (channelOf s i)) b k) (q .enough) in
             omega (arith, p, q .most)
 
     pub read-ready : readerOk (reader s (set es c (expected n v)) (set after i (length ((made b k) .held)))) ≡ true

@@ -187,7 +187,8 @@ module _ (s : Setting) where
   strays-read l r h [] more e q = refl
   strays-read l r h (x ∷ xs) more e q =
       let t : (given (refusals s (x .octets)) ≠? 0) ≡ true = and-left _ _ (and-left _ _ q) in
-      let no : given (refusals (r .setting) (x .octets)) ≢ 0 = λ z. false≢true (sym (ap not (eq-eqb _ 0 (ap (λ (y : Setting). given (refusals y (x .octets))) (sym e) ∙ z))) ∙ t) in
+      let no : given (refusals (r .setting) (x .octets)) ≢ 0 = λ z. false≢true
+      (sym (ap not (eq-eqb _ 0 (ap (λ (y : Setting). given (refusals y (x .octets))) (sym e) ∙ z))) ∙ t) in
       let u = stray r (x .octets) h (x .lent) no in
       ap₂ _++_ (u .none l) (ap₂ (λ (y : Reader) (k : List ℕ). handedOut l (reads y k (xs ++ more))) (u .state) (u .area))
       ∙ strays-read l r h xs more e (and-right (given (refusals s (x .octets)) ≠? 0 && enough (x .lent)) _ q)

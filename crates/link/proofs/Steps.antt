@@ -51,7 +51,8 @@ module _ (s : Setting) (g : Good s) (l : ℕ) (lh : l < s .numbered) where
 
   -- A view by its parts.
   parts : (a a′ b b′ : ℕ) (c c′ : Expect) (d d′ e e′ : List ℕ) → a ≡ a′ → b ≡ b′ → c ≡ c′ → d ≡ d′ → e ≡ e′
-      → _≡_ {A = View} (record { number = a; count = b; expect = c; hold = d; batch = e }) (record { number = a′; count = b′; expect = c′; hold = d′; batch = e′ })
+      → _≡_ {A = View} (record { number = a; count = b; expect = c; hold = d; batch = e })
+      (record { number = a′; count = b′; expect = c′; hold = d′; batch = e′ })
   parts a a′ b b′ c c′ d d′ e e′ p q r t u = λ y. record { number = p y; count = q y; expect = r y; hold = t y; batch = u y }
 
   -- ---- the frame is gone
@@ -94,7 +95,8 @@ module _ (s : Setting) (g : Good s) (l : ℕ) (lh : l < s .numbered) where
 
     hold-other : (theirs ≡ l → ⊥) → holds ((afterKept s st x) .held) ((afterKept s st x) .area) l ≡ holds gap (st .area) l
     unfolding afterKept
-    hold-other n = stored-other gap (st .area) ((madeOf s st x) .held) theirs lane-8 (length-left s _ _ (st .held) ∙ r .held-8) (r .full) small l (λ e. n (sym e))
+    hold-other n = stored-other gap (st .area) ((madeOf s st x) .held) theirs lane-8 (length-left s _ _ (st .held) ∙ r .held-8) (r .full) small l
+        (λ e. n (sym e))
 
     gap-on : placeOf s theirs ≡ placeOf s l
         → holds gap (st .area) l ≡ heldAfter ((channelOf s l) .octets) ((view s l st) .expect) ((view s l st) .count) ((view s l st) .hold)
@@ -189,7 +191,8 @@ module _ (s : Setting) (g : Good s) (st : State) (x : Call) (r : Ready s st) (c 
       (parts s g own lh _ _ _ _ _ _ _ _ _ _ (sym (getD-set-same (st .next) own _ 0 (omega (arith, r .next-8, lane-8 s g own lh st x r c small))))
       (sym (count-on s own st x refl (omega (arith, r .counts-8, channel-8 s g own lh)))) (sym (expect-on s g own lh st x r c small refl))
       (ap (λ (m : Made). m .held) (sym did-is)
-      ∙ sym (stored-here (gap s g own lh st x r c small) (st .area) ((madeOf s st x) .held) own (lane-8 s g own lh st x r c small) (length-left s _ _ (st .held) ∙ r .held-8) (r .full) small))
+      ∙ sym (stored-here (gap s g own lh st x r c small) (st .area) ((madeOf s st x) .held) own (lane-8 s g own lh st x r c small)
+      (length-left s _ _ (st .held) ∙ r .held-8) (r .full) small))
       (sym (ap (λ (t : Bool). cond t (x .batch) (st .last own)) (eq-eqb own own refl))))
       (inv-next _ _ _ _ _ _ _ (view s own st) (clean s own (st .past)) flags known (x .batch) (c .takes .batch) in-turn in-batch whole now else)
 

@@ -82,7 +82,8 @@ pub writer-accepted : (s : Setting) → (setUpWriter s) .outcome ≡ Done → se
 unfolding setUpWriter
 writer-accepted s e = go (settingOk s) e
   where
-    go : (t : Bool) → (cond {A = Sender} t (record { outcome = Done; state = freshWriter s }) (record { outcome = Refused 1; state = noWriter })) .outcome ≡ Done → t ≡ true
+    go : (t : Bool) → (cond {A = Sender} t (record { outcome = Done; state = freshWriter s }) (record { outcome = Refused 1; state = noWriter })) .outcome
+        ≡ Done → t ≡ true
     go true q = refl
     go false q = let z : _≡_ {A = ℕ} 0 1 = cc in absurd (omega arith)
 

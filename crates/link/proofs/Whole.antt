@@ -63,7 +63,8 @@ cut longest (suc n) xs = go (λ k. cut longest n (drop k xs)) (measure xs) refl
 
     more : (k : ℕ) → measure xs ≡ Packet k → k ≤ length xs → (us : List (List ℕ)) → Cut longest (drop k xs) us → Cut longest xs (take k xs ∷ us)
     more k e h us rest =
-        let l : length (take k xs ++ joined us) ≡ k + length (joined us) = length-append (take k xs) (joined us) ∙ ap (λ (i : ℕ). i + length (joined us)) (length-take-le k xs h) in
+        let l : length (take k xs ++ joined us) ≡ k + length (joined us) = length-append (take k xs) (joined us) ∙ ap (λ (i : ℕ). i + length (joined us))
+        (length-take-le k xs h) in
         record {
           front =
               ap (λ (ys : List ℕ). take k xs ++ ys) (rest .front)

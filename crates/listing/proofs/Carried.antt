@@ -61,7 +61,8 @@ carried k r h u c f area r′ h′ u′ c′ area′ end p e l =
       goes = goes-on;
     }
   where
-    goes-on : (n : ℕ) (rest : List ℕ) → linesOf (k + 1 + n) (p .seen ++ f ++ rest) ≡ p .said ++ line k ((read r f h u c) .taken .answer) ++ lines n (k + 1) r′ h′ u′ c′ rest
+    goes-on : (n : ℕ) (rest : List ℕ) → linesOf (k + 1 + n) (p .seen ++ f ++ rest) ≡ p .said ++ line k ((read r f h u c) .taken .answer) ++ lines n
+        (k + 1) r′ h′ u′ c′ rest
     goes-on n rest =
         let o : Got = read r f h u c in
         let m : k + 1 + n ≡ k + suc n = omega arith in
@@ -91,6 +92,8 @@ unfolding GoesOn
 goes-none P = tt
 
 -- The program's set-up stands before the first frame.
-pub begins-from : (s : Setting) (l : Listener) → s ≡ worked packetLane → ReaderStarts s l → Reached 0 (l .state) (replicate heldSize 0) (replicate unitsSize 0) (replicate recordsSize 0)
+pub begins-from : (s : Setting) (l : Listener) → s ≡ worked packetLane → ReaderStarts s l → Reached 0 (l .state) (replicate heldSize 0)
+    (replicate unitsSize 0) (replicate recordsSize 0)
 begins-from s l e q =
-    subst (λ (x : Listener). Reached 0 (x .state) (replicate heldSize 0) (replicate unitsSize 0) (replicate recordsSize 0)) (sym (reader-starts-is s l q ∙ ap setUpReader e)) begins
+    subst (λ (x : Listener). Reached 0 (x .state) (replicate heldSize 0) (replicate unitsSize 0) (replicate recordsSize 0))
+    (sym (reader-starts-is s l q ∙ ap setUpReader e)) begins

@@ -24,7 +24,8 @@ length-opening k = by (k =? 0)
     by true = lit≤ tt
     by false = lit≤ tt
 
-pub put-first : (k : ℕ) (area : List ℕ) (area′ : List ℕ) (end : ℕ) → k ≡ 0 → Put (text "frame answer units missing\n") area 0 area′ end → Put (opening k) area 0 area′ end
+pub put-first : (k : ℕ) (area : List ℕ) (area′ : List ℕ) (end : ℕ) → k ≡ 0 → Put (text "frame answer units missing\n") area 0 area′ end → Put
+    (opening k) area 0 area′ end
 unfolding opening
 put-first k area area′ end z p = subst (λ (t : Bool). Put (cond t (text "frame answer units missing\n") []) area 0 area′ end) (sym (eq-eqb k 0 z)) p
 

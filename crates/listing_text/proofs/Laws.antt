@@ -26,7 +26,8 @@ pub put-then : (xs ys area : List ℕ) (from : ℕ) (area₁ : List ℕ) (at : �
     → from + length xs ≤ length area → Put xs area from area₁ at → Put ys area₁ at area₂ end → Put (xs ++ ys) area from area₂ end
 put-then xs ys area from area₁ at area₂ end room p q =
     record {
-      octets = q .octets ∙ ap (λ (d : List ℕ). laid d at ys) (p .octets) ∙ ap (λ (k : ℕ). laid (laid area from xs) k ys) (p .ends) ∙ laid-laid area from xs room ys;
+      octets = q .octets ∙ ap (λ (d : List ℕ). laid d at ys) (p .octets) ∙ ap (λ (k : ℕ). laid (laid area from xs) k ys) (p .ends)
+          ∙ laid-laid area from xs room ys;
       ends = omega (arith, p .ends, q .ends, length-append xs ys);
     }
 
@@ -85,12 +86,14 @@ length-word Counted = lit≤ tt
 length-word Read = lit≤ tt
 length-word (Refused n) = lit≤ tt
 
-pub put-word : (c d : Class) → c ≡ d → (area : List ℕ) (from : ℕ) (area′ : List ℕ) (end : ℕ) → Put (word d) area from area′ end → Put (word c) area from area′ end
+pub put-word : (c d : Class) → c ≡ d → (area : List ℕ) (from : ℕ) (area′ : List ℕ) (end : ℕ) → Put (word d) area from area′ end → Put
+    (word c) area from area′ end
 put-word c d e area from area′ end p = subst (λ (k : Class). Put (word k) area from area′ end) (sym e) p
 
 -- ---- lines
 
-pub put-front : (k : ℕ) (c : Class) (area : List ℕ) (from : ℕ) (area₁ : List ℕ) (at₁ : ℕ) (area₂ : List ℕ) (at₂ : ℕ) (area₃ : List ℕ) (at₃ : ℕ) (area₄ : List ℕ) (at₄ : ℕ)
+pub put-front : (k : ℕ) (c : Class) (area : List ℕ) (from : ℕ) (area₁ : List ℕ) (at₁ : ℕ) (area₂ : List ℕ) (at₂ : ℕ) (area₃ : List ℕ) (at₃ : ℕ)
+    (area₄ : List ℕ) (at₄ : ℕ)
     → from + 29 ≤ length area
     → Put (decimal k) area from area₁ at₁ → Put (32 ∷ []) area₁ at₁ area₂ at₂ → Put (word c) area₂ at₂ area₃ at₃ → Put (32 ∷ []) area₃ at₃ area₄ at₄
     → Put (front k c) area from area₄ at₄
@@ -110,7 +113,8 @@ length-front k c =
     let l₃ : length (decimal k ++ 32 ∷ [] ++ word c) ≤ 28 = omega (arith, length-append (decimal k ++ 32 ∷ []) (word c), length-word c) in
     omega (arith, length-append (decimal k ++ 32 ∷ [] ++ word c) (32 ∷ []))
 
-pub put-line : (k : ℕ) (a : Answer) (area : List ℕ) (from : ℕ) (area₁ : List ℕ) (at₁ n : ℕ) (area₂ : List ℕ) (at₂ : ℕ) (area₃ : List ℕ) (at₃ : ℕ) (area₄ : List ℕ) (at₄ : ℕ) (area₅ : List ℕ) (at₅ : ℕ)
+pub put-line : (k : ℕ) (a : Answer) (area : List ℕ) (from : ℕ) (area₁ : List ℕ) (at₁ n : ℕ) (area₂ : List ℕ) (at₂ : ℕ) (area₃ : List ℕ) (at₃ : ℕ)
+    (area₄ : List ℕ) (at₄ : ℕ) (area₅ : List ℕ) (at₅ : ℕ)
     → from + 71 ≤ length area → n ≡ amount (a .class) (a .units)
     → Put (front k (a .class)) area from area₁ at₁ → Put (decimal n) area₁ at₁ area₂ at₂ → Put (32 ∷ []) area₂ at₂ area₃ at₃
     → Put (decimal (a .missing)) area₃ at₃ area₄ at₄ → Put (10 ∷ []) area₄ at₄ area₅ at₅

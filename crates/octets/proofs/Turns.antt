@@ -70,7 +70,8 @@ pub number-turn : (s : List ℕ) (i v x : ℕ) → i < length s → x ≡ getD s
 number-turn s i v x h q b e =
     ap (λ (w : ℕ). w % 0x100000000000000 * 256 + x) e ∙ carried (num (take i s)) x b
     ∙ ap (λ (w : ℕ). w % 0x10000000000000000)
-    (ap (λ (y : ℕ). num (take i s) * 256 + y) q ∙ sym (num-more (take i s) (getD s i 0)) ∙ ap num (sym (take-suc s i 0 h) ∙ ap (λ (n : ℕ). take n s) (sym (add-one i))))
+    (ap (λ (y : ℕ). num (take i s) * 256 + y) q ∙ sym (num-more (take i s) (getD s i 0)) ∙ ap num
+    (sym (take-suc s i 0 h) ∙ ap (λ (n : ℕ). take n s) (sym (add-one i))))
 
 pub number-all : (s : List ℕ) (i v : ℕ) → i ≤ length s → length s ≤ i → v ≡ num (take i s) % 2 ^ 64 → v ≡ num s % 2 ^ 64
 number-all s i v h l e = e ∙ ap (λ (xs : List ℕ). num xs % 2 ^ 64) (take-all i s l)
@@ -92,7 +93,13 @@ pub record Spelled (d : List ℕ) (x : ℕ) (dst : List ℕ) (v i : ℕ) : Type 
   pub below : i ≤ length d
 
 pub spell-none : (d : List ℕ) (x : ℕ) → Spelled d x d x (length d)
-spell-none d x = record { done = []; whole = sym (append-nil (be (length d) x)); here = sym (append-nil (take (length d) d) ∙ take-length d); below = omega arith }
+spell-none d x = record {
+  done = [];
+  whole = sym (append-nil (be (length d) x));
+  here = sym
+      (append-nil (take (length d) d) ∙ take-length d);
+  below = omega arith;
+}
 
 one-less : (d : List ℕ) (x : ℕ) (dst : List ℕ) (v i : ℕ) → Spelled d x dst v (suc i) → Spelled d x (set dst i (v % 256)) (v / 256) i
 one-less d x dst v i w =
@@ -101,7 +108,8 @@ one-less d x dst v i w =
       done = v % 256 ∷ w .done;
       whole = w .whole ∙ ap (λ (l : List ℕ). l ++ w .done) (be-more i v) ∙ append-assoc (be i (v / 256)) (v % 256 ∷ []) (w .done);
       here =
-          ap (λ (l : List ℕ). set l i (v % 256)) (w .here ∙ ap (λ (l : List ℕ). l ++ w .done) (take-suc d i 0 h) ∙ append-assoc (take i d) (getD d i 0 ∷ []) (w .done))
+          ap (λ (l : List ℕ). set l i (v % 256)) (w .here ∙ ap (λ (l : List ℕ). l ++ w .done) (take-suc d i 0 h) ∙ append-assoc (take i d) (getD d i 0 ∷ [])
+          (w .done))
           ∙ set-at (take i d) (getD d i 0) (w .done) (v % 256) i (length-take-le i d (omega arith));
       below = omega arith;
     }

@@ -29,7 +29,8 @@ use Rattle.judge.specs.Sights.{readSight}
 use Rattle.judge.proofs.Places.{Fits, fits, lane-eight}
 
 -- A step, laid out: the answer, the state and the three areas of a read. The lane's part is cut out as n octets.
-pub step-laid : (g : Gap) (l k n : ℕ) (m : Made) (h u c : List ℕ) (led : Led) (d′ u′ c′ : List ℕ) → n ≡ partSize → partSize * l + partSize ≤ length h → length (m .held) ≤ 8192
+pub step-laid : (g : Gap) (l k n : ℕ) (m : Made) (h u c : List ℕ) (led : Led) (d′ u′ c′ : List ℕ) → n ≡ partSize → partSize * l + partSize ≤ length h → length
+    (m .held) ≤ 8192
     → Stepped (infoOf (g .state .setting) l k) m (take n (drop (partSize * l) h)) u c led d′ u′ c′
     → (t : Taken) → t ≡ takenOf g l led
     → record { taken = t; heldArea = take (partSize * l) h ++ (d′ ++ drop n (drop (partSize * l) h)); unitArea = u′; recordArea = c′ } ≡ laidOut g l k m h u c
@@ -123,7 +124,8 @@ module _ (g : Gap) (l : ℕ) (f h u c : List ℕ) (o : OnLane g l f h u c) where
     -- The whole read, from the step's own promise.
     pub laid-here : (i : Info) (led : Led) (d′ u′ c′ : List ℕ) (t : Taken) → i ≡ infoFor (lane s l) (channel s (x .channel)) l (x .count)
         → Stepped i made part-cut u c led d′ u′ c′ → t ≡ takenOf g l led
-        → record { taken = t; heldArea = take (partSize * l) h ++ (d′ ++ drop n (drop (partSize * l) h)); unitArea = u′; recordArea = c′ } ≡ readOn g l its f h u c
+        → record { taken = t; heldArea = take (partSize * l) h ++ (d′ ++ drop n (drop (partSize * l) h)); unitArea = u′; recordArea = c′ }
+        ≡ readOn g l its f h u c
     unfolding readOn infoOf
     laid-here i led d′ u′ c′ t ei st et =
         let small = lane-below (lane s l .kind) (lane s l .longest) (x .rule) (take (heldBy (g .state) l) part-cut) (x .place) zone-cut (kind-of .enough) in

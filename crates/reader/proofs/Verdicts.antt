@@ -66,7 +66,8 @@ module _ (r : Reader) (f h u c : List ℕ) where
     pub seen-good : (readerOk r ≡ true) × (x .channel < r .setting .listed) × (x .count < 256 ^ (channel (r .setting) (x .channel)) .octets)
     seen-good = go (x .lane) refl
       where
-        go : (p : Place) → x .lane ≡ p → (readerOk r ≡ true) × (x .channel < r .setting .listed) × (x .count < 256 ^ (channel (r .setting) (x .channel)) .octets)
+        go : (p : Place) → x .lane ≡ p → (readerOk r ≡ true) × (x .channel < r .setting .listed) ×
+            (x .count < 256 ^ (channel (r .setting) (x .channel)) .octets)
         go Nowhere q =
             let w = counted-sight (r .setting) f x (verdict r f h u c) (sym (o .found)) q in
             let k : Ordered r f h u c (Verdict.Counted (x .channel)) = facts (Verdict.Counted (x .channel)) (w .0) in

@@ -84,10 +84,13 @@ module _ (area : List ℕ) (from : ℕ) (xs : List ℕ) (room : from + length xs
   pub laid-laid : (ys : List ℕ) → laid (laid area from xs) (from + length xs) ys ≡ laid area from (xs ++ ys)
   unfolding laid
   laid-laid ys =
-      let behind : drop (from + length xs + length ys) (laid area from xs) ≡ drop (from + length xs + length ys) area = laid-after (from + length xs + length ys) (omega arith) in
+      let behind : drop (from + length xs + length ys) (laid area from xs) ≡ drop (from + length xs + length ys) area = laid-after
+      (from + length xs + length ys) (omega arith) in
       let front : take (from + length xs) (laid area from xs) ≡ take from area ++ xs = take-at (take from area ++ xs) _ (from + length xs) up-to-length in
-      let n : from + length xs + length ys ≡ from + length (xs ++ ys) = add-assoc from (length xs) (length ys) ∙ ap (λ (k : ℕ). from + k) (sym (length-append xs ys)) in
-      ap₂ (λ (p q : List ℕ). p ++ ys ++ q) front behind ∙ ap (λ (p : List ℕ). p ++ drop (from + length xs + length ys) area) (append-assoc (take from area) xs ys)
+      let n : from + length xs + length ys ≡ from + length (xs ++ ys) = add-assoc from (length xs) (length ys) ∙ ap (λ (k : ℕ). from + k)
+      (sym (length-append xs ys)) in
+      ap₂ (λ (p q : List ℕ). p ++ ys ++ q) front behind ∙ ap (λ (p : List ℕ). p ++ drop (from + length xs + length ys) area)
+      (append-assoc (take from area) xs ys)
       ∙ ap (λ (k : ℕ). take from area ++ (xs ++ ys) ++ drop k area) n
 
 -- ---- what is laid into a part of an area, n octets from octet a on, is laid into the whole, a further on
@@ -102,7 +105,8 @@ laid-part area a n from xs inside room =
     sym (drop-append-le (from + length xs) (take n (drop a area)) (drop n (drop a area)) m)
     ∙ ap (drop (from + length xs)) (take-append-drop n (drop a area)) ∙ drop-drop (from + length xs) a area
     ∙ ap (λ (i : ℕ). drop i area) (sym (add-assoc a from (length xs))) in
-    ap (λ (p : List ℕ). take a area ++ (p ++ xs ++ drop (from + length xs) (take n (drop a area)) ++ drop n (drop a area))) (take-take from n (drop a area) (omega arith))
+    ap (λ (p : List ℕ). take a area ++ (p ++ xs ++ drop (from + length xs) (take n (drop a area)) ++ drop n (drop a area)))
+    (take-take from n (drop a area) (omega arith))
     ∙ regroup (take a area) (take from (drop a area)) xs (drop (from + length xs) (take n (drop a area))) (drop n (drop a area))
     ∙ ap₂ (λ (p q : List ℕ). p ++ xs ++ q) (sym (take-add a from area)) behind
   where

@@ -239,7 +239,8 @@ read-valid r f h u c ok = go (verdict r f h u c) (verdict-facts r f h u c)
     go (Verdict.Read l) o =
         unfold onVerdict readOn laidOut in
         let k : ℕ = countIn (channelOf (r .setting) l) f in
-        reader-ok _ (good-held _ (good-gap r (o .good) ((lane (r .setting) l) .channel) k) l _ (made-below r f h l (o .good) (o .judged .numbered) k (channelOf (r .setting) l)))
+        reader-ok _ (good-held _ (good-gap r (o .good) ((lane (r .setting) l) .channel) k) l _
+        (made-below r f h l (o .good) (o .judged .numbered) k (channelOf (r .setting) l)))
 
 -- Units and records of any frame fit 12,288 and 9,600 octets.
 pub record Small (a : Answer) : Type 0 where

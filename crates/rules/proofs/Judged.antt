@@ -125,7 +125,8 @@ module _ (s : Setting) (f : List ℕ) where
       go false x true y z = data-right c l q (o .0) n z
       go false x false y z = absurd (neither 7 49 f x y)
 
-  passed-facts : (p : Place) → Found (λ (c : ℕ). (channel s c) .vc =? vc f && (channel s c) .service =? bypass f) (s .listed) p → Clear s f p → Judged s f (passed s f p)
+  passed-facts : (p : Place) → Found (λ (c : ℕ). (channel s c) .vc =? vc f && (channel s c) .service =? bypass f) (s .listed) p → Clear s f p → Judged s f
+      (passed s f p)
   unfolding passed laneAt
   passed-facts Nowhere o k = tt
   passed-facts (At c) o k = on-channel c (o .0) (eqb-true _ _ (not-false _ (k .row₃))) (laneAt s c (map f)) (first-found _ (s .numbered)) (k .row₁₂)

@@ -144,7 +144,8 @@ both-total : (a b : Made) → a .held ≡ [] → total (both a b) ≡ total a + 
 unfolding total both
 both-total a b h =
     let z : length (a .held) ≡ 0 = ap length h in
-    let j : length (joined (a .units ++ b .units)) ≡ length (joined (a .units)) + length (joined (b .units)) = ap length (joined-append (a .units) (b .units)) ∙ length-append (joined (a .units)) (joined (b .units)) in
+    let j : length (joined (a .units ++ b .units)) ≡ length (joined (a .units)) + length (joined (b .units)) = ap length (joined-append (a .units) (b .units))
+    ∙ length-append (joined (a .units)) (joined (b .units)) in
     omega arith
 
 become-total : (f : Fate) (xs : List ℕ) → total (become f xs) ≡ length xs

@@ -142,7 +142,8 @@ bits-back n fs k rest h o w =
     let f : Field = getD fs k (field 0 0) in
     let bs : List Field = drop (suc k) fs in
     let s : fs ≡ take k fs ++ f ∷ bs = split-at fs k (field 0 0) h in
-    let e : 8 * n - (widths (take k fs) + f .width) ≡ widths bs = exponent (widths fs) (widths (take k fs)) (f .width) (widths bs) n w (ap widths s ∙ widths-append (take k fs) (f ∷ bs)) in
+    let e : 8 * n - (widths (take k fs) + f .width) ≡ widths bs = exponent (widths fs) (widths (take k fs)) (f .width) (widths bs) n w
+    (ap widths s ∙ widths-append (take k fs) (f ∷ bs)) in
     let b : packed fs < 256 ^ n = rw (pow-octets n, ← w) (packed-below fs o) in
     let g : Fit (f ∷ bs) = rw (drop-cons fs k (field 0 0) h) at (fit-drop fs k o) in
     ap (λ (x : List ℕ). num x / 2 ^ (8 * n - (widths (take k fs) + f .width)) % 2 ^ f .width) (take-at (be n (packed fs)) rest n (length-be n (packed fs)))

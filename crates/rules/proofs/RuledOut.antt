@@ -75,7 +75,8 @@ unfolding rules fresh held₀ units₀ madeIn gapIn laneIn channelIn countOf
 first-octet = refl
 
 -- Frame 0 gives one unit; nothing is missing, idle, fill or dropped.
-nothing-lost : classValues Class.Read (gapIn fresh frame₀) (madeIn fresh frame₀ held₀) ≡ record { units = 1; octets = 10; missing = 0; idle = 0; fill = 0; dropped = 0 }
+nothing-lost : classValues Class.Read (gapIn fresh frame₀) (madeIn fresh frame₀ held₀)
+    ≡ record { units = 1; octets = 10; missing = 0; idle = 0; fill = 0; dropped = 0 }
 unfolding rules fresh held₀ classValues madeIn gapIn laneIn channelIn countOf
 nothing-lost = refl
 

@@ -117,7 +117,8 @@ module _ (r : Reader) where
   unfolding gap
   gap-setting c k = go (missing ((channel (r .setting) c) .octets) (expect r c) k)
     where
-      go : (m : ℕ) → (gapBy (record { setting = r .setting; expects = set (r .expects) c (expected ((channel (r .setting) c) .octets) k); held = r .held }) c m) .state .setting ≡ r .setting
+      go : (m : ℕ) → (gapBy (record { setting = r .setting; expects = set (r .expects) c (expected ((channel (r .setting) c) .octets) k); held = r .held }) c
+          m) .state .setting ≡ r .setting
       go zero = unfold gapBy in refl
       go (suc m) = unfold gapBy in refl
 

@@ -171,7 +171,16 @@ module _ (s : Setting) (g : Good s) (l : ℕ) (lh : l < s .numbered) (k : ℕ) (
           omega (arith, gc .vc),
           (
             omega (arith, gl .map),
-            (omega arith, (omega (arith, g .high), (omega (arith, gc .service), (omega arith, (omega arith, (omega (arith, flag-small (c .ocf)), (omega (arith, gc .seven), tt))))))),
+            (
+              omega arith,
+              (
+                omega (arith, g .high),
+                (
+                  omega (arith, gc .service),
+                  (omega arith, (omega arith, (omega (arith, flag-small (c .ocf)), (omega (arith, gc .seven), tt)))),
+                ),
+              ),
+            ),
           ),
         ),
       ),
@@ -238,12 +247,14 @@ module _ (s : Setting) (g : Good s) (l : ℕ) (lh : l < s .numbered) (k : ℕ) (
 
   pub is-count : countIn c whole ≡ k
   unfolding countIn tail
-  is-count = ap (λ (xs : List ℕ). num (take (c .octets) xs)) is-tail ∙ ap num (after-count (c .octets) k insert (dataHeader r (a .upid) p) z ocf ck) ∙ num-be-below (c .octets) k kb
+  is-count = ap (λ (xs : List ℕ). num (take (c .octets) xs)) is-tail ∙ ap num (after-count (c .octets) k insert (dataHeader r (a .upid) p) z ocf ck)
+      ∙ num-be-below (c .octets) k kb
 
   pub is-insert : insertIn s c whole ≡ insert
   unfolding insertIn tail
   is-insert =
-      ap (take (s .insert)) (sym (drop-drop (c .octets) 7 whole) ∙ ap (drop (c .octets)) is-tail ∙ after-insert (c .octets) k insert (dataHeader r (a .upid) p) z ocf ck)
+      ap (take (s .insert)) (sym (drop-drop (c .octets) 7 whole) ∙ ap (drop (c .octets)) is-tail ∙ after-insert (c .octets) k insert
+      (dataHeader r (a .upid) p) z ocf ck)
       ∙ take-at insert _ (s .insert) hi
 
   is-data : dataField s c whole ≡ dataHeader r (a .upid) p ++ (z ++ (ocf ++ ck))
@@ -291,7 +302,14 @@ module _ (s : Setting) (g : Good s) (l : ℕ) (lh : l < s .numbered) (k : ℕ) (
   unfolding checkHolds
   checks b true e h =
       let n : length b ≡ checkAt (length (b ++ be 2 (checkOf b))) = omega (arith, length-append b (be 2 (checkOf b)), length-be 2 (checkOf b)) in
-      rw (e, take-at b (be 2 (checkOf b)) (checkAt (length (b ++ be 2 (checkOf b)))) n, drop-at b (be 2 (checkOf b)) (checkAt (length (b ++ be 2 (checkOf b)))) n, num-be-below 2 (checkOf b) (check-below b), eq-eqb (checkOf b) (checkOf b) refl)
+      rw (
+        e,
+        take-at b (be 2 (checkOf b)) (checkAt (length (b ++ be 2 (checkOf b)))) n,
+        drop-at b (be 2 (checkOf b))
+            (checkAt (length (b ++ be 2 (checkOf b)))) n,
+        num-be-below 2 (checkOf b) (check-below b),
+        eq-eqb (checkOf b) (checkOf b) refl,
+      )
   checks b false e h = rw e
 
   pub is-checked : checkHolds s whole ≡ true
@@ -424,7 +442,8 @@ write-back w l batch ins oc area e =
     let s : Setting = w .setting in
     let k : ℕ = count w ((lane s l) .channel) in
     let x : List ℕ = frameOf s l k batch ins oc (number w l) in
-    let b = read-back s (a .good .setting) l (a .numbered) k (a .good .counts ((lane s l) .channel) (a .good .setting .lanes l (a .numbered) .channel)) ins oc (a .insert) (a .ocf) batch (number w l) in
+    let b = read-back s (a .good .setting) l (a .numbered) k (a .good .counts ((lane s l) .channel) (a .good .setting .lanes l (a .numbered) .channel)) ins oc
+    (a .insert) (a .ocf) batch (number w l) in
     rw z (
       subst (FrameBack s l k batch ins oc (number w l)) (sym (ap (λ (n : ℕ). take n (laid area 0 x)) (sym (b .full)) ∙ laid-front area x)) b,
       ap (λ (n : ℕ). drop n (laid area 0 x)) (sym (b .full)) ∙ laid-behind area x ∙ ap (λ (n : ℕ). drop n area) (b .full),

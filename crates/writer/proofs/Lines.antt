@@ -95,7 +95,8 @@ counting w l x m ok h e f =
 
 pub after-is : (w : Writer) (l : ℕ) (batch : List ℕ) (x : Line) (m n k : ℕ) → writerOk w ≡ true → l < w .setting .numbered → x ≡ lineOf w l
     → m ≡ 256 ^ x .channel .octets % 2 ^ 64 → n ≡ (length batch + (x .zone - 1)) / x .zone → k ≡ numberAfter (x .number) n
-    → _≡_ {A = Writer} (record { setting = w .setting; counts = set (w .counts) (x .place) ((x .count + 1) % m); next = set (w .next) l k }) (writerAfter w l batch)
+    → _≡_ {A = Writer} (record { setting = w .setting; counts = set (w .counts) (x .place) ((x .count + 1) % m); next = set (w .next) l k })
+    (writerAfter w l batch)
 unfolding lineOf writerAfter countAfter frames
 after-is w l batch x m n k ok h e f a b =
     let s = slots w l ok h in
@@ -116,13 +117,15 @@ pub written-is : (w : Writer) (l : ℕ) (batch insert ocf area : List ℕ) (x : 
     → _≡_ {A = Sent} (record { sender = record { outcome = Done; state = t }; area = d }) (write w l batch insert ocf area)
 unfolding write written
 written-is w l batch insert ocf area x t d z e f g =
-    rw (z, f, g, e) (ap (λ (y : List ℕ). record { sender = record { outcome = Done; state = writerAfter w l batch }; area = laid area 0 y }) (same-frame w l batch insert ocf))
+    rw (z, f, g, e) (ap (λ (y : List ℕ). record { sender = record { outcome = Done; state = writerAfter w l batch }; area = laid area 0 y })
+    (same-frame w l batch insert ocf))
 
 pub refused-is : (w : Writer) (l : ℕ) (batch insert ocf area : List ℕ) (n : ℕ) → n ≡ given (writeRefusals w l batch insert ocf area) → (n ≡ 0 → ⊥)
     → _≡_ {A = Sent} (record { sender = record { outcome = Refused n; state = w }; area = area }) (write w l batch insert ocf area)
 unfolding write
 refused-is w l batch insert ocf area n e h = go n h ∙ ap (written w l batch insert ocf area) e
   where
-    go : (n : ℕ) → (n ≡ 0 → ⊥) → _≡_ {A = Sent} (record { sender = record { outcome = Refused n; state = w }; area = area }) (written w l batch insert ocf area n)
+    go : (n : ℕ) → (n ≡ 0 → ⊥) → _≡_ {A = Sent} (record { sender = record { outcome = Refused n; state = w }; area = area })
+        (written w l batch insert ocf area n)
     go zero h = absurd (h refl)
     go (suc n) h = unfold written in refl

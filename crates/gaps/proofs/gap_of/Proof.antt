@@ -26,7 +26,8 @@ element-copy-out-e c = takes (c .before .before .args .t1) (c .before .before .a
 
 missing-of-requires : tie.Need-missing-of-requires
 missing-of-requires c κs =
-    let t = takes (c .before .before .before .args .t1) (c .before .before .before .args .c) (c .before .before .before .pre .0) (c .before .before .before .pre .1) in
+    let t = takes (c .before .before .before .args .t1) (c .before .before .before .args .c) (c .before .before .before .pre .0)
+    (c .before .before .before .pre .1) in
     (t .seven, t .count, c .before .before .before .pre .2)
 
 modulus-requires : tie.Need-modulus-requires
@@ -35,23 +36,27 @@ modulus-requires c κs = search needs
 add-t24 : tie.Need-add-t24
 add-t24 c =
     let b = c .before .before .before .before .before .pre .2 in
-    let d = modulus-small _ (takes (c .before .before .before .before .before .args .t1) (c .before .before .before .before .before .args .c) (c .before .before .before .before .before .pre .0) (c .before .before .before .before .before .pre .1) .seven) in
+    let d = modulus-small _ (takes (c .before .before .before .before .before .args .t1) (c .before .before .before .before .before .args .c)
+    (c .before .before .before .before .before .pre .0) (c .before .before .before .before .before .pre .1) .seven) in
     search needs
 
 rem-t25 : tie.Need-rem-t25
 rem-t25 c =
     let a = c .before .before .before .before .before .args in
-    let e = modulus-is _ _ (takes (c .before .before .before .before .before .args .t1) (c .before .before .before .before .before .args .c) (c .before .before .before .before .before .pre .0) (c .before .before .before .before .before .pre .1) .seven) (c .modulus .ensures) in
+    let e = modulus-is _ _ (takes (c .before .before .before .before .before .args .t1) (c .before .before .before .before .before .args .c)
+    (c .before .before .before .before .before .pre .0) (c .before .before .before .before .before .pre .1) .seven) (c .modulus .ensures) in
     let h = pow256-pos (channel (a .t1 .setting) (a .c) .octets) in
     omega arith
 
 mul-t16 : tie.Need-mul-t16
 mul-t16 c =
-    let q = takes (c .before .before .before .before .before .args .t1) (c .before .before .before .before .before .args .c) (c .before .before .before .before .before .pre .0) (c .before .before .before .before .before .pre .1) .eight in
+    let q = takes (c .before .before .before .before .before .args .t1) (c .before .before .before .before .before .args .c)
+    (c .before .before .before .before .before .pre .0) (c .before .before .before .before .before .pre .1) .eight in
     search needs
 
 element-set-from-t : tie.Need-element-set-from-t
-element-set-from-t c = takes (c .before .before .before .before .before .args .t1) (c .before .before .before .before .before .args .c) (c .before .before .before .before .before .pre .0) (c .before .before .before .before .before .pre .1) .eight
+element-set-from-t c = takes (c .before .before .before .before .before .args .t1) (c .before .before .before .before .before .args .c)
+    (c .before .before .before .before .before .pre .0) (c .before .before .before .before .before .pre .1) .eight
 
 returns : tie.Need-returns
 returns c =
@@ -60,19 +65,24 @@ returns c =
 
 lost-of-requires : tie.Need-lost-of-requires
 lost-of-requires c κs =
-    let t = takes (c .before .before .before .before .before .before .before .args .t1) (c .before .before .before .before .before .before .before .args .c) (c .before .before .before .before .before .before .before .pre .0) (c .before .before .before .before .before .before .before .pre .1) in
+    let t = takes (c .before .before .before .before .before .before .before .args .t1) (c .before .before .before .before .before .before .before .args .c)
+    (c .before .before .before .before .before .before .before .pre .0) (c .before .before .before .before .before .before .before .pre .1) in
     (t .few, t .held)
 
 emptied-of-requires : tie.Need-emptied-of-requires
-emptied-of-requires c κs = takes (c .before .before .before .before .before .before .before .before .args .t1) (c .before .before .before .before .before .before .before .before .args .c) (c .before .before .before .before .before .before .before .before .pre .0) (c .before .before .before .before .before .before .before .before .pre .1) .few
+emptied-of-requires c κs = takes (c .before .before .before .before .before .before .before .before .args .t1)
+    (c .before .before .before .before .before .before .before .before .args .c) (c .before .before .before .before .before .before .before .before .pre .0)
+    (c .before .before .before .before .before .before .before .before .pre .1) .few
 
 returns-2 : tie.Need-returns-2
 returns-2 c =
-    let a = c .before .before .before .before .before .before .before .before .before in
+    let c₈ = c .before .before .before .before .before .before .before .before in
+    let a = c₈ .before in
     let t = takes (a .args .t1) (a .args .c) (a .pre .0) (a .pre .1) in
     let e = c .before .before .before .before .before .missing-of .ensures in
     rw (c .emptied-of .ensures, c .before .lost-of .ensures, e)
-    (gap-some (a .args .t1) (a .args .c) (a .args .k) _ (modulus-is _ _ (t .seven) (c .before .before .before .before .modulus .ensures)) (λ q. c .before .before .before .if1 .left (e ∙ q)))
+    (gap-some (a .args .t1) (a .args .c) (a .args .k) _ (modulus-is _ _ (t .seven) (c .before .before .before .before .modulus .ensures))
+    (λ q. c .before .before .before .if1 .left (e ∙ q)))
 
 pub gap-of-spec : {M : Type 1} → statement M
 gap-of-spec =

@@ -44,7 +44,8 @@ returns c =
 
 returns-2 : tie.Need-returns-2
 unfolding missing
-returns-2 c = ap (λ (b : Bool). cond b ((c .before .args .k + 256 ^ (c .before .args .n) - c .before .args .e .count) % 256 ^ (c .before .args .n)) 0) (sym (c .if1 .left))
+returns-2 c = ap (λ (b : Bool). cond b ((c .before .args .k + 256 ^ (c .before .args .n) - c .before .args .e .count) % 256 ^ (c .before .args .n)) 0)
+    (sym (c .if1 .left))
 
 pub missing-of-spec : {M : Type 1} → statement M
 missing-of-spec =

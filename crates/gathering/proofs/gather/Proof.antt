@@ -86,8 +86,12 @@ loop-again c =
     let told = c .before .before .before .before in
     let top = told .before .before .before .before .before in
     let a = top .before .before .args in
-    let whole = more-here (a .s .now) (top .loop .i) _ (told .before .before .measure-at .ensures) _ (told .m .given .1) (c .before .before .if1 .left) in
-    (search needs, search needs, top .loop .inv .2 ∙ one-more (a .longest) (a .s .now) (top .loop .i) _ (c .before .before .if1 .left) whole (c .before .if2 .left) (c .if3 .left))
+    let whole = more-here (a .s .now) (top .loop .i) _ (told .before .before .measure-at .ensures) _ (told .m .given .1) (c .before .before .if1 .left) in (
+      search needs,
+      search needs,
+      top .loop .inv .2 ∙ one-more (a .longest) (a .s .now) (top .loop .i) _ (c .before .before .if1 .left) whole
+          (c .before .if2 .left) (c .if3 .left),
+    )
 
 returns-5 : tie.Need-returns-5 Inv-loop μ-loop
 returns-5 c =

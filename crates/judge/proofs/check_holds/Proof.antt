@@ -42,7 +42,8 @@ returns c =
     let n = length (a .frame .now) - 2 in
     let t : take (length (a .frame .now) - n) (drop n (a .frame .now)) ≡ drop n (a .frame .now) =
     take-all (length (a .frame .now) - n) (drop n (a .frame .now)) (omega (arith, length-drop n (a .frame .now))) in
-    rw (c .before .before .before .before .if1 .taken, sym (c .before .before .check-of .ensures)) (ap (eqb (c .before .before .check-of .result)) (c .exact .ensures ∙ ap num t))
+    rw (c .before .before .before .before .if1 .taken, sym (c .before .before .check-of .ensures))
+    (ap (eqb (c .before .before .check-of .result)) (c .exact .ensures ∙ ap num t))
 
 returns-2 : tie.Need-returns-2
 unfolding checkHolds

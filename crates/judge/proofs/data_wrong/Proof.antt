@@ -17,11 +17,21 @@ returns c = rw (sym (c .before .before .before .before .rule-fits .ensures) ∙ 
 
 returns-2 : tie.Need-returns-2
 unfolding dataWrongOf
-returns-2 c = rw (sym (c .before .before .before .before .before .before .rule-fits .ensures) ∙ c .before .before .before .before .before .if1 .taken, eq-eqb _ _ (c .before .before .if2 .left), lt-ltb _ _ (c .if3 .taken))
+returns-2 c = rw (
+  sym (c .before .before .before .before .before .before .rule-fits .ensures)
+      ∙ c .before .before .before .before .before .if1 .taken,
+  eq-eqb _ _ (c .before .before .if2 .left),
+  lt-ltb _ _ (c .if3 .taken),
+)
 
 returns-3 : tie.Need-returns-3
 unfolding dataWrongOf
-returns-3 c = rw (sym (c .before .before .before .before .before .before .before .rule-fits .ensures) ∙ c .before .before .before .before .before .before .if1 .taken, eq-eqb _ _ (c .before .before .before .if2 .left), le-ltb _ _ (c .before .if3 .left))
+returns-3 c = rw (
+  sym (c .before .before .before .before .before .before .before .rule-fits .ensures)
+      ∙ c .before .before .before .before .before .before .if1 .taken,
+  eq-eqb _ _ (c .before .before .before .if2 .left),
+  le-ltb _ _ (c .before .if3 .left),
+)
 
 returns-4 : tie.Need-returns-4
 unfolding dataWrongOf

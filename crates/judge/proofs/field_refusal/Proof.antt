@@ -20,11 +20,23 @@ returns-2 c = rw (eq-eqb _ _ (c .before .before .if1 .left), ne-eqb _ _ (c .if2 
 
 returns-3 : tie.Need-returns-3
 unfolding fieldRefusal
-returns-3 c = rw (eq-eqb _ _ (c .before .before .before .before .before .before .if1 .left), eq-eqb _ _ (c .before .before .before .before .if2 .left), eq-eqb _ _ (c .before .before .if3 .taken), eq-eqb _ _ (c .if4 .taken))
+returns-3 c = rw (
+  eq-eqb _ _ (c .before .before .before .before .before .before .if1 .left),
+  eq-eqb _ _
+      (c .before .before .before .before .if2 .left),
+  eq-eqb _ _ (c .before .before .if3 .taken),
+  eq-eqb _ _ (c .if4 .taken),
+)
 
 returns-4 : tie.Need-returns-4
 unfolding fieldRefusal
-returns-4 c = rw (eq-eqb _ _ (c .before .before .before .before .before .before .if1 .left), eq-eqb _ _ (c .before .before .before .before .if2 .left), eq-eqb _ _ (c .before .before .if3 .taken), ne-eqb _ _ (c .if4 .left))
+returns-4 c = rw (
+  eq-eqb _ _ (c .before .before .before .before .before .before .if1 .left),
+  eq-eqb _ _
+      (c .before .before .before .before .if2 .left),
+  eq-eqb _ _ (c .before .before .if3 .taken),
+  ne-eqb _ _ (c .if4 .left),
+)
 
 returns-5 : tie.Need-returns-5
 unfolding fieldRefusal

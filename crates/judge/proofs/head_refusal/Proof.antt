@@ -17,18 +17,37 @@ returns-2 c = rw (eq-eqb _ _ (c .before .before .before .if1 .left), ne-eqb _ _ 
 
 returns-3 : tie.Need-returns-3
 unfolding headRefusal
-returns-3 c = rw (eq-eqb _ _ (c .before .before .before .before .before .before .if1 .left), eq-eqb _ _ (c .before .before .before .if2 .left), ne-eqb _ _ (c .if3 .taken))
+returns-3 c = rw (
+  eq-eqb _ _ (c .before .before .before .before .before .before .if1 .left),
+  eq-eqb _ _ (c .before .before .before .if2 .left),
+  ne-eqb _ _
+      (c .if3 .taken),
+)
 
 returns-4 : tie.Need-returns-4
 unfolding headRefusal
-returns-4 c = rw (eq-eqb _ _ (c .before .before .before .before .before .before .before .before .if1 .left), eq-eqb _ _ (c .before .before .before .before .before .if2 .left), eq-eqb _ _ (c .before .before .if3 .left), eq-eqb _ _ (c .if4 .taken))
+returns-4 c = rw (
+  eq-eqb _ _ (c .before .before .before .before .before .before .before .before .if1 .left),
+  eq-eqb _ _
+      (c .before .before .before .before .before .if2 .left),
+  eq-eqb _ _ (c .before .before .if3 .left),
+  eq-eqb _ _ (c .if4 .taken),
+)
 
 field-refusal-requires : tie.Need-field-refusal-requires
 field-refusal-requires c κs = search needs
 
 returns-5 : tie.Need-returns-5
 unfolding headRefusal
-returns-5 c = rw (eq-eqb _ _ (c .before .before .before .before .before .before .before .before .before .if1 .left), eq-eqb _ _ (c .before .before .before .before .before .before .if2 .left), eq-eqb _ _ (c .before .before .before .if3 .left), ne-eqb _ _ (c .before .if4 .left)) (c .field-refusal .ensures)
+returns-5 c =
+    let c₈ = c .before .before .before .before .before .before .before .before in
+    rw (
+      eq-eqb _ _ (c₈ .before .if1 .left),
+      eq-eqb _ _ (c .before .before .before .before .before .before .if2 .left),
+      eq-eqb _ _
+          (c .before .before .before .if3 .left),
+      ne-eqb _ _ (c .before .if4 .left),
+    ) (c .field-refusal .ensures)
 
 pub head-refusal-spec : {M : Type 1} → statement M
 head-refusal-spec =

@@ -27,7 +27,8 @@ returns c =
     let a = c .before .before .before .before .before .before .args in
     let v = ap (λ (x : Head). x .vc) (c .before .before .before .before .before .before .pre .2) in
     let b = ap (λ (x : Head). x .bypass) (c .before .before .before .before .before .before .pre .2) in
-    let e : channelAt (a .s) (vc (a .frame .now)) (bypass (a .frame .now)) ≡ Nowhere = rw (sym v, sym b) (sym (c .before .before .before .before .channel-at .ensures) ∙ c .before .before .enum-told .given .1) in
+    let e : channelAt (a .s) (vc (a .frame .now)) (bypass (a .frame .now)) ≡ Nowhere = rw (sym v, sym b)
+    (sym (c .before .before .before .before .channel-at .ensures) ∙ c .before .before .enum-told .given .1) in
     let q : judgeChannel (a .s) (a .frame .now) Nowhere ≡ Verdict.Refused 9 = rw (sym v, ne-eqb _ _ (c .if1 .taken)) in
     (ap (sightOf (a .s) (a .frame .now)) (sym (ap (judgeChannel (a .s) (a .frame .now)) e ∙ q)), tt)
 
@@ -37,8 +38,15 @@ enum-known-p c = search needs
 judge-listed-requires : tie.Need-judge-listed-requires
 judge-listed-requires c κs =
     let a = c .before .before .before .before .before .args in
-    let p = c .before .before .before .before .before .pre in
-    (record { ok = p .0; listed = channel-found (a .s) (a .h .vc) (a .h .bypass) _ (sym (c .before .before .before .channel-at .ensures) ∙ c .before .p .given .1); whole = p .1 }, p .2)
+    let p = c .before .before .before .before .before .pre in (
+      record {
+        ok = p .0;
+        listed = channel-found (a .s) (a .h .vc) (a .h .bypass) _
+            (sym (c .before .before .before .channel-at .ensures) ∙ c .before .p .given .1);
+        whole = p .1;
+      },
+      p .2,
+    )
 
 returns-2 : tie.Need-returns-2
 unfolding judgeChannel headOf sightOf
@@ -46,7 +54,8 @@ returns-2 c =
     let a = c .before .before .before .before .before .before .args in
     let v = ap (λ (x : Head). x .vc) (c .before .before .before .before .before .before .pre .2) in
     let b = ap (λ (x : Head). x .bypass) (c .before .before .before .before .before .before .pre .2) in
-    let e : channelAt (a .s) (vc (a .frame .now)) (bypass (a .frame .now)) ≡ Nowhere = rw (sym v, sym b) (sym (c .before .before .before .before .channel-at .ensures) ∙ c .before .before .enum-told .given .1) in
+    let e : channelAt (a .s) (vc (a .frame .now)) (bypass (a .frame .now)) ≡ Nowhere = rw (sym v, sym b)
+    (sym (c .before .before .before .before .channel-at .ensures) ∙ c .before .before .enum-told .given .1) in
     let q : judgeChannel (a .s) (a .frame .now) Nowhere ≡ Verdict.Idle = rw (sym v, eq-eqb _ _ (c .if1 .left)) in
     (ap (sightOf (a .s) (a .frame .now)) (sym (ap (judgeChannel (a .s) (a .frame .now)) e ∙ q)), tt)
 
@@ -54,8 +63,11 @@ returns-3 : tie.Need-returns-3
 unfolding judgeChannel headOf
 returns-3 c =
     let v = ap (λ (x : Head). x .vc) (c .before .before .before .before .before .before .pre .2) in
-    let b = ap (λ (x : Head). x .bypass) (c .before .before .before .before .before .before .pre .2) in
-    (rw (sym v, sym b, sym (c .before .before .before .before .channel-at .ensures), c .before .before .p .given .1) (c .judge-listed .ensures .0), c .judge-listed .ensures .1)
+    let b = ap (λ (x : Head). x .bypass) (c .before .before .before .before .before .before .pre .2) in (
+      rw (sym v, sym b, sym (c .before .before .before .before .channel-at .ensures), c .before .before .p .given .1)
+          (c .judge-listed .ensures .0),
+      c .judge-listed .ensures .1,
+    )
 
 pub judge-channel-spec : {M : Type 1} → statement M
 judge-channel-spec =

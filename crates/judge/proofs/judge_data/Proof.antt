@@ -24,16 +24,20 @@ zone-for-requires : tie.Need-zone-for-requires
 zone-for-requires c κs = search needs
 
 add-at : tie.Need-add-at
-add-at c = let q = fits _ _ (c .before .before .before .before .before .pre .0 .ok) (c .before .before .before .before .before .pre .0 .listed) in omega (arith, q .seven)
+add-at c = let q = fits _ _ (c .before .before .before .before .before .pre .0 .ok) (c .before .before .before .before .before .pre .0 .listed) in omega
+    (arith, q .seven)
 
 add-at-2 : tie.Need-add-at-2
-add-at-2 c = let q = fits _ _ (c .before .before .before .before .before .pre .0 .ok) (c .before .before .before .before .before .pre .0 .listed) in omega (arith, q .seven, q .insert)
+add-at-2 c = let q = fits _ _ (c .before .before .before .before .before .pre .0 .ok) (c .before .before .before .before .before .pre .0 .listed) in omega
+    (arith, q .seven, q .insert)
 
 sub-data-of : tie.Need-sub-data-of
-sub-data-of c = let q = fits _ _ (c .before .before .before .before .before .pre .0 .ok) (c .before .before .before .before .before .pre .0 .listed) in omega (arith, q .inside, c .before .before .before .before .before .pre .0 .whole)
+sub-data-of c = let q = fits _ _ (c .before .before .before .before .before .pre .0 .ok) (c .before .before .before .before .before .pre .0 .listed) in omega
+    (arith, q .inside, c .before .before .before .before .before .pre .0 .whole)
 
 part-data-of-start : tie.Need-part-data-of-start
-part-data-of-start c = let q = fits _ _ (c .before .before .before .before .before .pre .0 .ok) (c .before .before .before .before .before .pre .0 .listed) in omega (arith, q .inside, c .before .before .before .before .before .pre .0 .whole)
+part-data-of-start c = let q = fits _ _ (c .before .before .before .before .before .pre .0 .ok) (c .before .before .before .before .before .pre .0 .listed)
+    in omega (arith, q .inside, c .before .before .before .before .before .pre .0 .whole)
 
 part-data-of-end : tie.Need-part-data-of-end
 part-data-of-end c = search needs
@@ -47,21 +51,27 @@ data-wrong-requires c κs = search needs
 returns : tie.Need-returns
 unfolding sightOf
 returns c =
-    let a = c .before .before .before .before .before .before .before .before .before .args in
-    let e = refused-12 (a .t1) (a .frame .now) (a .c) (a .l) _ _ (c .before .before .before .before .before .zone-for .ensures) (c .before .before .data-of .ensures) _ (c .before .data-wrong .ensures) (c .if1 .taken) in
+    let c₈ = c .before .before .before .before .before .before .before .before in
+    let a = c₈ .before .args in
+    let e = refused-12 (a .t1) (a .frame .now) (a .c) (a .l) _ _ (c .before .before .before .before .before .zone-for .ensures)
+    (c .before .before .data-of .ensures) _ (c .before .data-wrong .ensures) (c .if1 .taken) in
     ap (sightOf (a .t1) (a .frame .now)) (sym e)
 
 points-to-requires : tie.Need-points-to-requires
 points-to-requires c κs = search needs
 
 add-t23 : tie.Need-add-t23
-add-t23 c = let q = fits _ _ (c .before .before .before .before .before .before .before .before .before .before .pre .0 .ok) (c .before .before .before .before .before .before .before .before .before .before .pre .0 .listed) in omega (arith, q .seven, q .insert)
+add-t23 c =
+    let c₈ = c .before .before .before .before .before .before .before .before in
+    let q = fits _ _ (c₈ .before .before .pre .0 .ok) (c₈ .before .before .pre .0 .listed) in omega (arith, q .seven, q .insert)
 
 returns-2 : tie.Need-returns-2
 returns-2 c =
-    let a = c .before .before .before .before .before .before .before .before .before .before .args in
-    let p = c .before .before .before .before .before .before .before .before .before .before .pre in
-    seen-is (a .t1) (a .frame .now) (a .c) (a .l) _ _ (c .before .before .before .before .before .before .zone-for .ensures) (c .before .before .before .data-of .ensures) _ (c .before .before .data-wrong .ensures) (c .before .if1 .left)
+    let c₈ = c .before .before .before .before .before .before .before .before in
+    let a = c₈ .before .before .args in
+    let p = c₈ .before .before .pre in
+    seen-is (a .t1) (a .frame .now) (a .c) (a .l) _ _ (c .before .before .before .before .before .before .zone-for .ensures)
+    (c .before .before .before .data-of .ensures) _ (c .before .before .data-wrong .ensures) (c .before .if1 .left)
     (p .2) (a .k) (p .3) _ (c .points-to .ensures)
 
 pub judge-data-spec : {M : Type 1} → statement M

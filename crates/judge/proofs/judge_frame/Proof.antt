@@ -29,16 +29,34 @@ judge-channel-requires c κs = search needs
 returns-2 : tie.Need-returns-2
 unfolding judgeFrame judgeHead
 returns-2 c =
-    let n = sym (c .before .before .head-refusal .ensures ∙ ap (headRefusal (c .before .before .before .before .before .before .before .before .before .args .s)) (c .before .before .before .head-of .ensures)) ∙ c .before .if3 .taken in (
-      rw (judge-frame, eq-eqb _ _ (c .before .before .before .before .before .before .if1 .left), sym (c .before .before .before .before .before .check-holds .ensures) ∙ c .before .before .before .before .if2 .taken, n) (c .judge-channel .ensures .0),
+    let c₈ = c .before .before .before .before .before .before .before .before in
+    let n = sym (c .before .before .head-refusal .ensures ∙ ap (headRefusal (c₈ .before .args .s)) (c .before .before .before .head-of .ensures))
+    ∙ c .before .if3 .taken in (
+      rw (
+        judge-frame,
+        eq-eqb _ _ (c .before .before .before .before .before .before .if1 .left),
+        sym
+            (c .before .before .before .before .before .check-holds .ensures) ∙ c .before .before .before .before .if2 .taken,
+        n,
+      ) (c .judge-channel .ensures .0),
       c .judge-channel .ensures .1,
     )
 
 returns-3 : tie.Need-returns-3
 unfolding judgeFrame judgeHead sightOf
 returns-3 c =
-    let n = c .before .head-refusal .ensures ∙ ap (headRefusal (c .before .before .before .before .before .before .before .before .args .s)) (c .before .before .head-of .ensures) in
-    (rw (judge-frame, eq-eqb _ _ (c .before .before .before .before .before .if1 .left), sym (c .before .before .before .before .check-holds .ensures) ∙ c .before .before .before .if2 .taken, sym n, ne-eqb _ _ (c .if3 .left)), tt)
+    let n = c .before .head-refusal .ensures ∙ ap (headRefusal (c .before .before .before .before .before .before .before .before .args .s))
+    (c .before .before .head-of .ensures) in (
+      rw (
+        judge-frame,
+        eq-eqb _ _ (c .before .before .before .before .before .if1 .left),
+        sym (c .before .before .before .before .check-holds .ensures)
+            ∙ c .before .before .before .if2 .taken,
+        sym n,
+        ne-eqb _ _ (c .if3 .left),
+      ),
+      tt,
+    )
 
 returns-4 : tie.Need-returns-4
 unfolding judgeFrame sightOf

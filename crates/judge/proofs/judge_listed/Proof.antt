@@ -39,7 +39,8 @@ returns-2 c =
 
 count-in-requires : tie.Need-count-in-requires
 count-in-requires c κs =
-    let q = fits _ _ (c .before .before .before .before .before .before .before .before .pre .0 .ok) (c .before .before .before .before .before .before .before .before .pre .0 .listed) in
+    let q = fits _ _ (c .before .before .before .before .before .before .before .before .pre .0 .ok)
+    (c .before .before .before .before .before .before .before .before .pre .0 .listed) in
     (q .seven, omega (arith, q .inside, c .before .before .before .before .before .before .before .before .pre .0 .whole))
 
 judge-map-requires : tie.Need-judge-map-requires
@@ -48,11 +49,19 @@ judge-map-requires c κs = search needs
 returns-3 : tie.Need-returns-3
 unfolding judgeListed headOf
 returns-3 c =
-    let a = c .before .before .before .before .before .before .before .before .before .before .args in
-    let k = ap (λ (x : Head). x .octets) (c .before .before .before .before .before .before .before .before .before .before .pre .1) in
-    let o = ap (λ (x : Head). x .ocf) (c .before .before .before .before .before .before .before .before .before .before .pre .1) in
+    let c₈ = c .before .before .before .before .before .before .before .before in
+    let a = c₈ .before .before .args in
+    let k = ap (λ (x : Head). x .octets) (c₈ .before .before .pre .1) in
+    let o = ap (λ (x : Head). x .ocf) (c₈ .before .before .pre .1) in
     let n = c .before .count-in .ensures in (
-      rw (sym k, eq-eqb _ _ (c .before .before .before .before .before .if1 .left), sym o, sym (c .before .before .before .before .flag-of .ensures), eq-eqb _ _ (c .before .before .if2 .left)) (c .judge-map .ensures),
+      rw (
+        sym k,
+        eq-eqb _ _ (c .before .before .before .before .before .if1 .left),
+        sym o,
+        sym
+            (c .before .before .before .before .flag-of .ensures),
+        eq-eqb _ _ (c .before .before .if2 .left),
+      ) (c .judge-map .ensures),
       rw (c .judge-map .ensures) (fitting (a .t1) (a .frame .now) (a .c) (omega (arith, n .0, n .1)) (laneAt (a .t1) (a .c) (map (a .frame .now))) refl),
     )
 

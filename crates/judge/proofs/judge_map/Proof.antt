@@ -38,7 +38,13 @@ returns c =
     let m = ap (λ (x : Head). x .map) (p .1) in
     let k = ap (λ (x : Head). x .command) (p .1) in
     let e : judgeMap (a .s) (a .c) (a .frame .now) (laneAt (a .s) (a .c) (map (a .frame .now))) ≡ Verdict.Counted (a .c) =
-    rw (sym (ap (laneAt (a .s) (a .c)) m), sym (c .before .before .before .before .before .before .lane-at .ensures), c .before .before .before .before .p .given .1, sym k, eq-eqb _ _ (c .before .if1 .taken)) in
+    rw (
+      sym (ap (laneAt (a .s) (a .c)) m),
+      sym (c .before .before .before .before .before .before .lane-at .ensures),
+      c .before .before .before .before .p .given .1,
+      sym k,
+      eq-eqb _ _ (c .before .if1 .taken),
+    ) in
     c .counted2 .ensures ∙ counted-is (a .s) (a .frame .now) (a .c) (a .k) (p .2) ∙ ap (sightOf (a .s) (a .frame .now)) (sym e)
 
 judge-data-requires : tie.Need-judge-data-requires
@@ -65,7 +71,13 @@ returns-3 c =
     let p = c .before .before .before .before .before .before .before .before .pre in
     let m = ap (λ (x : Head). x .map) (p .1) in
     let k = ap (λ (x : Head). x .command) (p .1) in
-    rw (sym (ap (laneAt (a .s) (a .c)) m), sym (c .before .before .before .before .before .before .lane-at .ensures), c .before .before .before .before .p .given .1, sym k, ne-eqb _ _ (c .before .if1 .left)) (c .judge-data .ensures)
+    rw (
+      sym (ap (laneAt (a .s) (a .c)) m),
+      sym (c .before .before .before .before .before .before .lane-at .ensures),
+      c .before .before .before .before .p .given .1,
+      sym k,
+      ne-eqb _ _ (c .before .if1 .left),
+    ) (c .judge-data .ensures)
 
 pub judge-map-spec : {M : Type 1} → statement M
 judge-map-spec =

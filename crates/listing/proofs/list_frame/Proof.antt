@@ -18,7 +18,15 @@ put-opening-requires : tie.Need-put-opening-requires
 put-opening-requires c κs = search needs
 
 put-line-requires : tie.Need-put-line-requires
-put-line-requires c κs = omega (arith, length-opening (c .before .before .before .before .before .before .before .before .before .before .before .before .before .before .before .before .before .before .before .before .before .before .args .k), c .before .before .before .put-opening .ensures .ends, c .before .before .before .before .before .before .before .before .before .before .before .before .before .before .before .before .before .before .before .before .before .before .pre .1)
+put-line-requires c κs =
+    let c₈ = c .before .before .before .before .before .before .before .before in
+    let c₁₆ = c₈ .before .before .before .before .before .before .before .before in
+    omega (
+      arith,
+      length-opening (c₁₆ .before .before .before .before .before .before .args .k),
+      c .before .before .before .put-opening .ensures .ends,
+      c₁₆ .before .before .before .before .before .before .pre .1,
+    )
 
 same-length : tie.Need-same-length
 same-length c = search needs
@@ -34,8 +42,13 @@ same-length-4 c = search needs
 
 returns : tie.Need-returns
 returns c =
-    let a = c .before .before .before .before .before .before .before .before .before .before .before .before .before .before .before .before .before .before .before .before .before .before .before .before .before .args in
-    listed (a .k) _ (c .before .before .before .before .before .before .before .before .before .before .before .before .before .before .before .before .read .result) _ _ _ (a .area .now) _ _ _ _ (c .before .before .before .before .before .before .before .before .before .before .before .before .before .before .before .before .before .before .before .before .before .before .before .before .before .pre .1) (read-is _ _ _ _ _ _ (c .before .before .before .before .before .before .before .before .before .before .before .before .before .before .before .before .read .ensures)) (c .before .before .before .before .before .before .put-opening .ensures) (c .before .before .put-line .ensures)
+    let c₈ = c .before .before .before .before .before .before .before .before in
+    let c₁₆ = c₈ .before .before .before .before .before .before .before .before in
+    let c₂₄ = c₁₆ .before .before .before .before .before .before .before .before in
+    let a = c₂₄ .before .args in
+    listed (a .k) _ (c₈ .before .before .before .before .before .before .before .before .read .result) _ _ _ (a .area .now) _ _ _ _ (c₂₄ .before .pre .1)
+    (read-is _ _ _ _ _ _ (c₈ .before .before .before .before .before .before .before .before .read .ensures))
+    (c .before .before .before .before .before .before .put-opening .ensures) (c .before .before .put-line .ensures)
 
 pub list-frame-spec : {M : Type 1} → statement M
 list-frame-spec =

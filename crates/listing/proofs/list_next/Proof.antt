@@ -54,8 +54,12 @@ same-length-3 c = search needs
 
 returns-2 : tie.Need-returns-2
 returns-2 c =
-    let a = c .before .before .before .before .before .before .before .before .before .before .before .before .before .before .before .before .before .before .before .before .before .before .before .args in
-    goes-if _ _ (λ e. carried (a .k) (a .r) (a .held .now) (a .units .now) (a .records .now) _ _ _ _ _ _ _ _ (c .before .before .before .before .before .before .before .before .before .before .before .before .before .before .before .before .before .before .before .before .before .before .before .pre) (sym (c .before .before .before .before .before .before .before .before .before .before .before .before .before .before .before .before .before .before .read-full .ensures .1) ∙ eqb-true _ _ e) (c .before .before .before .before .before .before .before .before .before .before .list-frame .ensures))
+    let c₈ = c .before .before .before .before .before .before .before .before in
+    let c₁₆ = c₈ .before .before .before .before .before .before .before .before in
+    let a = c₁₆ .before .before .before .before .before .before .before .args in
+    goes-if _ _ (λ e. carried (a .k) (a .r) (a .held .now) (a .units .now) (a .records .now) _ _ _ _ _ _ _ _
+    (c₁₆ .before .before .before .before .before .before .before .pre) (sym (c₁₆ .before .before .read-full .ensures .1) ∙ eqb-true _ _ e)
+    (c₈ .before .before .list-frame .ensures))
 
 pub list-next-spec : {M : Type 1} → statement M
 list-next-spec =

@@ -15,7 +15,8 @@ use Rattle.reader.proofs.set_up.Reads as set-up-reads
 use Rattle.rules.specs.Areas.{heldSize, recordsSize, unitsSize}
 
 abbrev Inv-loop : tie.InvT-loop
-Inv-loop held₀ units₀ records₀ state₀ k₀ held units records state k = (length held ≡ heldSize) × (length units ≡ unitsSize) × (length records ≡ recordsSize) × Reached k state held units records
+Inv-loop held₀ units₀ records₀ state₀ k₀ held units records state k = (length held ≡ heldSize) × (length units ≡ unitsSize) × (length records ≡ recordsSize)
+    × Reached k state held units records
 
 abbrev μ-loop : tie.MeasureT-loop
 μ-loop held₀ units₀ records₀ state₀ k₀ held units records state k = 18446744073709551615 - k

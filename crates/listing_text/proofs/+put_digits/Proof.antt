@@ -76,7 +76,8 @@ put-digits-returns-2 : (t : ℕ) → put-digits-lts.Need-returns-2 (
 ) (put-digits-at t) put-digits.Post
 put-digits-returns-2 t c =
     let a = c .before .before .before .before .before .before .before .before .args in
-    put-short (a .n) (a .v) (a .area .now) (a .from) _ _ _ (search needs) (search needs) (c .before .before .before .before .digit .ensures) (c .before .before .put-octet .ensures)
+    put-short (a .n) (a .v) (a .area .now) (a .from) _ _ _ (search needs) (search needs) (c .before .before .before .before .digit .ensures)
+    (c .before .before .put-octet .ensures)
 
 put-digits-sub-put-digits : (t : ℕ) → put-digits-lts.Need-sub-put-digits (
   digit-reads.Asked,
@@ -140,7 +141,9 @@ put-digits-returns-3 : (t : ℕ) → put-digits-lts.Need-returns-3 (
 ) (put-digits-at t) put-digits.Post
 put-digits-returns-3 t c =
     let a = c .before .before .before .before .before .before .before .before .before .before .before .before .args in
-    put-long (a .n) (a .v) (a .area .now) (a .from) _ _ _ _ _ (search needs) (search needs) (search needs) (c .before .before .before .before .digit2 .ensures) (c .before .before .before .before .before .before .before .put-digits .ensures) (c .before .before .put-octet2 .ensures)
+    put-long (a .n) (a .v) (a .area .now) (a .from) _ _ _ _ _ (search needs) (search needs) (search needs)
+    (c .before .before .before .before .digit2 .ensures) (c .before .before .before .before .before .before .before .put-digits .ensures)
+    (c .before .before .put-octet2 .ensures)
 
 pub +put-digits-spec : {M : Type 1} → statement M
 +put-digits-spec = close μ-put-digits λ t. put-digits-lts.spec (

@@ -9,7 +9,8 @@ number-requires : tie.Need-number-requires
 number-requires c κs = search needs
 
 returns : tie.Need-returns
-returns c = exact-number (c .before .before .args .s .now) (c .number .result) (c .before .before .pre) (λ i. omega (arith, c .before .shared-slice-known .given i)) (c .number .ensures)
+returns c = exact-number (c .before .before .args .s .now) (c .number .result) (c .before .before .pre)
+    (λ i. omega (arith, c .before .shared-slice-known .given i)) (c .number .ensures)
 
 pub exact-spec : {M : Type 1} → statement M
 exact-spec = tie.close (tie.spec number-requires returns)

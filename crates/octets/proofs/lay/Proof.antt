@@ -32,7 +32,8 @@ returns c =
     let a = c .before .before .before .before .before .before .args in
     let n = length (a .src .now) in
     ap (putMid (a .from) (a .from + n - a .from) (a .area .now))
-    (c .before .before .copy .ensures ∙ copied-whole (take (a .from + n - a .from) (drop (a .from) (a .area .now))) (a .src .now) (part-long (a .area .now) (a .from) n (search needs)))
+    (c .before .before .copy .ensures ∙ copied-whole (take (a .from + n - a .from) (drop (a .from) (a .area .now))) (a .src .now)
+    (part-long (a .area .now) (a .from) n (search needs)))
     ∙ lent (a .area .now) (a .from) n (a .src .now) refl
 
 pub lay-spec : {M : Type 1} → statement M

@@ -40,8 +40,11 @@ loop-less c = search needs
 loop-again : tie.Need-loop-again Inv-loop μ-loop
 loop-again c =
     let l = c .before .before .before .loop in
-    let s = c .before .before .before .before .before .args .s .now in
-    (search needs, number-turn s (l .i) (l .v) (c .wide .result) (search needs) (c .wide .ensures) (omega (arith, c .wide .ensures, c .before .shared-slice-known2 .given (l .i))) (l .inv .1))
+    let s = c .before .before .before .before .before .args .s .now in (
+      search needs,
+      number-turn s (l .i) (l .v) (c .wide .result) (search needs) (c .wide .ensures)
+          (omega (arith, c .wide .ensures, c .before .shared-slice-known2 .given (l .i))) (l .inv .1),
+    )
 
 returns : tie.Need-returns Inv-loop μ-loop
 returns c = number-all _ _ _ (c .before .loop .inv .0) (search needs) (c .before .loop .inv .1)

@@ -23,7 +23,13 @@ measured-of-requires c κs = search needs
 returns : tie.Need-returns
 returns c =
     c .measured-of .ensures
-    ∙ rw (measure-by, c .before .before .before .before .octet .ensures, c .before .before .before .octet2 .ensures, c .before .before .octet3 .ensures, c .before .octet4 .ensures)
+    ∙ rw (
+      measure-by,
+      c .before .before .before .before .octet .ensures,
+      c .before .before .before .octet2 .ensures,
+      c .before .before .octet3 .ensures,
+      c .before .octet4 .ensures,
+    )
 
 pub measure-at-spec : {M : Type 1} → statement M
 measure-at-spec =

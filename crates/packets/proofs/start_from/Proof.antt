@@ -67,8 +67,11 @@ loop-again c =
     let told = c .before .before in
     let top = told .before .before .before .before .before in
     let a = top .before .before .args in
-    let more = more-here (a .batch .now) (top .loop .i) _ (told .before .before .measure-at .ensures) _ (told .m .given .1) (c .if1 .left) in
-    (search needs, top .loop .inv .1 ∙ start-more (a .batch .now) (a .n) (top .loop .i) (told .before .before .before .before .loop-test .taken) _ (c .if1 .left) more)
+    let more = more-here (a .batch .now) (top .loop .i) _ (told .before .before .measure-at .ensures) _ (told .m .given .1) (c .if1 .left) in (
+      search needs,
+      top .loop .inv .1 ∙ start-more (a .batch .now) (a .n) (top .loop .i) (told .before .before .before .before .loop-test .taken) _
+          (c .if1 .left) more,
+    )
 
 returns-3 : tie.Need-returns-3 Inv-loop μ-loop
 returns-3 c =

@@ -30,7 +30,8 @@ enum-known-v-2 c = search needs
 
 take-seen-requires : tie.Need-take-seen-requires
 take-seen-requires c κs =
-    let a = c .before .before .before .before .before .before .before .before .before .before .before .args in
+    let c₈ = c .before .before .before .before .before .before .before .before in
+    let a = c₈ .before .before .before .args in
     let v = c .before .before .before .before .before .before .sight-of .ensures in
     let e = c .before .before .before .before .v2 .given .1 in
     record { found = sym (sighted (a .r) (a .frame .now) (a .held .now) (a .units .now) (a .records .now) _ (v .0) ∙ e); fits = rw e at (v .1) }
@@ -38,9 +39,11 @@ take-seen-requires c κs =
 returns : tie.Need-returns
 unfolding onVerdict
 returns c =
-    let a = c .before .before .before .before .before .before .before .before .before .args in
+    let c₈ = c .before .before .before .before .before .before .before .before in
+    let a = c₈ .before .args in
     let v = c .before .before .before .before .sight-of .ensures in
-    let e = refused-sight (a .r .setting) (a .frame .now) _ _ (sighted (a .r) (a .frame .now) (a .held .now) (a .units .now) (a .records .now) _ (v .0) ∙ c .before .before .v .given .1) in
+    let e = refused-sight (a .r .setting) (a .frame .now) _ _ (sighted (a .r) (a .frame .now) (a .held .now) (a .units .now) (a .records .now) _ (v .0)
+    ∙ c .before .before .v .given .1) in
     areas-kept (a .r) (a .frame .now) (a .held .now) (a .units .now) (a .records .now) _ _ _ e (c .untouched .ensures) refl
 
 returns-2 : tie.Need-returns-2
@@ -48,7 +51,8 @@ unfolding onVerdict
 returns-2 c =
     let a = c .before .before .before .before .before .before .before .before .args in
     let v = c .before .before .before .sight-of .ensures in
-    let e = idle-sight (a .r .setting) (a .frame .now) _ (sighted (a .r) (a .frame .now) (a .held .now) (a .units .now) (a .records .now) _ (v .0) ∙ c .before .enum-told .given .1) in
+    let e = idle-sight (a .r .setting) (a .frame .now) _ (sighted (a .r) (a .frame .now) (a .held .now) (a .units .now) (a .records .now) _ (v .0)
+    ∙ c .before .enum-told .given .1) in
     areas-kept (a .r) (a .frame .now) (a .held .now) (a .units .now) (a .records .now) _ _ _ e (c .untouched2 .ensures) refl
 
 same-length : tie.Need-same-length

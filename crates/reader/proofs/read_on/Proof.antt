@@ -16,10 +16,15 @@ element-copy-out-a : tie.Need-element-copy-out-a
 element-copy-out-a c = search needs
 
 mul-ch : tie.Need-mul-ch
-mul-ch c = omega (arith, channel-eight _ _ _ _ _ _ (c .before .before .before .before .before .before .before .pre .0) (c .before .before .before .before .before .before .before .args .x) (c .before .before .before .before .before .before .before .pre .1))
+mul-ch c = omega (
+  arith,
+  channel-eight _ _ _ _ _ _ (c .before .before .before .before .before .before .before .pre .0)
+      (c .before .before .before .before .before .before .before .args .x) (c .before .before .before .before .before .before .before .pre .1),
+)
 
 element-copy-out-ch : tie.Need-element-copy-out-ch
-element-copy-out-ch c = channel-eight _ _ _ _ _ _ (c .before .before .before .before .before .before .before .pre .0) (c .before .before .before .before .before .before .before .args .x) (c .before .before .before .before .before .before .before .pre .1)
+element-copy-out-ch c = channel-eight _ _ _ _ _ _ (c .before .before .before .before .before .before .before .pre .0)
+    (c .before .before .before .before .before .before .before .args .x) (c .before .before .before .before .before .before .before .pre .1)
 
 info-for-requires : tie.Need-info-for-requires
 info-for-requires c κs = search needs
@@ -31,7 +36,9 @@ element-copy-out-h : tie.Need-element-copy-out-h
 element-copy-out-h c = search needs
 
 add-end : tie.Need-add-end
-add-end c = let b = c .before .before .before .before .before .before .before .before .before .before .before in omega (arith, inside _ _ _ _ _ _ (b .pre .0) (b .args .x) (b .pre .1) _ _ refl refl, b .pre .0 .reads .whole)
+add-end c =
+    let c₈ = c .before .before .before .before .before .before .before .before in
+    let b = c₈ .before .before .before in omega (arith, inside _ _ _ _ _ _ (b .pre .0) (b .args .x) (b .pre .1) _ _ refl refl, b .pre .0 .reads .whole)
 
 mul-from : tie.Need-mul-from
 mul-from c = search needs
@@ -46,7 +53,9 @@ part-lane-step-start : tie.Need-part-lane-step-start
 part-lane-step-start c = search needs
 
 part-lane-step-end : tie.Need-part-lane-step-end
-part-lane-step-end c = let b = c .before .before .before .before .before .before .before .before .before .before .before in inside _ _ _ _ _ _ (b .pre .0) (b .args .x) (b .pre .1) _ _ refl refl
+part-lane-step-end c =
+    let c₈ = c .before .before .before .before .before .before .before .before in
+    let b = c₈ .before .before .before in inside _ _ _ _ _ _ (b .pre .0) (b .args .x) (b .pre .1) _ _ refl refl
 
 sub-lane-step-2 : tie.Need-sub-lane-step-2
 sub-lane-step-2 c = search needs
@@ -59,7 +68,8 @@ part-lane-step-end-2 c = search needs
 
 lane-step-requires : tie.Need-lane-step-requires
 lane-step-requires c κs =
-    let b = c .before .before .before .before .before .before .before .before .before .before .before .before .before .before .before in
+    let c₈ = c .before .before .before .before .before .before .before .before in
+    let b = c₈ .before .before .before .before .before .before .before in
     let x = b .args .x in
     let m : x .begin + x .size - x .begin ≡ x .size = omega arith in
     let n : partSize * b .args .l + partSize - partSize * b .args .l ≡ partSize = omega arith in
@@ -67,11 +77,17 @@ lane-step-requires c κs =
 
 taken-of-requires : tie.Need-taken-of-requires
 taken-of-requires c κs =
-    let b = c .before .before .before .before .before .before .before .before .before .before .before .before .before .before .before .before .before .before .before .before .before .before in
+    let c₈ = c .before .before .before .before .before .before .before .before in
+    let c₁₆ = c₈ .before .before .before .before .before .before .before .before in
+    let b = c₁₆ .before .before .before .before .before .before in
     let x = b .args .x in
     let m : x .begin + x .size - x .begin ≡ x .size = omega arith in
-    let n : partSize * b .args .l + partSize - partSize * b .args .l ≡ partSize = omega arith in
-    (eight _ _ _ _ _ _ (b .pre .0), b .pre .0 .dropped, few-dropped _ _ _ _ _ _ (b .pre .0) x (b .pre .1) _ _ m n _ (c .before .before .before .before .before .before .lane-step .ensures .dropped))
+    let n : partSize * b .args .l + partSize - partSize * b .args .l ≡ partSize = omega arith in (
+      eight _ _ _ _ _ _ (b .pre .0),
+      b .pre .0 .dropped,
+      few-dropped _ _ _ _ _ _ (b .pre .0) x (b .pre .1) _ _ m n _
+          (c .before .before .before .before .before .before .lane-step .ensures .dropped),
+    )
 
 same-length : tie.Need-same-length
 same-length c = search needs
@@ -84,11 +100,14 @@ same-length-3 c = search needs
 
 returns : tie.Need-returns
 returns c =
-    let b = c .before .before .before .before .before .before .before .before .before .before .before .before .before .before .before .before .before .before .before .before .before .before .before in
+    let c₈ = c .before .before .before .before .before .before .before .before in
+    let c₁₆ = c₈ .before .before .before .before .before .before .before .before in
+    let b = c₁₆ .before .before .before .before .before .before .before in
     let x = b .args .x in
     let m : x .begin + x .size - x .begin ≡ x .size = omega arith in
     let n : partSize * b .args .l + partSize - partSize * b .args .l ≡ partSize = omega arith in
-    laid-here _ _ _ _ _ _ (b .pre .0) x (b .pre .1) _ _ m n _ _ _ _ _ _ (c .before .before .before .before .before .before .before .before .before .before .before .before .before .before .info-for .ensures) (c .before .before .before .before .before .before .before .lane-step .ensures) (c .taken-of .ensures)
+    laid-here _ _ _ _ _ _ (b .pre .0) x (b .pre .1) _ _ m n _ _ _ _ _ _ (c₈ .before .before .before .before .before .before .info-for .ensures)
+    (c .before .before .before .before .before .before .before .lane-step .ensures) (c .taken-of .ensures)
 
 pub read-on-spec : {M : Type 1} → statement M
 read-on-spec =

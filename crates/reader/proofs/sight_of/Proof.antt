@@ -14,13 +14,23 @@ areas-short-requires c κs = search needs
 
 returns : tie.Need-returns
 unfolding sightOf
-returns c = (rw (sym (c .before .before .before .reader-ok .ensures) ∙ c .before .before .if1 .taken, sym (c .before .areas-short .ensures) ∙ c .if2 .taken), tt)
+returns c = (
+  rw (sym (c .before .before .before .reader-ok .ensures) ∙ c .before .before .if1 .taken, sym (c .before .areas-short .ensures) ∙ c .if2 .taken),
+  tt,
+)
 
 judge-frame-requires : tie.Need-judge-frame-requires
 judge-frame-requires c κs = good-reader _ (sym (c .before .before .before .before .reader-ok .ensures) ∙ c .before .before .before .if1 .taken) .ok
 
 returns-2 : tie.Need-returns-2
-returns-2 c = (rw (sym (c .before .before .before .before .before .reader-ok .ensures) ∙ c .before .before .before .before .if1 .taken, sym (c .before .before .before .areas-short .ensures) ∙ c .before .before .if2 .left) (c .judge-frame .ensures .0), c .judge-frame .ensures .1)
+returns-2 c = (
+  rw (
+    sym (c .before .before .before .before .before .reader-ok .ensures) ∙ c .before .before .before .before .if1 .taken,
+    sym
+        (c .before .before .before .areas-short .ensures) ∙ c .before .before .if2 .left,
+  ) (c .judge-frame .ensures .0),
+  c .judge-frame .ensures .1,
+)
 
 returns-3 : tie.Need-returns-3
 unfolding sightOf

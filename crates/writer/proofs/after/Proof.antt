@@ -23,25 +23,40 @@ unfolding lineOf frames
 number-after-requires c κs = rw (c .frames-of .ensures, c .before .before .before .line-of .ensures) (c .before .before .before .before .before .pre .2)
 
 add-t : tie.Need-add-t
-add-t c = let q = counting _ _ _ _ (c .before .before .before .before .before .before .before .pre .0) (c .before .before .before .before .before .before .before .pre .1) (c .before .before .before .before .before .line-of .ensures) (c .before .before .before .modulus .ensures) in omega (arith, q .small)
+add-t c = let q = counting _ _ _ _ (c .before .before .before .before .before .before .before .pre .0)
+    (c .before .before .before .before .before .before .before .pre .1) (c .before .before .before .before .before .line-of .ensures)
+    (c .before .before .before .modulus .ensures) in omega (arith, q .small)
 
 rem-t : tie.Need-rem-t
-rem-t c = counting _ _ _ _ (c .before .before .before .before .before .before .before .pre .0) (c .before .before .before .before .before .before .before .pre .1) (c .before .before .before .before .before .line-of .ensures) (c .before .before .before .modulus .ensures) .some
+rem-t c = counting _ _ _ _ (c .before .before .before .before .before .before .before .pre .0)
+    (c .before .before .before .before .before .before .before .pre .1) (c .before .before .before .before .before .line-of .ensures)
+    (c .before .before .before .modulus .ensures) .some
 
 mul-t : tie.Need-mul-t
-mul-t c = let q = counting _ _ _ _ (c .before .before .before .before .before .before .before .pre .0) (c .before .before .before .before .before .before .before .pre .1) (c .before .before .before .before .before .line-of .ensures) (c .before .before .before .modulus .ensures) in omega (arith, q .place)
+mul-t c = let q = counting _ _ _ _ (c .before .before .before .before .before .before .before .pre .0)
+    (c .before .before .before .before .before .before .before .pre .1) (c .before .before .before .before .before .line-of .ensures)
+    (c .before .before .before .modulus .ensures) in omega (arith, q .place)
 
 element-write-t : tie.Need-element-write-t
-element-write-t c = counting _ _ _ _ (c .before .before .before .before .before .before .before .pre .0) (c .before .before .before .before .before .before .before .pre .1) (c .before .before .before .before .before .line-of .ensures) (c .before .before .before .modulus .ensures) .place
+element-write-t c = counting _ _ _ _ (c .before .before .before .before .before .before .before .pre .0)
+    (c .before .before .before .before .before .before .before .pre .1) (c .before .before .before .before .before .line-of .ensures)
+    (c .before .before .before .modulus .ensures) .place
 
 mul-t-2 : tie.Need-mul-t-2
-mul-t-2 c = let q = counting _ _ _ _ (c .before .before .before .before .before .before .before .pre .0) (c .before .before .before .before .before .before .before .pre .1) (c .before .before .before .before .before .line-of .ensures) (c .before .before .before .modulus .ensures) in omega (arith, q .eight)
+mul-t-2 c = let q = counting _ _ _ _ (c .before .before .before .before .before .before .before .pre .0)
+    (c .before .before .before .before .before .before .before .pre .1) (c .before .before .before .before .before .line-of .ensures)
+    (c .before .before .before .modulus .ensures) in omega (arith, q .eight)
 
 element-write-t-2 : tie.Need-element-write-t-2
-element-write-t-2 c = counting _ _ _ _ (c .before .before .before .before .before .before .before .pre .0) (c .before .before .before .before .before .before .before .pre .1) (c .before .before .before .before .before .line-of .ensures) (c .before .before .before .modulus .ensures) .eight
+element-write-t-2 c = counting _ _ _ _ (c .before .before .before .before .before .before .before .pre .0)
+    (c .before .before .before .before .before .before .before .pre .1) (c .before .before .before .before .before .line-of .ensures)
+    (c .before .before .before .modulus .ensures) .eight
 
 returns : tie.Need-returns
-returns c = after-is _ _ (c .before .before .before .before .before .before .before .args .batch .now) _ _ _ _ (c .before .before .before .before .before .before .before .pre .0) (c .before .before .before .before .before .before .before .pre .1) (c .before .before .before .before .before .line-of .ensures) (c .before .before .before .modulus .ensures) (c .before .before .frames-of .ensures) (c .before .number-after .ensures)
+returns c = after-is _ _ (c .before .before .before .before .before .before .before .args .batch .now) _ _ _ _
+    (c .before .before .before .before .before .before .before .pre .0) (c .before .before .before .before .before .before .before .pre .1)
+    (c .before .before .before .before .before .line-of .ensures) (c .before .before .before .modulus .ensures) (c .before .before .frames-of .ensures)
+    (c .before .number-after .ensures)
 
 pub after-spec : {M : Type 1} → statement M
 after-spec =

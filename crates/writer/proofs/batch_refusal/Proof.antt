@@ -23,10 +23,12 @@ late-refusal-requires c κs = search needs
 returns : tie.Need-returns
 unfolding given batchRefusals lineOf
 returns c =
-    let a = c .before .before .before .before .before .before .before .before .before .args in
+    let c₈ = c .before .before .before .before .before .before .before .before in
+    let a = c₈ .before .args in
     let e = c .before .before .before .before .before .line-of .ensures in
     let k : batchOk ((lane (a .w .setting) (a .l)) .kind) ((lane (a .w .setting) (a .l)) .longest) (a .batch .now) ≡ true =
-    sym (c .before .before .before .batch-ok .ensures ∙ ap (λ (x : Line). batchOk (x .lane .kind) (x .lane .longest) (a .batch .now)) e) ∙ c .before .before .if1 .taken in
+    sym (c .before .before .before .batch-ok .ensures ∙ ap (λ (x : Line). batchOk (x .lane .kind) (x .lane .longest) (a .batch .now)) e)
+    ∙ c .before .before .if1 .taken in
     rw k (c .late-refusal .ensures ∙ ap (λ (x : Line). given (lateRefusals (a .w .setting) x (a .batch .now) (a .insert .now) (a .ocf .now))) e)
 
 returns-2 : tie.Need-returns-2
@@ -34,7 +36,8 @@ unfolding given batchRefusals lineOf
 returns-2 c =
     let a = c .before .before .before .before .before .before .before .args in
     let k : batchOk ((lane (a .w .setting) (a .l)) .kind) ((lane (a .w .setting) (a .l)) .longest) (a .batch .now) ≡ false =
-    sym (c .before .batch-ok .ensures ∙ ap (λ (x : Line). batchOk (x .lane .kind) (x .lane .longest) (a .batch .now)) (c .before .before .before .line-of .ensures)) ∙ c .if1 .left in
+    sym (c .before .batch-ok .ensures ∙ ap (λ (x : Line). batchOk (x .lane .kind) (x .lane .longest) (a .batch .now))
+    (c .before .before .before .line-of .ensures)) ∙ c .if1 .left in
     rw k
 
 pub batch-refusal-spec : {M : Type 1} → statement M

@@ -25,11 +25,27 @@ frames-of-requires c κs = search needs
 
 returns-3 : tie.Need-returns-3
 unfolding given lateRefusals frames
-returns-3 c = rw (eq-eqb _ _ (c .before .before .before .before .before .before .if1 .left), sym (c .before .before .before .before .ocf-octets .ensures), eq-eqb _ _ (c .before .before .before .if2 .left), sym (c .before .before .frames-of .ensures), le-leb _ _ (c .if3 .taken))
+returns-3 c = rw (
+  eq-eqb _ _ (c .before .before .before .before .before .before .if1 .left),
+  sym
+      (c .before .before .before .before .ocf-octets .ensures),
+  eq-eqb _ _ (c .before .before .before .if2 .left),
+  sym
+      (c .before .before .frames-of .ensures),
+  le-leb _ _ (c .if3 .taken),
+)
 
 returns-4 : tie.Need-returns-4
 unfolding given lateRefusals frames
-returns-4 c = rw (eq-eqb _ _ (c .before .before .before .before .before .before .if1 .left), sym (c .before .before .before .before .ocf-octets .ensures), eq-eqb _ _ (c .before .before .before .if2 .left), sym (c .before .before .frames-of .ensures), lt-leb _ _ (c .if3 .left))
+returns-4 c = rw (
+  eq-eqb _ _ (c .before .before .before .before .before .before .if1 .left),
+  sym
+      (c .before .before .before .before .ocf-octets .ensures),
+  eq-eqb _ _ (c .before .before .before .if2 .left),
+  sym
+      (c .before .before .frames-of .ensures),
+  lt-leb _ _ (c .if3 .left),
+)
 
 pub late-refusal-spec : {M : Type 1} → statement M
 late-refusal-spec =

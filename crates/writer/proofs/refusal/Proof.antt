@@ -17,14 +17,29 @@ returns c = rw (sym (c .before .before .before .before .writer-ok .ensures) ∙ 
 
 returns-2 : tie.Need-returns-2
 unfolding given writeRefusals
-returns-2 c = rw (sym (c .before .before .before .before .before .before .writer-ok .ensures) ∙ c .before .before .before .before .before .if1 .taken, le-ltb _ _ (c .before .before .if2 .left), le-leb _ _ (c .if3 .taken))
+returns-2 c = rw (
+  sym (c .before .before .before .before .before .before .writer-ok .ensures)
+      ∙ c .before .before .before .before .before .if1 .taken,
+  le-ltb _ _ (c .before .before .if2 .left),
+  le-leb _ _ (c .if3 .taken),
+)
 
 batch-refusal-requires : tie.Need-batch-refusal-requires
-batch-refusal-requires c κs = (sym (c .before .before .before .before .before .before .writer-ok .ensures) ∙ c .before .before .before .before .before .if1 .taken, c .if3 .left)
+batch-refusal-requires c κs = (
+  sym (c .before .before .before .before .before .before .writer-ok .ensures)
+      ∙ c .before .before .before .before .before .if1 .taken,
+  c .if3 .left,
+)
 
 returns-3 : tie.Need-returns-3
 unfolding given writeRefusals batchRefusals lateRefusals lineOf
-returns-3 c = rw (sym (c .before .before .before .before .before .before .before .writer-ok .ensures) ∙ c .before .before .before .before .before .before .if1 .taken, le-ltb _ _ (c .before .before .before .if2 .left), lt-leb _ _ (c .before .if3 .left)) (c .batch-refusal .ensures)
+returns-3 c = rw (
+  sym (c .before .before .before .before .before .before .before .writer-ok .ensures)
+      ∙ c .before .before .before .before .before .before .if1 .taken,
+  le-ltb _ _ (c .before .before .before .if2 .left),
+  lt-leb _ _ (c .before .if3 .left),
+)
+    (c .batch-refusal .ensures)
 
 returns-4 : tie.Need-returns-4
 unfolding given writeRefusals

@@ -17,11 +17,13 @@ line-of-requires c κs =
     (writer-ok _ (a .good), a .numbered)
 
 put-frame-requires : tie.Need-put-frame-requires
-put-frame-requires c κs = rw (c .before .before .line-of .ensures) (ready _ _ _ _ _ _ (none-refused _ _ _ _ _ _ (sym (c .before .before .before .before .refusal .ensures) ∙ c .before .before .before .if1 .taken)))
+put-frame-requires c κs = rw (c .before .before .line-of .ensures) (ready _ _ _ _ _ _
+    (none-refused _ _ _ _ _ _ (sym (c .before .before .before .before .refusal .ensures) ∙ c .before .before .before .if1 .taken)))
 
 after-requires : tie.Need-after-requires
 after-requires c κs =
-    let a = none-refused _ _ _ _ _ _ (sym (c .before .before .before .before .before .before .before .refusal .ensures) ∙ c .before .before .before .before .before .before .if1 .taken) in
+    let a = none-refused _ _ _ _ _ _ (sym (c .before .before .before .before .before .before .before .refusal .ensures)
+    ∙ c .before .before .before .before .before .before .if1 .taken) in
     (writer-ok _ (a .good), a .numbered, a .below)
 
 same-length : tie.Need-same-length
@@ -29,9 +31,14 @@ same-length c = search needs
 
 returns : tie.Need-returns
 returns c =
-    let a = c .before .before .before .before .before .before .before .before .before .before .before .before .before .before .args in
+    let c₈ = c .before .before .before .before .before .before .before .before in
+    let a = c₈ .before .before .before .before .before .before .args in
     write-by (a .w) (a .l) (a .batch .now) (a .insert .now) (a .ocf .now) (a .area .now) _
-    (written-is (a .w) (a .l) (a .batch .now) (a .insert .now) (a .ocf .now) (a .area .now) (c .before .before .before .before .before .before .line-of .result) (c .after .result) _ (sym (c .before .before .before .before .before .before .before .before .refusal .ensures) ∙ c .before .before .before .before .before .before .before .if1 .taken) (c .before .before .before .before .before .before .line-of .ensures) (c .after .ensures) (c .before .before .before .put-frame .ensures))
+    (written-is (a .w) (a .l) (a .batch .now) (a .insert .now) (a .ocf .now) (a .area .now)
+    (c .before .before .before .before .before .before .line-of .result) (c .after .result) _
+    (sym (c .before .before .before .before .before .before .before .before .refusal .ensures)
+    ∙ c .before .before .before .before .before .before .before .if1 .taken) (c .before .before .before .before .before .before .line-of .ensures)
+    (c .after .ensures) (c .before .before .before .put-frame .ensures))
 
 same-length-2 : tie.Need-same-length-2
 same-length-2 c = search needs
@@ -40,7 +47,8 @@ returns-2 : tie.Need-returns-2
 returns-2 c =
     let a = c .before .before .before .before .before .before .before .args in
     write-by (a .w) (a .l) (a .batch .now) (a .insert .now) (a .ocf .now) (a .area .now) _
-    (refused-is (a .w) (a .l) (a .batch .now) (a .insert .now) (a .ocf .now) (a .area .now) (c .before .refusal .result) (c .before .refusal .ensures) (c .if1 .left))
+    (refused-is (a .w) (a .l) (a .batch .now) (a .insert .now) (a .ocf .now) (a .area .now) (c .before .refusal .result) (c .before .refusal .ensures)
+    (c .if1 .left))
 
 pub write-spec : {M : Type 1} → statement M
 write-spec =
