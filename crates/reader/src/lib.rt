@@ -2,7 +2,7 @@
 ghost use mathlib.Core.Path.{_≡_};
 ghost use Prim.Native.Nat.{_≤_, _<_};
 ghost use Rattle.rules.specs.Settings.{channelOf};
-ghost use Rattle.rules.specs.Calls.{readOn, bare};
+ghost use Rattle.rules.specs.Calls.{readOn, bare, verdict};
 ghost use Rattle.rules.specs.Promises.{ReaderStarts, ReadGives};
 ghost use Rattle.judge.specs.Sights.{readSight, sightOf, Fitting};
 ghost use Rattle.reader.specs.Reads.{infoFor, takenOf, countedOf, shortOf, verdictOf, OnLane, SeenOn};
@@ -22,6 +22,7 @@ use rules::Place;
 use rules::Reader;
 use rules::Setting;
 use rules::Taken;
+use rules::Verdict;
 
 // ---- what a lane makes of a frame
 
@@ -209,11 +210,18 @@ fn take_seen(
     }
 }
 
-// Reads one frame into the areas lent, or refuses it and changes nothing.
-pub fn read(r: Reader, frame: &[u8], held: &mut [u8], units: &mut [u8], records: &mut [u8]) -> Taken
+// Does what the checks' finding v asks for.
+fn act_on(
+    v: Sighting,
+    r: Reader,
+    frame: &[u8],
+    held: &mut [u8],
+    units: &mut [u8],
+    records: &mut [u8],
+) -> Taken
+    requires { ⌜ (v ≡ sightOf (r .setting) (now frame) (verdict r (now frame) (now held) (now units) (now records))) × Fitting (r .setting) v ⌝ }
     ensures { λ t. ⌜ ReadGives r (now (frame .entry)) (now (held .entry)) (now (units .entry)) (now (records .entry)) t (now (held .exit)) (now (units .exit)) (now (records .exit)) ⌝ }
 {
-    let v = sight_of(r, frame, held.len(), units.len(), records.len());
     match v {
         Sighting::Refused(n) => {
             let class = Class::Refused(n);
@@ -225,4 +233,38 @@ pub fn read(r: Reader, frame: &[u8], held: &mut [u8], units: &mut [u8], records:
         }
         Sighting::Seen(x) => take_seen(r, x, frame, held, units, records),
     }
+}
+
+// A read, and whose the frame is: what the checks say of it.
+pub struct Whose {
+    pub taken: Taken,
+    pub verdict: Verdict,
+}
+
+// Reads one frame into the areas lent, or refuses it and changes nothing; and says whose it is.
+pub fn read_whose(
+    r: Reader,
+    frame: &[u8],
+    held: &mut [u8],
+    units: &mut [u8],
+    records: &mut [u8],
+) -> Whose
+    ensures { λ t. ⌜ ReadGives r (now (frame .entry)) (now (held .entry)) (now (units .entry)) (now (records .entry)) (t .taken) (now (held .exit)) (now (units .exit)) (now (records .exit)) × (t .verdict ≡ verdict r (now (frame .entry)) (now (held .entry)) (now (units .entry)) (now (records .entry))) ⌝ }
+{
+    let v = sight_of(r, frame, held.len(), units.len(), records.len());
+    let whose = judge::verdict_of(v);
+    let t = act_on(v, r, frame, held, units, records);
+    Whose {
+        taken: t,
+        verdict: whose,
+    }
+}
+
+// Reads one frame into the areas lent, or refuses it and changes nothing.
+pub fn read(r: Reader, frame: &[u8], held: &mut [u8], units: &mut [u8], records: &mut [u8]) -> Taken
+    ensures { λ t. ⌜ ReadGives r (now (frame .entry)) (now (held .entry)) (now (units .entry)) (now (records .entry)) t (now (held .exit)) (now (units .exit)) (now (records .exit)) ⌝ }
+{
+    let t = read_whose(r, frame, held, units, records);
+    let taken = t.taken;
+    taken
 }
