@@ -62,13 +62,13 @@ fn put_data(area: &mut [u8], from: usize, kind: Kind, upid: u8, z: usize, batch:
     requires { ⌜ (i * z < length (now batch)) × (z ≤ 4096) × (from + 3 + z ≤ length (now area)) ⌝ }
     ensures { λ _. ⌜ now (area .exit) ≡ laid (now (area .entry)) from (dataHeader (ruleOf kind i) upid (pointerOf kind z (now (batch .entry)) i) ++ zoneOf kind z (now (batch .entry)) i) ⌝ }
 {
-    let rule = packets::rule_of(kind, i);
-    let pointer = packets::pointer_of(kind, z, batch, i);
+    let rule = batches::rule_of(kind, i);
+    let pointer = batches::pointer_of(kind, z, batch, i);
     let h = header::data_header_of(rule, upid, pointer);
     octets::lay_number(area, from, 3, h);
     let a = i * z;
     let e = piece_end(a, z, batch.len());
-    let x = packets::fill_of(kind);
+    let x = batches::fill_of(kind);
     put_zone(area, from + 3, &batch[a..e], z, x);
 }
 

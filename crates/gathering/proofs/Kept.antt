@@ -17,7 +17,7 @@ use Rattle.rules.specs.Packets.{measured, measure, whole, packetsUpTo, packets}
 use Rattle.rules.specs.Writing.{noneAbove, batchOk}
 use Rattle.rules.proofs.Tests.{split, and-left, and-right}
 use Rattle.rules.proofs.Measures.{measure-take, packet-long}
-use Rattle.packets.proofs.Batches.{packets-front}
+use Rattle.batches.proofs.Batches.{packets-front}
 use Rattle.gathering.specs.Gathering.{fitting, gathered}
 
 -- ---- one packet

@@ -5,14 +5,15 @@ ghost use Prim.Native.Nat.{_≤_, _<_};
 ghost use lib.ListN.{length};
 ghost use Rattle.rules.specs.Settings.{channel, lane, settingOk};
 ghost use Rattle.rules.specs.Octets.{flag};
-ghost use Rattle.rules.specs.Frames.{vc, map, bypass, countIn, checkHolds};
-ghost use Rattle.rules.specs.Refusals.{channelAt, laneAt, judge};
+ghost use Rattle.rules.specs.Frames.{vc, map, bypass, countIn, pointsTo, checkHolds};
+ghost use Rattle.rules.specs.Refusals.{channelAt, laneAt, ruleFits, judge};
 ghost use Rattle.header.specs.Heads.{headOf};
 ghost use Rattle.judge.specs.Judging.{dataWrongOf, judgeData, judgeMap, judgeListed, judgeChannel, fieldRefusal, headRefusal};
 ghost use Rattle.judge.specs.Sights.{OnChannel, countedSight, sightOf, verdictIn, Fitting};
 ghost use Rattle.judge.specs.declared.Sighting.the-variants.{Seen};
 use header::Data;
 use header::Head;
+use rules::Kind;
 use rules::Lane;
 use rules::Place;
 use rules::Setting;
@@ -35,6 +36,31 @@ pub enum Sighting {
     Refused(u8),
     Idle,
     Seen(Sight),
+}
+
+// Whether a construction rule is one of this kind of lane's.
+fn rule_fits(kind: Kind, rule: u8) -> bool
+    ensures { λ r. ⌜ r ≡ ruleFits kind rule ⌝ }
+{
+    match kind {
+        Kind::Packets => rule == 0b000,
+        Kind::Access => {
+            if rule == 0b001 {
+                return true;
+            }
+            rule == 0b010
+        }
+    }
+}
+
+// The place that a pointer points to.
+fn points_to(p: usize) -> Place
+    ensures { λ r. ⌜ r ≡ pointsTo p ⌝ }
+{
+    if p == 0xFFFF {
+        return Place::Nowhere;
+    }
+    Place::At(p)
 }
 
 // Whether the frame check holds.
@@ -95,7 +121,7 @@ fn data_wrong(a: Lane, z: usize, d: Data) -> bool
     ensures { λ r. ⌜ r ≡ dataWrongOf a z d ⌝ }
 {
     let kind = a.kind;
-    let fits = packets::rule_fits(kind, d.rule);
+    let fits = rule_fits(kind, d.rule);
     if fits {
         if d.upid != a.upid {
             return true;
@@ -123,7 +149,7 @@ fn judge_data(s: Setting, c: usize, l: usize, k: u64, frame: &[u8]) -> Sighting
         return Sighting::Refused(12);
     }
     let on = Place::At(l);
-    let place = packets::points_to(d.pointer);
+    let place = points_to(d.pointer);
     Sighting::Seen(Sight {
         channel: c,
         lane: on,

@@ -58,7 +58,7 @@ fn lead_step(
     ensures { λ r. ⌜ Went info t (now (units .entry)) (now (records .entry)) (now (part .entry)) (lead longest on (take h (now (part .entry))) (now (next .entry))) r (now (units .exit)) (now (records .exit)) (now (part .exit)) ⌝ }
 {
     let m = measure_of(&part[..h], next);
-    let fate = packets::lead_fate(longest, on, m, h, next.len());
+    let fate = fates::lead_fate(longest, on, m, h, next.len());
     handing::settle(fate, part, h, next, info, t, units, records)
 }
 
@@ -108,10 +108,10 @@ fn portion_step(
     if begins {
         let mut s = t;
         s.dropped = s.dropped + h;
-        let fate = packets::unit_fate(longest, finished, next.len());
+        let fate = fates::unit_fate(longest, finished, next.len());
         return handing::settle(fate, part, 0, next, info, s, units, records);
     }
-    let fate = packets::follow_fate(longest, finished, h, next.len());
+    let fate = fates::follow_fate(longest, finished, h, next.len());
     handing::settle(fate, part, h, next, info, t, units, records)
 }
 

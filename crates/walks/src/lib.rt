@@ -29,7 +29,7 @@ fn next_at(longest: usize, octets: &[u8]) -> Next
     ensures { λ r. ⌜ r ≡ nextOf longest (measure (now (octets .entry))) (length (now (octets .entry))) ⌝ }
 {
     let m = packets::measure_at(octets);
-    packets::next_of(longest, m, octets.len())
+    fates::next_of(longest, m, octets.len())
 }
 
 // From octet `from` on, reads one packet after another.

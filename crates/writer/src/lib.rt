@@ -55,7 +55,7 @@ fn after(w: Writer, l: usize, batch: &[u8]) -> Writer
     let x = line_of(w, l);
     let c = x.channel;
     let m = octets::modulus(c.octets);
-    let n = packets::frames_of(x.zone, batch.len());
+    let n = batches::frames_of(x.zone, batch.len());
     let k = number_after(x.number, n);
     let p = x.place;
     let mut t = w;
@@ -78,7 +78,7 @@ fn late_refusal(s: Setting, x: Line, batch: &[u8], insert: &[u8], ocf: &[u8]) ->
     if ocf.len() != o {
         return 15;
     }
-    let n = packets::frames_of(x.zone, batch.len());
+    let n = batches::frames_of(x.zone, batch.len());
     if n <= x.number {
         return 16;
     }
@@ -93,7 +93,7 @@ fn batch_refusal(w: Writer, l: usize, batch: &[u8], insert: &[u8], ocf: &[u8]) -
     let x = line_of(w, l);
     let a = x.lane;
     let kind = a.kind;
-    let keeps = packets::batch_ok(kind, a.longest, batch);
+    let keeps = batches::batch_ok(kind, a.longest, batch);
     if keeps {
         let s = w.setting;
         return late_refusal(s, x, batch, insert, ocf);

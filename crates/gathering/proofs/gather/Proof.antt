@@ -4,7 +4,7 @@ use Prim.Native.Nat.{_+_, _-_, _≤_}
 use native.Mathlib.Omega.{arith}
 use lib.ListN.{length}
 use borrow.Author.Needs.{needs}
-use Rattle.packets.proofs.Batches.{none-here, long-here, cut-here, more-here}
+use Rattle.batches.proofs.Batches.{none-here, long-here, cut-here, more-here}
 use Rattle.gathering.specs.Gathering.{gathered}
 use Rattle.gathering.proofs.Turns.{more, from-none, at-end, no-packet, too-long, no-room, one-more}
 use Rattle.gathering.proofs.gather.Statement.{statement}

@@ -1,0 +1,3 @@
+-- Laws that the functions' proofs cite.
+pub mod Batches
+pub mod Zones

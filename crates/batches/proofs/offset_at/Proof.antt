@@ -1,0 +1,60 @@
+-- A difference that the rules cut off at 0 is 0 where its first number is not above its second.
+use native.Mathlib.Nat.{mul-one}
+use native.Mathlib.Omega.{arith}
+use borrow.Author.Needs.{needs}
+use Rattle.rules.specs.Writing.{offsetOf}
+use Rattle.batches.proofs.offset_at.Statement.{statement}
+use Rattle.batches.proofs.offset_at.Tie as tie
+
+enum-told : tie.Need-enum-told
+enum-told c = search needs
+
+start-from-requires : tie.Need-start-from-requires
+start-from-requires c κs = search needs
+
+returns : tie.Need-returns
+unfolding offsetOf
+returns c =
+    let from = c .before .before .before .before .before .args .from in
+    rw (c .before .before .enum-told .given .1, mul-one from) (omega (arith, c .before .start-from .ensures))
+
+sub-result : tie.Need-sub-result
+sub-result c = search needs
+
+enum-told-2 : tie.Need-enum-told-2
+enum-told-2 c = search needs
+
+returns-2 : tie.Need-returns-2
+unfolding offsetOf
+returns-2 c = let from = c .before .before .before .before .args .from in rw (c .before .enum-told2 .given .1, mul-one from) (omega arith)
+
+sub-result-2 : tie.Need-sub-result-2
+sub-result-2 c = search needs
+
+sub-result-3 : tie.Need-sub-result-3
+sub-result-3 c = search needs
+
+returns-3 : tie.Need-returns-3
+unfolding offsetOf
+returns-3 c =
+    let from = c .before .before .before .before .before .args .from in
+    rw (c .before .before .enum-told .given .1, mul-one from) (omega (arith, c .before .start-from .ensures))
+
+returns-4 : tie.Need-returns-4
+unfolding offsetOf
+returns-4 c = let from = c .before .before .before .before .args .from in rw (c .before .enum-told2 .given .1, mul-one from) (omega arith)
+
+pub offset-at-spec : {M : Type 1} → statement M
+offset-at-spec =
+    tie.close
+    (tie.spec
+    enum-told
+    start-from-requires
+    returns
+    sub-result
+    enum-told-2
+    returns-2
+    sub-result-2
+    sub-result-3
+    returns-3
+    returns-4)
