@@ -9,7 +9,7 @@ use crate::text::{decimal, hex, unhex, words};
 use crate::writer::{Lent, Writer};
 
 /// The octets that lent areas are full of where a setting begins.
-const AREA_OCTET: u8 = 0x55;
+pub const AREA_OCTET: u8 = 0x55;
 /// All areas are a little longer than the calls want; the octets past what is lent are looked at too.
 pub const FRAME_ROOM: usize = 4_200;
 pub const HELD_ROOM: usize = HELD_AREA + 16;

@@ -3,8 +3,8 @@
 use std::io::{BufRead, Read, Write};
 
 use crate::calls::{
-    begun, checked, lines, put, taken, written, Line, ReaderSlots, Said, WriterSlots, FRAME_ROOM, HELD_ROOM, LENT,
-    RECORD_ROOM, SLOTS, UNIT_ROOM,
+    begun, checked, lines, put, taken, written, Line, ReaderSlots, Said, WriterSlots, AREA_OCTET, FRAME_ROOM,
+    HELD_ROOM, LENT, RECORD_ROOM, SLOTS, UNIT_ROOM,
 };
 use crate::frame::big_endian;
 use crate::reader::{Answer, Class, Expected, HELD_PART};
@@ -12,11 +12,12 @@ use crate::reader::{Answer, Class, Expected, HELD_PART};
 /// A number's octets, and a row's: eight numbers.
 const NUMBER: usize = 8;
 const ROW: usize = 64;
-/// The desk's rows: the answer, the writer's state, the reader's state.
+/// The desk's rows: the answer, the writer's state, the reader's state; behind them the frame area.
 const STATE_ROWS: usize = 1 + 2 * SLOTS;
 const WRITER: usize = 1;
 const READER: usize = WRITER + STATE_ROWS;
-const DESK: usize = (READER + STATE_ROWS) * ROW;
+const ROWS: usize = (READER + STATE_ROWS) * ROW;
+const DESK: usize = ROWS + FRAME_ROOM;
 /// In a state: the first channel's row and the first lane's row.
 const CHANNELS: usize = 1;
 const LANES: usize = CHANNELS + SLOTS;
@@ -31,12 +32,13 @@ const OCF_ROOM: usize = 16;
 /// What a request asks for.
 #[derive(Clone, Copy)]
 enum What {
+    Keep = 0,
     Read = 1,
-    Keep = 2,
-    LayHeld = 3,
-    Blank = 4,
-    LayDesk = 5,
-    Begin = 6,
+    LayHeld = 2,
+    Blank = 3,
+    LayDesk = 4,
+    SetWriter = 5,
+    SetReader = 6,
     Write = 7,
     Check = 8,
 }
@@ -63,6 +65,13 @@ fn ask(out: &mut Vec<u8>, what: What, numbers: &[u64], behind: &[u8]) {
 /// Lays numbers on the desk, from this number of this row on.
 fn lay(out: &mut Vec<u8>, row: usize, number: usize, numbers: &[u64]) {
     ask(out, What::LayDesk, &[place(row, number)], &octets_of(numbers));
+}
+
+/// States of zeros, and every area full of octets 55.
+fn anew(out: &mut Vec<u8>) {
+    ask(out, What::Blank, &[], &[]);
+    let desk = [vec![0; ROWS], vec![AREA_OCTET; FRAME_ROOM]].concat();
+    ask(out, What::LayDesk, &[0], &desk);
 }
 
 /// Lays a setting into a state that begins with this row, and leaves all else of it.
@@ -98,13 +107,15 @@ fn requests_of(said: &mut Said, line: &Line) -> Result<Vec<u8>, String> {
         Line::Nothing => {}
         Line::Setting(setting) => {
             *said = setting.clone();
-            ask(&mut out, What::Blank, &[], &[]);
+            anew(&mut out);
         }
         Line::Channel(slot, numbers) => put(&mut said.channels, *slot, *numbers),
         Line::Lane(slot, numbers) => put(&mut said.lanes, *slot, *numbers),
         Line::Begin => {
             lay_setting(&mut out, WRITER, said);
-            ask(&mut out, What::Begin, &[], &[]);
+            ask(&mut out, What::SetWriter, &[], &[]);
+            lay_setting(&mut out, READER, said);
+            ask(&mut out, What::SetReader, &[], &[]);
         }
         Line::Take => {
             lay_setting(&mut out, WRITER, said);
@@ -139,6 +150,9 @@ fn requests_of(said: &mut Said, line: &Line) -> Result<Vec<u8>, String> {
 /// A script as requests.
 pub fn requests(script: impl BufRead, out: &mut impl Write) -> Result<(), String> {
     let mut said = Said::default();
+    let mut first = Vec::new();
+    anew(&mut first);
+    out.write_all(&first).map_err(|error| error.to_string())?;
     for line in lines(script) {
         let (number, line) = line?;
         let octets = requests_of(&mut said, &line).map_err(|expected| format!("line {number}: expected {expected}"))?;
@@ -205,15 +219,20 @@ fn answer_on(desk: &[u8]) -> Result<Answer, String> {
 /// What a line of the script prints, from the answer to it.
 fn printed(line: &Line, answers: &mut impl Read) -> Result<String, String> {
     match line {
-        Line::Begin | Line::Write { .. } | Line::Check(_) => {
+        Line::Begin => {
+            let [writer]: [u64; 1] = row(&area(answers, DESK)?, 0);
             let desk = area(answers, DESK)?;
-            let frame = area(answers, FRAME_ROOM)?;
-            let [one, other] = row(&desk, 0);
-            Ok(match line {
-                Line::Begin => begun([one, other], &writer_on(&desk), &reader_on(&desk)),
-                Line::Check(_) => checked(one),
-                _ => written(one, &writer_on(&desk), &frame),
-            })
+            let [reader] = row(&desk, 0);
+            Ok(begun([writer, reader], &writer_on(&desk), &reader_on(&desk)))
+        }
+        Line::Write { .. } => {
+            let desk = area(answers, DESK)?;
+            let [refusal] = row(&desk, 0);
+            Ok(written(refusal, &writer_on(&desk), &desk[ROWS..]))
+        }
+        Line::Check(_) => {
+            let [check] = row(&area(answers, DESK)?, 0);
+            Ok(checked(check))
         }
         Line::Read { .. } | Line::Keep(_) => {
             let desk = area(answers, DESK)?;

@@ -11,11 +11,13 @@ use Rattle.rules.specs.declared.Writer.{Writer}
 use Rattle.rules.specs.declared.Taken.{Taken}
 use Rattle.rules.specs.declared.Sender.{Sender}
 use Rattle.rules.specs.declared.Listener.{Listener}
+use borrow.Rule.Slice.PartMut.{putMid}
 use Rattle.rules.specs.Areas.{laid}
+use Rattle.octets.proofs.Turns.{lent as back, part-long}
 use Rattle.rules.specs.Calls.{refusalOf, Sent, write, Got}
 use Rattle.calling.specs.Rows.{word, spelled}
-use Rattle.calling.specs.States.{stateIn, stateOctets, writerOf, readerOf}
-use Rattle.calling.specs.Requests.{cut, answered, withWriter, withReader, begunOn, sentOn, answerRow, takenOn, asked, lent, sent, sizesIn, readIn, whole, readOn, Left}
+use Rattle.calling.specs.States.{readerIn, writerIn, readerOctets, writerOctets}
+use Rattle.calling.specs.Requests.{cut, one, answered, sentOn, heardOn, answerRow, takenOn, asked, sent, written, sizesIn, readIn, whole, frameIn, readOn, Left}
 use Rattle.calling.specs.declared.requests.Sizes.{Sizes}
 
 -- ---- parts
@@ -35,22 +37,21 @@ pub cut-none : (s : List ℕ) (from n : ℕ) → length s < from → [] ≡ cut 
 unfolding cut
 cut-none s from n h = sym (ap (take n) (drop-of-length-le s {i = from} (omega arith)) ∙ take-nil n)
 
--- ---- onto the desk: d₀ is the desk before, d₁ with the answer, d₂ and d₃ with the states
+-- ---- onto the desk: d₀ is the desk before, d₁ with the answer, d₂ with the state
 
-pub begun-on : (d₀ d₁ d₂ d₃ : List ℕ) (t : Sender) (u : Listener) (a b : ℕ) (x : Reader) → a ≡ refusalOf (t .outcome) → b ≡ refusalOf (u .outcome)
-    → x ≡ readerOf (t .state) → d₁ ≡ laid d₀ 0 (spelled (a ∷ b ∷ 0 ∷ 0 ∷ 0 ∷ 0 ∷ 0 ∷ 0 ∷ [])) → d₂ ≡ laid d₁ 64 (stateOctets x)
-    → d₃ ≡ laid d₂ 1152 (stateOctets (u .state)) → d₃ ≡ begunOn d₀ t u
-unfolding begunOn withReader withWriter answered
-begun-on d₀ d₁ d₂ d₃ t u a b x e f g p q r = cc
+pub sent-on : (d₀ d₁ d₂ : List ℕ) (t : Sender) (a : ℕ) → a ≡ refusalOf (t .outcome) → d₁ ≡ laid d₀ 0 (spelled (one a))
+    → d₂ ≡ laid d₁ 64 (writerOctets (t .state)) → d₂ ≡ sentOn d₀ t
+unfolding sentOn answered
+sent-on d₀ d₁ d₂ t a e p q = cc
 
-pub sent-on : (d₀ d₁ d₂ : List ℕ) (t : Sender) (a : ℕ) (x : Reader) → a ≡ refusalOf (t .outcome) → x ≡ readerOf (t .state)
-    → d₁ ≡ laid d₀ 0 (spelled (a ∷ 0 ∷ 0 ∷ 0 ∷ 0 ∷ 0 ∷ 0 ∷ 0 ∷ [])) → d₂ ≡ laid d₁ 64 (stateOctets x) → d₂ ≡ sentOn d₀ t
-unfolding sentOn withWriter answered
-sent-on d₀ d₁ d₂ t a x e g p q = cc
+pub heard-on : (d₀ d₁ d₂ : List ℕ) (t : Listener) (a : ℕ) → a ≡ refusalOf (t .outcome) → d₁ ≡ laid d₀ 0 (spelled (one a))
+    → d₂ ≡ laid d₁ 1152 (readerOctets (t .state)) → d₂ ≡ heardOn d₀ t
+unfolding heardOn answered
+heard-on d₀ d₁ d₂ t a e p q = cc
 
 pub taken-on : (d₀ d₁ d₂ row : List ℕ) (t : Taken) → row ≡ answerRow (t .answer) → d₁ ≡ laid d₀ 0 (spelled row)
-    → d₂ ≡ laid d₁ 1152 (stateOctets (t .state)) → d₂ ≡ takenOn d₀ t
-unfolding takenOn withReader answered
+    → d₂ ≡ laid d₁ 1152 (readerOctets (t .state)) → d₂ ≡ takenOn d₀ t
+unfolding takenOn answered
 taken-on d₀ d₁ d₂ row t e p q = cc
 
 -- ---- a write
@@ -60,20 +61,18 @@ pub asked-is : (q area batch insert ocf : List ℕ) (w : Writer) (o : Sent) (l n
 unfolding asked
 asked-is q area batch insert ocf w o l n i k e₁ e₂ e₃ e₄ e₅ e₆ e₇ e = cc
 
-module _ (q desk frame area : List ℕ) (e : Reader) (w : Writer) (t : Sender) (v n : ℕ) (here : e ≡ stateIn desk 1) (own : w ≡ writerOf e) (said : v ≡ word q 5)
-    (least : n ≡ min v (length frame)) (done : _≡_ {A = Sent} (record { sender = t; area = area }) (asked q w (take n frame))) where
-  room : n ≡ lent q frame
-  room = least ∙ ap (λ (k : ℕ). min k (length frame)) said
-
-  is : _≡_ {A = Sent} (record { sender = t; area = area }) (sent q desk frame)
-  unfolding sent
-  is = done ∙ ap₂ (λ (x : Writer) (k : ℕ). asked q x (take k frame)) (own ∙ ap writerOf here) room
-
-  pub written-desk : (desk′ : List ℕ) → desk′ ≡ sentOn desk t → desk′ ≡ sentOn desk ((sent q desk frame) .sender)
-  written-desk desk′ p = p ∙ ap (λ (s : Sent). sentOn desk (s .sender)) is
-
-  pub written-frame : area ++ drop n frame ≡ (sent q desk frame) .area ++ drop (lent q frame) frame
-  written-frame = ap₂ (λ (s : Sent) (k : ℕ). s .area ++ drop k frame) is room
+-- The frame area is the desk's last 4,200 octets; what is lent of it goes back to its place.
+pub written-is : (q desk desk′ area : List ℕ) (w : Writer) (t : Sender) (v n : ℕ) → length desk ≡ 6440 → w ≡ writerIn desk 1 → v ≡ word q 5 → n ≡ min v 4200
+    → length area ≡ length (take (2240 + n - 2240) (drop 2240 desk)) → _≡_ {A = Sent} (record { sender = t; area = area }) (asked q w (take (2240 + n - 2240) (drop 2240 desk)))
+    → desk′ ≡ sentOn (putMid 2240 (2240 + n - 2240) desk area) t → desk′ ≡ written (sent q desk) desk
+unfolding written sent
+written-is q desk desk′ area w t v n long own said least kept done p =
+    let size : length area ≡ n = kept ∙ part-long desk 2240 n (omega (arith, min-le-right v 4200)) in
+    let a : n ≡ min (word q 5) (length desk - 2240) = least ∙ ap₂ min said (ap (λ (m : ℕ). m - 2240) (sym long)) in
+    let g : _≡_ {A = Sent} (record { sender = t; area = area }) (sent q desk) =
+    done ∙ ap₂ (asked q) own (cut-is desk 2240 (word q 5) n (omega arith) a) in
+    p ∙ ap (λ (x : List ℕ). sentOn x t) (back desk 2240 n area size)
+    ∙ ap (λ (s : Sent). sentOn (laid desk 2240 (s .area)) (s .sender)) g
 
 -- ---- a read
 
@@ -82,12 +81,13 @@ unfolding sizesIn
 sizes-fit q h u c z e = rw e (min-le-right (word q 4) h, min-le-right (word q 2) u, min-le-right (word q 3) c)
 
 pub read-on : (q f desk held units records desk′ held′ units′ records′ : List ℕ) (z : Sizes) (r : Reader) (t : Taken)
-    → z ≡ sizesIn q (length held) (length units) (length records) → r ≡ stateIn desk 18
+    → z ≡ sizesIn q (length held) (length units) (length records) → r ≡ readerIn desk 18 → f ≡ frameIn q desk
     → _≡_ {A = Got} (record { taken = t; heldArea = held′; unitArea = units′; recordArea = records′ }) (whole z (readIn z r f held units records) held units records)
-    → desk′ ≡ takenOn desk t → Left (readOn q f desk held units records) desk desk′ held′ units′ records′
+    → desk′ ≡ takenOn desk t → Left (readOn q desk held units records) desk desk′ held′ units′ records′
 unfolding readOn
-read-on q f desk held units records desk′ held′ units′ records′ z r t e here done p =
-    let g = done ∙ ap₂ (λ (x : Sizes) (y : Reader). whole x (readIn x y f held units records) held units records) e here in
+read-on q f desk held units records desk′ held′ units′ records′ z r t e here frame done p =
+    let x : readIn z r f held units records ≡ readIn z (readerIn desk 18) (frameIn q desk) held units records = ap₂ (λ (y : Reader) (k : List ℕ). readIn z y k held units records) here frame in
+    let g = done ∙ ap (λ (y : Got). whole z y held units records) x ∙ ap (λ (y : Sizes). whole y (readIn y (readerIn desk 18) (frameIn q desk) held units records) held units records) e in
     record {
       desk = p ∙ ap (λ (x : Got). takenOn desk (x .taken)) g;
       held = ap (λ (x : Got). x .heldArea) g;

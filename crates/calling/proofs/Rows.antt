@@ -1,21 +1,22 @@
 -- Numbers laid one after another are a row, and rows laid one after another a state.
 use mathlib.Core.Path.{_≡_, refl, sym, ap, ap₂, _∙_}
-use Prim.Native.Nat.{ℕ, zero, suc, _+_, _-_, _*_, _≤_, _<_}
+use Prim.Native.Nat.{ℕ, zero, suc, _+_, _*_, _≤_, _<_}
 use native.Mathlib.Numerals.{add-one}
 use native.Mathlib.Omega.{arith}
-use mathlib.Core.Bool.{Bool, true, false, cond}
 use mathlib.Core.List.{List, [], _∷_, _++_, append-assoc, append-nil}
 use lib.ListN.{length, take, getD, length-append}
 use lib.Seq.{take-suc, take-all, length-take-le}
-use Rattle.rules.specs.declared.Reader.{Reader}
-use Rattle.rules.specs.Tests.{_=?_, _<?_}
-use Rattle.rules.specs.Settings.{channel, lane, expect, heldBy}
+use Rattle.rules.specs.declared.Channel.{Channel}
+use Rattle.rules.specs.declared.Lane.{Lane}
+use Rattle.rules.specs.declared.Setting.{Setting}
+use Rattle.rules.specs.declared.Expect.{Expect}
+use Rattle.rules.specs.Settings.{noChannel, noExpect}
 use Rattle.rules.specs.Octets.{be}
 use Rattle.rules.specs.Areas.{laid}
 use Rattle.rules.proofs.Octets.{length-be}
 use Rattle.rules.proofs.Areas.{laid-laid}
 use Rattle.calling.specs.Rows.{spelled}
-use Rattle.calling.specs.States.{frontRow, channelRow, laneRow, stateRow, stateRows}
+use Rattle.calling.specs.States.{frontRow, channelRow, laneRow, rows, channelRows, laneRows, stateOctets}
 
 pub length-spelled : (ns : List ℕ) → length (spelled ns) ≡ 8 * length ns
 unfolding spelled
@@ -51,31 +52,43 @@ row-all d area ns from i h here = here ∙ ap (λ (x : List ℕ). laid d from (s
 
 -- ---- rows
 
-chosen-long : (t : Bool) (xs ys : List ℕ) → length xs ≡ 8 → length ys ≡ 8 → length (cond t xs ys) ≡ 8
-chosen-long true xs ys p q = p
-chosen-long false xs ys p q = q
+rows-long : (f : ℕ → List ℕ) (n : ℕ) → ((i : ℕ) → length (f i) ≡ 8) → length (rows f n) ≡ 64 * n
+unfolding rows
+rows-long f zero long = refl
+rows-long f (suc n) long =
+    length-append (rows f n) (spelled (f n))
+    ∙ ap₂ _+_ (rows-long f n long) (length-spelled (f n) ∙ ap (λ (i : ℕ). 8 * i) (long n)) ∙ omega arith
 
-row-long : (r : Reader) (i : ℕ) → length (stateRow r i) ≡ 8
-unfolding stateRow frontRow channelRow laneRow
-row-long r i =
-    chosen-long (i =? 0) (frontRow (r .setting)) _ refl
-    (chosen-long (i <? 9) (channelRow (channel (r .setting) (i - 1)) (expect r (i - 1))) (laneRow (lane (r .setting) (i - 9)) (heldBy r (i - 9))) refl refl)
+-- One row more.
+pub rows-turn : (f : ℕ → List ℕ) (d area row : List ℕ) (k i : ℕ) → ((j : ℕ) → length (f j) ≡ 8) → 64 * k + 64 * i ≤ length d
+    → area ≡ laid d (64 * k) (rows f i) → row ≡ f i → laid area (64 * (k + i)) (spelled row) ≡ laid d (64 * k) (rows f (i + 1))
+unfolding rows
+rows-turn f d area row k i each room here e =
+    let long : length (rows f i) ≡ 64 * i = rows-long f i each in
+    lays-on d area (rows f i) (spelled row) (64 * k) (64 * (k + i)) here (omega (arith, long)) (omega (arith, long))
+    ∙ ap (λ (x : List ℕ). laid d (64 * k) (rows f i ++ spelled x)) e ∙ ap (λ (n : ℕ). laid d (64 * k) (rows f n)) (sym (add-one i))
 
-octets-long : (r : Reader) (i : ℕ) → length (spelled (stateRow r i)) ≡ 64
-octets-long r i = length-spelled (stateRow r i) ∙ ap (λ (n : ℕ). 8 * n) (row-long r i)
+pub rows-all : (f : ℕ → List ℕ) (d area : List ℕ) (k i : ℕ) → i ≡ 8 → area ≡ laid d (64 * k) (rows f i) → area ≡ laid d (64 * k) (rows f 8)
+rows-all f d area k i e here = here ∙ ap (λ (n : ℕ). laid d (64 * k) (rows f n)) e
 
-pub rows-long : (r : Reader) (n : ℕ) → length (stateRows r n) ≡ 64 * n
-unfolding stateRows
-rows-long r zero = refl
-rows-long r (suc n) =
-    length-append (stateRows r n) (spelled (stateRow r n)) ∙ ap₂ _+_ (rows-long r n) (octets-long r n) ∙ omega arith
+pub channel-long : (c : Channel) (x : Expect) → length (channelRow c x) ≡ 8
+unfolding channelRow
+channel-long c x = refl
 
--- One row of a state more.
-pub rows-turn : (d area row : List ℕ) (r : Reader) (k i : ℕ) → 64 * k + 64 * i ≤ length d → area ≡ laid d (64 * k) (stateRows r i)
-    → row ≡ stateRow r i → laid area (64 * (k + i)) (spelled row) ≡ laid d (64 * k) (stateRows r (i + 1))
-unfolding stateRows
-rows-turn d area row r k i room here e =
-    let long : length (stateRows r i) ≡ 64 * i = rows-long r i in
-    lays-on d area (stateRows r i) (spelled row) (64 * k) (64 * (k + i)) here (omega (arith, long)) (omega (arith, long))
-    ∙ ap (λ (x : List ℕ). laid d (64 * k) (stateRows r i ++ spelled x)) e
-    ∙ ap (λ (n : ℕ). laid d (64 * k) (stateRows r n)) (sym (add-one i))
+pub lane-long : (l : Lane) (n : ℕ) → length (laneRow l n) ≡ 8
+unfolding laneRow
+lane-long l n = refl
+
+-- The three parts of a state, one after another.
+pub state-laid : (d₀ d₁ d₂ d₃ row : List ℕ) (k : ℕ) (s : Setting) (xs : List Expect) (ns : List ℕ) → 64 * k + 1088 ≤ length d₀ → row ≡ frontRow s
+    → d₁ ≡ laid d₀ (64 * k) (spelled row) → d₂ ≡ laid d₁ (64 * (k + 1)) (channelRows (s .channels) xs)
+    → d₃ ≡ laid d₂ (64 * (k + 9)) (laneRows (s .lanes) ns) → d₃ ≡ laid d₀ (64 * k) (stateOctets s xs ns)
+unfolding stateOctets channelRows laneRows frontRow
+state-laid d₀ d₁ d₂ d₃ row k s xs ns room e p q r =
+    let one : length (spelled (frontRow s)) ≡ 64 = length-spelled (frontRow s) in
+    let eight : length (channelRows (s .channels) xs) ≡ 512 = rows-long _ 8 (λ i. channel-long (getD (s .channels) i noChannel) (getD xs i noExpect)) in
+    let both : length (spelled (frontRow s) ++ channelRows (s .channels) xs) ≡ 576 = length-append (spelled (frontRow s)) (channelRows (s .channels) xs) ∙ ap₂ _+_ one eight in
+    r
+    ∙ lays-on d₀ d₂ (spelled (frontRow s) ++ channelRows (s .channels) xs) (laneRows (s .lanes) ns) (64 * k) (64 * (k + 9))
+    (q ∙ lays-on d₀ d₁ (spelled (frontRow s)) (channelRows (s .channels) xs) (64 * k) (64 * (k + 1)) (p ∙ ap (λ (x : List ℕ). laid d₀ (64 * k) (spelled x)) e) (omega (arith, one)) (omega (arith, one)))
+    (omega (arith, both)) (omega (arith, both))

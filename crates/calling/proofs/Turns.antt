@@ -1,12 +1,11 @@
--- Slot after slot is the whole state.
-use mathlib.Core.Path.{_≡_, sym, ap, _∙_}
-use Prim.Native.Nat.{ℕ, suc, _+_, _*_}
+-- Slot after slot is all eight.
+use mathlib.Core.Path.{_≡_, sym, ap, ap₂, _∙_}
+use Prim.Native.Nat.{ℕ, suc, _+_}
 use native.Mathlib.Numerals.{add-one}
 use mathlib.Core.List.{List}
-use Rattle.rules.specs.declared.Reader.{Reader}
-use Rattle.calling.specs.States.{slotIn, slotsIn}
+use lib.ListN.{set}
+use Rattle.calling.specs.States.{slots}
 
-pub slots-turn : (xs : List ℕ) (k i : ℕ) (r t : Reader) → r ≡ slotsIn xs k i → t ≡ slotIn r xs i (8 * (k + 1 + i)) (8 * (k + 9 + i)) → t ≡ slotsIn xs k (i + 1)
-unfolding slotsIn
-slots-turn xs k i r t p q =
-    q ∙ ap (λ (s : Reader). slotIn s xs i (8 * (k + 1 + i)) (8 * (k + 9 + i))) p ∙ ap (slotsIn xs k) (sym (add-one i))
+pub slots-turn : {A : Type 0} (z : A) (f : ℕ → A) (n : ℕ) (xs : List A) (x : A) → xs ≡ slots z f n → x ≡ f n → set xs n x ≡ slots z f (n + 1)
+unfolding slots
+slots-turn z f n xs x p e = ap₂ (λ (ys : List _) (y : _). set ys n y) p e ∙ ap (slots z f) (sym (add-one n))

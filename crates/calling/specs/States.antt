@@ -1,8 +1,8 @@
 -- Settings and states in rows. A state has 17 rows: the setting's first numbers, then each channel slot, then each lane slot.
-use Prim.Native.Nat.{ℕ, zero, suc, _+_, _-_, _*_, _%_}
+use Prim.Native.Nat.{ℕ, zero, suc, _+_, _*_, _%_}
 use mathlib.Core.Bool.{Bool, false, cond}
 use mathlib.Core.List.{List, [], _∷_, _++_}
-use lib.ListN.{getD, set}
+use lib.ListN.{getD, set, replicate}
 use Rattle.rules.specs.declared.Kind.{Kind}
 use Rattle.rules.specs.declared.Kind.the-variants.{Packets, Access}
 use Rattle.rules.specs.declared.Channel.{Channel}
@@ -11,9 +11,9 @@ use Rattle.rules.specs.declared.Setting.{Setting}
 use Rattle.rules.specs.declared.Expect.{Expect}
 use Rattle.rules.specs.declared.Reader.{Reader}
 use Rattle.rules.specs.declared.Writer.{Writer}
-use Rattle.rules.specs.Tests.{_=?_, _<?_}
+use Rattle.rules.specs.Tests.{_=?_}
 use Rattle.rules.specs.Octets.{flag}
-use Rattle.rules.specs.Settings.{noExpect, noReader, channel, lane, expect, heldBy, count}
+use Rattle.rules.specs.Settings.{noChannel, noLane, noExpect}
 use Rattle.calling.specs.Rows.{word, spelled}
 
 -- ---- out of octets: i is the number with which a row begins
@@ -33,54 +33,52 @@ unfoldable pub laneIn : List ℕ → ℕ → Lane
 laneIn xs i =
     record { channel = word xs i; map = word xs (i + 1) % 256; kind = kindIn (word xs (i + 2)); longest = word xs (i + 3); upid = word xs (i + 4) % 256 }
 
--- The state of zeros, but for the setting's first numbers.
-unfoldable pub frontIn : List ℕ → ℕ → Reader
-frontIn xs i =
+-- Eight slots: what f says in the first n of them, z in the others.
+unfoldable pub slots : {A : Type 0} → A → (ℕ → A) → ℕ → List A
+slots z f zero = replicate 8 z
+slots z f (suc n) = set (slots z f n) n (f n)
+
+unfoldable pub channelsIn : List ℕ → ℕ → List Channel
+channelsIn xs k = slots noChannel (λ (i : ℕ). channelIn xs (8 * (k + i))) 8
+
+unfoldable pub expectsIn : List ℕ → ℕ → List Expect
+expectsIn xs k = slots noExpect (λ (i : ℕ). expectIn xs (8 * (k + i))) 8
+
+unfoldable pub lanesIn : List ℕ → ℕ → List Lane
+lanesIn xs k = slots noLane (λ (i : ℕ). laneIn xs (8 * (k + i))) 8
+
+-- What lanes hold, behind their numbers.
+unfoldable pub heldIn : List ℕ → ℕ → List ℕ
+heldIn xs k = slots 0 (λ (i : ℕ). word xs (8 * (k + i) + 5)) 8
+
+-- The setting from row k on.
+unfoldable pub settingIn : List ℕ → ℕ → Setting
+settingIn xs k =
     record {
-      setting =
-          record {
-            length = word xs i;
-            craft = word xs (i + 1) % 65536;
-            bit = word xs (i + 2) % 256;
-            insert = word xs (i + 3);
-            check = word xs (i + 4) =? 1;
-            listed = word xs (i + 5);
-            channels = noReader .setting .channels;
-            numbered = word xs (i + 6);
-            lanes = noReader .setting .lanes;
-          };
-      expects = noReader .expects;
-      held = noReader .held;
+      length = word xs (8 * k);
+      craft = word xs (8 * k + 1) % 65536;
+      bit = word xs (8 * k + 2) % 256;
+      insert = word xs (8 * k + 3);
+      check = word xs (8 * k + 4) =? 1;
+      listed = word xs (8 * k + 5);
+      channels = channelsIn xs (k + 1);
+      numbered = word xs (8 * k + 6);
+      lanes = lanesIn xs (k + 9);
     }
 
--- The setting with slot i as a channel's row and a lane's row say it.
-unfoldable pub settingWith : Setting → List ℕ → ℕ → ℕ → ℕ → Setting
-settingWith s xs i c l =
-    record {
-      length = s .length;
-      craft = s .craft;
-      bit = s .bit;
-      insert = s .insert;
-      check = s .check;
-      listed = s .listed;
-      channels = set (s .channels) i (channelIn xs c);
-      numbered = s .numbered;
-      lanes = set (s .lanes) i (laneIn xs l);
-    }
+-- The reader's state from row k on.
+unfoldable pub readerIn : List ℕ → ℕ → Reader
+readerIn xs k = record { setting = settingIn xs k; expects = expectsIn xs (k + 1); held = heldIn xs (k + 9) }
 
--- The state with slot i as these rows say it: what a lane holds stands behind the lane's numbers.
-unfoldable pub slotIn : Reader → List ℕ → ℕ → ℕ → ℕ → Reader
-slotIn r xs i c l =
-    record { setting = settingWith (r .setting) xs i c l; expects = set (r .expects) i (expectIn xs c); held = set (r .held) i (word xs (l + 5)) }
+-- Eight counts of those expected, whether they are or not.
+unfoldable pub countsOf : List Expect → List ℕ
+countsOf xs =
+    (getD xs 0 noExpect) .count ∷ (getD xs 1 noExpect) .count ∷ (getD xs 2 noExpect) .count ∷ (getD xs 3 noExpect) .count
+    ∷ (getD xs 4 noExpect) .count ∷ (getD xs 5 noExpect) .count ∷ (getD xs 6 noExpect) .count ∷ (getD xs 7 noExpect) .count ∷ []
 
--- The state from row k on, the first n slots of it.
-unfoldable pub slotsIn : List ℕ → ℕ → ℕ → Reader
-slotsIn xs k zero = frontIn xs (8 * k)
-slotsIn xs k (suc n) = slotIn (slotsIn xs k n) xs n (8 * (k + 1 + n)) (8 * (k + 9 + n))
-
--- The state from row k on.
-unfoldable pub stateIn : List ℕ → ℕ → Reader
-stateIn xs k = slotsIn xs k 8
+-- The writer's state from row k on: counts stand for expected counts, next frame numbers for what is held.
+unfoldable pub writerIn : List ℕ → ℕ → Writer
+writerIn xs k = record { setting = settingIn xs k; counts = countsOf (expectsIn xs (k + 1)); next = heldIn xs (k + 9) }
 
 -- ---- into octets
 
@@ -97,43 +95,32 @@ kindNumber Access = 1
 unfoldable pub laneRow : Lane → ℕ → List ℕ
 laneRow l n = l .channel ∷ l .map ∷ kindNumber (l .kind) ∷ l .longest ∷ l .upid ∷ n ∷ 0 ∷ 0 ∷ []
 
--- Row i of a state.
-unfoldable pub stateRow : Reader → ℕ → List ℕ
-stateRow r i =
-    cond (i =? 0) (frontRow (r .setting))
-    (cond (i <? 9) (channelRow (channel (r .setting) (i - 1)) (expect r (i - 1))) (laneRow (lane (r .setting) (i - 9)) (heldBy r (i - 9))))
+-- The first n of the rows that f says, as octets.
+unfoldable pub rows : (ℕ → List ℕ) → ℕ → List ℕ
+rows f zero = []
+rows f (suc n) = rows f n ++ spelled (f n)
 
--- The first n rows of a state.
-unfoldable pub stateRows : Reader → ℕ → List ℕ
-stateRows r zero = []
-stateRows r (suc n) = stateRows r n ++ spelled (stateRow r n)
+unfoldable pub channelRows : List Channel → List Expect → List ℕ
+channelRows cs xs = rows (λ (i : ℕ). channelRow (getD cs i noChannel) (getD xs i noExpect)) 8
+
+unfoldable pub laneRows : List Lane → List ℕ → List ℕ
+laneRows ls ns = rows (λ (i : ℕ). laneRow (getD ls i noLane) (getD ns i 0)) 8
 
 -- A state as octets.
-unfoldable pub stateOctets : Reader → List ℕ
-stateOctets r = stateRows r 17
+unfoldable pub stateOctets : Setting → List Expect → List ℕ → List ℕ
+stateOctets s xs ns = spelled (frontRow s) ++ channelRows (s .channels) xs ++ laneRows (s .lanes) ns
 
--- ---- a writer's state in the same rows: counts for expected counts, next frame numbers for what is held
+unfoldable pub readerOctets : Reader → List ℕ
+readerOctets r = stateOctets (r .setting) (r .expects) (r .held)
 
-unfoldable pub writerOf : Reader → Writer
-writerOf r =
-    record {
-      setting = r .setting;
-      counts =
-          (expect r 0) .count ∷ (expect r 1) .count ∷ (expect r 2) .count ∷ (expect r 3) .count ∷ (expect r 4) .count ∷ (expect r 5) .count
-          ∷ (expect r 6) .count ∷ (expect r 7) .count ∷ [];
-      next = r .held;
-    }
-
--- A count, said to be expected by nobody.
+-- A count that is said to be expected by nobody.
 abbrev pub plain : ℕ → Expect
 plain n = record { known = false; count = n }
 
-unfoldable pub readerOf : Writer → Reader
-readerOf w =
-    record {
-      setting = w .setting;
-      expects =
-          plain (count w 0) ∷ plain (count w 1) ∷ plain (count w 2) ∷ plain (count w 3) ∷ plain (count w 4) ∷ plain (count w 5)
-          ∷ plain (count w 6) ∷ plain (count w 7) ∷ [];
-      held = w .next;
-    }
+unfoldable pub expectsOf : List ℕ → List Expect
+expectsOf ns =
+    plain (getD ns 0 0) ∷ plain (getD ns 1 0) ∷ plain (getD ns 2 0) ∷ plain (getD ns 3 0) ∷ plain (getD ns 4 0) ∷ plain (getD ns 5 0)
+    ∷ plain (getD ns 6 0) ∷ plain (getD ns 7 0) ∷ []
+
+unfoldable pub writerOctets : Writer → List ℕ
+writerOctets w = stateOctets (w .setting) (expectsOf (w .counts)) (w .next)

@@ -31,41 +31,32 @@ fn next(q: &mut [u8]) -> usize
     64 + k
 }
 
-// Writes what a request is answered with: the desk and the areas that it may have changed.
-fn tell(what: u64, desk: &[u8], frame: &[u8], held: &[u8], units: &[u8], records: &[u8]) {
-    if what < 3 {
+// Writes the answer to a request: the desk after a call, and the reader's areas after a read.
+fn tell(what: u64, desk: &[u8], held: &[u8], units: &[u8], records: &[u8]) {
+    if what < 2 {
         io::write_all(1, desk);
         io::write_all(1, held);
         io::write_all(1, units);
         io::write_all(1, records);
         return;
     }
-    if 5 < what {
+    if 4 < what {
         io::write_all(1, desk);
-        io::write_all(1, frame);
     }
 }
 
 // Obeys a request, and answers it.
-fn turn(
-    q: &[u8],
-    desk: &mut [u8],
-    frame: &mut [u8],
-    held: &mut [u8],
-    units: &mut [u8],
-    records: &mut [u8],
-)
-    requires { ⌜ (64 ≤ length (now q)) × (length (now desk) ≡ 2240) ⌝ }
+fn turn(q: &[u8], desk: &mut [u8], held: &mut [u8], units: &mut [u8], records: &mut [u8])
+    requires { ⌜ (64 ≤ length (now q)) × (length (now desk) ≡ 6440) ⌝ }
 {
-    obey(q, desk, frame, held, units, records);
-    tell(word_in(q, 0), desk, frame, held, units, records);
+    obey(q, desk, held, units, records);
+    tell(word_in(q, 0), desk, held, units, records);
 }
 
 // Obeys standard input, request after request, to its end.
 pub fn run() {
     let mut q = [0u8; 65536];
-    let mut desk = [0u8; 2240];
-    let mut frame = [0x55u8; 4200];
+    let mut desk = [0u8; 6440];
     let mut held = [0x55u8; 65552];
     let mut units = [0x55u8; 12304];
     let mut records = [0x55u8; 9632];
@@ -75,14 +66,7 @@ pub fn run() {
         if n < 64 {
             break;
         }
-        turn(
-            &q[..n],
-            &mut desk,
-            &mut frame,
-            &mut held,
-            &mut units,
-            &mut records,
-        );
+        turn(&q[..n], &mut desk, &mut held, &mut units, &mut records);
         k += 1;
     }
 }

@@ -1,19 +1,20 @@
 // One request, as a function of its octets and of the areas.
 ghost use mathlib.Core.Path.{_≡_};
-ghost use Prim.Native.Nat.{_+_, _*_, _≤_, _<_, min};
-ghost use lib.ListN.{length, take, drop};
-ghost use mathlib.Core.List.{[], _∷_, _++_};
+ghost use Prim.Native.Nat.{_+_, _≤_, _<_, min};
+ghost use lib.ListN.{length, replicate};
 ghost use Rattle.rules.specs.Octets.{checkOf};
 ghost use Rattle.rules.specs.Calls.{refusalOf, classRefusal, setUpWriter, setUpReader};
 ghost use Rattle.calling.specs.Rows.{word};
-ghost use Rattle.calling.specs.Requests.{cut, behind, laidIn, settingOn, answered, begunOn, sentOn, classNumber, answerRow, takenOn};
-ghost use Rattle.calling.specs.Requests.{asked, lent, sent, sizesIn, readIn, whole, readOn, Left, blank, deskAfter, frameAfter, obeyed};
+ghost use Rattle.calling.specs.States.{settingIn};
+ghost use Rattle.calling.specs.Requests.{cut, behind, laidIn, one, answered, sentOn, heardOn, classNumber, answerRow, takenOn};
+ghost use Rattle.calling.specs.Requests.{asked, sent, written, sizesIn, readIn, whole, frameIn, readOn, Left, blank, deskAfter, obeyed};
+use crate::states::put_reader;
 use crate::states::put_row;
-use crate::states::put_state;
-use crate::states::reader_of;
-use crate::states::state_in;
+use crate::states::put_writer;
+use crate::states::reader_in;
+use crate::states::setting_in;
 use crate::states::word_in;
-use crate::states::writer_of;
+use crate::states::writer_in;
 use rules::Answer;
 use rules::Class;
 use rules::Listener;
@@ -127,59 +128,62 @@ fn answer_row(a: Answer) -> [u64; 8]
     ]
 }
 
-// Puts what both set-ups answer on the desk.
-fn put_begun(desk: &mut [u8], t: Sender, u: Listener)
-    requires { ⌜ length (now desk) ≡ 2240 ⌝ }
-    ensures { λ _. ⌜ now (desk .exit) ≡ begunOn (now (desk .entry)) t u ⌝ }
-{
-    let o = t.outcome;
-    let p = u.outcome;
-    let row = [refusal_of(o), refusal_of(p), 0, 0, 0, 0, 0, 0];
-    put_row(desk, 0, row);
-    let w = t.state;
-    let x = reader_of(w);
-    put_state(desk, 1, x);
-    let r = u.state;
-    put_state(desk, 18, r);
-}
-
-// Puts what a write answers on the desk.
+// Puts what a set-up of the writer, or a write, answers on the desk.
 fn put_sent(desk: &mut [u8], t: Sender)
-    requires { ⌜ length (now desk) ≡ 2240 ⌝ }
+    requires { ⌜ length (now desk) ≡ 6440 ⌝ }
     ensures { λ _. ⌜ now (desk .exit) ≡ sentOn (now (desk .entry)) t ⌝ }
 {
     let o = t.outcome;
     let row = [refusal_of(o), 0, 0, 0, 0, 0, 0, 0];
     put_row(desk, 0, row);
     let w = t.state;
-    let x = reader_of(w);
-    put_state(desk, 1, x);
+    put_writer(desk, 1, w);
+}
+
+// Puts what a set-up of the reader answers on the desk.
+fn put_heard(desk: &mut [u8], t: Listener)
+    requires { ⌜ length (now desk) ≡ 6440 ⌝ }
+    ensures { λ _. ⌜ now (desk .exit) ≡ heardOn (now (desk .entry)) t ⌝ }
+{
+    let o = t.outcome;
+    let row = [refusal_of(o), 0, 0, 0, 0, 0, 0, 0];
+    put_row(desk, 0, row);
+    let r = t.state;
+    put_reader(desk, 18, r);
 }
 
 // Puts what a read answers on the desk.
 fn put_taken(desk: &mut [u8], t: Taken)
-    requires { ⌜ length (now desk) ≡ 2240 ⌝ }
+    requires { ⌜ length (now desk) ≡ 6440 ⌝ }
     ensures { λ _. ⌜ now (desk .exit) ≡ takenOn (now (desk .entry)) t ⌝ }
 {
     let a = t.answer;
     let row = answer_row(a);
     put_row(desk, 0, row);
     let r = t.state;
-    put_state(desk, 18, r);
+    put_reader(desk, 18, r);
 }
 
 // ---- the calls
 
-// Both set-ups with the writer's setting.
-fn begin(desk: &mut [u8])
-    requires { ⌜ length (now desk) ≡ 2240 ⌝ }
-    ensures { λ _. ⌜ now (desk .exit) ≡ begunOn (now (desk .entry)) (setUpWriter (settingOn (now (desk .entry)))) (setUpReader (settingOn (now (desk .entry)))) ⌝ }
+// The writer's set-up, with the setting of the writer on the desk.
+fn set_writer(desk: &mut [u8])
+    requires { ⌜ length (now desk) ≡ 6440 ⌝ }
+    ensures { λ _. ⌜ now (desk .exit) ≡ sentOn (now (desk .entry)) (setUpWriter (settingIn (now (desk .entry)) 1)) ⌝ }
 {
-    let e = state_in(desk, 1);
-    let s = e.setting;
+    let s = setting_in(desk, 1);
     let t = writer::set_up(s);
-    let u = reader::set_up(s);
-    put_begun(desk, t, u);
+    put_sent(desk, t);
+}
+
+// The reader's set-up, with the setting of the reader on the desk.
+fn set_reader(desk: &mut [u8])
+    requires { ⌜ length (now desk) ≡ 6440 ⌝ }
+    ensures { λ _. ⌜ now (desk .exit) ≡ heardOn (now (desk .entry)) (setUpReader (settingIn (now (desk .entry)) 18)) ⌝ }
+{
+    let s = setting_in(desk, 18);
+    let t = reader::set_up(s);
+    put_heard(desk, t);
 }
 
 // The write that a request asks for.
@@ -194,22 +198,21 @@ fn write_asked(q: &[u8], w: Writer, area: &mut [u8]) -> Sender
     writer::write(w, l, batch, insert, ocf, area)
 }
 
-// The same with the writer on the desk, which it changes, and the frame area.
-fn write(q: &[u8], desk: &mut [u8], frame: &mut [u8])
-    requires { ⌜ (64 ≤ length (now q)) × (length (now desk) ≡ 2240) ⌝ }
-    ensures { λ _. ⌜ (now (desk .exit) ≡ sentOn (now (desk .entry)) (sent (now (q .entry)) (now (desk .entry)) (now (frame .entry)) .sender)) × (now (frame .exit) ≡ sent (now (q .entry)) (now (desk .entry)) (now (frame .entry)) .area ++ drop (lent (now (q .entry)) (now (frame .entry))) (now (frame .entry))) ⌝ }
+// The same with the writer on the desk and the frame area.
+fn write(q: &[u8], desk: &mut [u8])
+    requires { ⌜ (64 ≤ length (now q)) × (length (now desk) ≡ 6440) ⌝ }
+    ensures { λ _. ⌜ now (desk .exit) ≡ written (sent (now (q .entry)) (now (desk .entry))) (now (desk .entry)) ⌝ }
 {
-    let e = state_in(desk, 1);
-    let w = writer_of(e);
-    let n = least(word_in(q, 5), frame.len());
-    let t = write_asked(q, w, &mut frame[..n]);
+    let w = writer_in(desk, 1);
+    let to = 2240 + least(word_in(q, 5), 4200);
+    let t = write_asked(q, w, &mut desk[2240..to]);
     put_sent(desk, t);
 }
 
 // The frame check of the octets behind the row.
 fn check(q: &[u8], desk: &mut [u8])
-    requires { ⌜ (64 ≤ length (now q)) × (length (now desk) ≡ 2240) ⌝ }
-    ensures { λ _. ⌜ now (desk .exit) ≡ answered (now (desk .entry)) (checkOf (behind (now (q .entry))) ∷ 0 ∷ 0 ∷ 0 ∷ 0 ∷ 0 ∷ 0 ∷ 0 ∷ []) ⌝ }
+    requires { ⌜ (64 ≤ length (now q)) × (length (now desk) ≡ 6440) ⌝ }
+    ensures { λ _. ⌜ now (desk .exit) ≡ answered (now (desk .entry)) (one (checkOf (behind (now (q .entry))))) ⌝ }
 {
     let octets = rest(q);
     let v = fecf::check_of(octets);
@@ -227,6 +230,18 @@ fn sizes_in(q: &[u8], held: usize, units: usize, records: usize) -> Sizes
         units: least(word_in(q, 2), units),
         records: least(word_in(q, 3), records),
     }
+}
+
+// The frame to be read.
+fn frame_in<'a>(q: &'a [u8], desk: &'a [u8]) -> &'a [u8]
+    requires { ⌜ 64 ≤ length (now q) ⌝ }
+    ensures { λ r. ⌜ now r ≡ frameIn (now (q .entry)) (now (desk .entry)) ⌝ }
+{
+    let what = word_in(q, 0);
+    if what == 1 {
+        return rest(q);
+    }
+    part(desk, 2240, word_in(q, 5))
 }
 
 // A read that is lent so much of the areas.
@@ -247,60 +262,50 @@ fn read_in(
     reader::read(r, frame, &mut held[..h], &mut units[..u], &mut records[..c])
 }
 
-// A read by the reader on the desk, which it changes.
-fn read(
-    q: &[u8],
-    frame: &[u8],
-    desk: &mut [u8],
-    held: &mut [u8],
-    units: &mut [u8],
-    records: &mut [u8],
-)
-    requires { ⌜ (64 ≤ length (now q)) × (length (now desk) ≡ 2240) ⌝ }
-    ensures { λ _. ⌜ Left (readOn (now (q .entry)) (now (frame .entry)) (now (desk .entry)) (now (held .entry)) (now (units .entry)) (now (records .entry))) (now (desk .entry)) (now (desk .exit)) (now (held .exit)) (now (units .exit)) (now (records .exit)) ⌝ }
+// A read by the reader on the desk.
+fn read(q: &[u8], desk: &mut [u8], held: &mut [u8], units: &mut [u8], records: &mut [u8])
+    requires { ⌜ (64 ≤ length (now q)) × (length (now desk) ≡ 6440) ⌝ }
+    ensures { λ _. ⌜ Left (readOn (now (q .entry)) (now (desk .entry)) (now (held .entry)) (now (units .entry)) (now (records .entry))) (now (desk .entry)) (now (desk .exit)) (now (held .exit)) (now (units .exit)) (now (records .exit)) ⌝ }
 {
-    let r = state_in(desk, 18);
+    let r = reader_in(desk, 18);
     let z = sizes_in(q, held.len(), units.len(), records.len());
+    let frame = frame_in(q, desk);
     let t = read_in(z, r, frame, held, units, records);
     put_taken(desk, t);
 }
 
 // ---- requests
 
-// Makes every octet of five areas 55, or 0 on the desk.
-fn blank_all(
-    desk: &mut [u8],
-    frame: &mut [u8],
-    held: &mut [u8],
-    units: &mut [u8],
-    records: &mut [u8],
-)
-    ensures { λ _. ⌜ record { desk = now (desk .exit); frame = now (frame .exit); held = now (held .exit); units = now (units .exit); records = now (records .exit) } ≡ blank (record { desk = now (desk .entry); frame = now (frame .entry); held = now (held .entry); units = now (units .entry); records = now (records .entry) }) ⌝ }
+// Makes every octet of three areas 55.
+fn blank_all(held: &mut [u8], units: &mut [u8], records: &mut [u8])
+    ensures { λ _. ⌜ (now (held .exit) ≡ replicate (length (now (held .entry))) 0x55) × (now (units .exit) ≡ replicate (length (now (units .entry))) 0x55) × (now (records .exit) ≡ replicate (length (now (records .entry))) 0x55) ⌝ }
 {
-    octets::fill(desk, 0);
-    octets::fill(frame, 0x55);
     octets::fill(held, 0x55);
     octets::fill(units, 0x55);
     octets::fill(records, 0x55);
 }
 
 // Obeys a request that lends nothing to a reader.
-fn on_desk(q: &[u8], desk: &mut [u8], frame: &mut [u8])
-    requires { ⌜ (64 ≤ length (now q)) × (length (now desk) ≡ 2240) ⌝ }
-    ensures { λ _. ⌜ (now (desk .exit) ≡ deskAfter (now (q .entry)) (now (desk .entry)) (now (frame .entry))) × (now (frame .exit) ≡ frameAfter (now (q .entry)) (now (desk .entry)) (now (frame .entry))) ⌝ }
+fn on_desk(q: &[u8], desk: &mut [u8])
+    requires { ⌜ (64 ≤ length (now q)) × (length (now desk) ≡ 6440) ⌝ }
+    ensures { λ _. ⌜ now (desk .exit) ≡ deskAfter (now (q .entry)) (now (desk .entry)) ⌝ }
 {
     let what = word_in(q, 0);
-    if what == 5 {
+    if what == 4 {
         let octets = rest(q);
         lay_in(desk, word_in(q, 2) as usize, octets);
         return;
     }
+    if what == 5 {
+        set_writer(desk);
+        return;
+    }
     if what == 6 {
-        begin(desk);
+        set_reader(desk);
         return;
     }
     if what == 7 {
-        write(q, desk, frame);
+        write(q, desk);
         return;
     }
     if what == 8 {
@@ -309,36 +314,23 @@ fn on_desk(q: &[u8], desk: &mut [u8], frame: &mut [u8])
 }
 
 // Obeys a request.
-pub fn obey(
-    q: &[u8],
-    desk: &mut [u8],
-    frame: &mut [u8],
-    held: &mut [u8],
-    units: &mut [u8],
-    records: &mut [u8],
-)
-    requires { ⌜ (64 ≤ length (now q)) × (length (now desk) ≡ 2240) ⌝ }
-    ensures { λ _. ⌜ record { desk = now (desk .exit); frame = now (frame .exit); held = now (held .exit); units = now (units .exit); records = now (records .exit) } ≡ obeyed (now (q .entry)) (record { desk = now (desk .entry); frame = now (frame .entry); held = now (held .entry); units = now (units .entry); records = now (records .entry) }) ⌝ }
+pub fn obey(q: &[u8], desk: &mut [u8], held: &mut [u8], units: &mut [u8], records: &mut [u8])
+    requires { ⌜ (64 ≤ length (now q)) × (length (now desk) ≡ 6440) ⌝ }
+    ensures { λ _. ⌜ record { desk = now (desk .exit); held = now (held .exit); units = now (units .exit); records = now (records .exit) } ≡ obeyed (now (q .entry)) (record { desk = now (desk .entry); held = now (held .entry); units = now (units .entry); records = now (records .entry) }) ⌝ }
 {
     let what = word_in(q, 0);
-    if what == 1 {
-        let octets = rest(q);
-        read(q, octets, desk, held, units, records);
+    if what < 2 {
+        read(q, desk, held, units, records);
         return;
     }
     if what == 2 {
-        let octets = part(frame, 0, word_in(q, 5));
-        read(q, octets, desk, held, units, records);
-        return;
-    }
-    if what == 3 {
         let octets = rest(q);
         lay_in(held, word_in(q, 2) as usize, octets);
         return;
     }
-    if what == 4 {
-        blank_all(desk, frame, held, units, records);
+    if what == 3 {
+        blank_all(held, units, records);
         return;
     }
-    on_desk(q, desk, frame);
+    on_desk(q, desk);
 }

@@ -5,8 +5,9 @@ ghost use lib.ListN.{length};
 ghost use Rattle.rules.specs.Octets.{flag};
 ghost use Rattle.rules.specs.Areas.{laid};
 ghost use Rattle.calling.specs.Rows.{word, spelled};
-ghost use Rattle.calling.specs.States.{channelIn, expectIn, kindIn, laneIn, frontIn, settingWith, slotIn, stateIn};
-ghost use Rattle.calling.specs.States.{frontRow, channelRow, kindNumber, laneRow, stateRow, stateOctets, writerOf, readerOf};
+ghost use Rattle.calling.specs.States.{channelIn, expectIn, kindIn, laneIn, channelsIn, expectsIn, lanesIn, heldIn};
+ghost use Rattle.calling.specs.States.{settingIn, readerIn, countsOf, writerIn};
+ghost use Rattle.calling.specs.States.{frontRow, channelRow, kindNumber, laneRow, channelRows, laneRows, stateOctets, readerOctets, expectsOf, writerOctets};
 use rules::Channel;
 use rules::Expect;
 use rules::Kind;
@@ -75,65 +76,155 @@ fn lane_in(s: &[u8], i: usize) -> Lane
     }
 }
 
-// The state of zeros with the setting's first numbers from the row that begins with number i.
-fn front_in(s: &[u8], i: usize) -> Reader
-    requires { ⌜ 8 * i + 64 ≤ length (now s) ⌝ }
-    ensures { λ r. ⌜ r ≡ frontIn (now (s .entry)) i ⌝ }
+// The eight channels from row k on.
+fn channels_in(s: &[u8], k: usize) -> [Channel; 8]
+    requires { ⌜ 64 * k + 512 ≤ length (now s) ⌝ }
+    ensures { λ r. ⌜ r ≡ channelsIn (now (s .entry)) k ⌝ }
 {
-    let mut r = setting::no_reader();
-    let mut t = r.setting;
-    t.length = word_in(s, i) as usize;
-    t.craft = (word_in(s, i + 1) % 65536) as u16;
-    t.bit = (word_in(s, i + 2) % 256) as u8;
-    t.insert = word_in(s, i + 3) as usize;
-    t.check = word_in(s, i + 4) == 1;
-    t.listed = word_in(s, i + 5) as usize;
-    t.numbered = word_in(s, i + 6) as usize;
-    r.setting = t;
-    r
-}
-
-// The setting with slot i from the rows that begin with numbers c and l.
-fn setting_with(s: Setting, q: &[u8], i: usize, c: usize, l: usize) -> Setting
-    requires { ⌜ (i < 8) × (8 * c + 64 ≤ length (now q)) × (8 * l + 64 ≤ length (now q)) ⌝ }
-    ensures { λ r. ⌜ r ≡ settingWith s (now (q .entry)) i c l ⌝ }
-{
-    let channel = channel_in(q, c);
-    let lane = lane_in(q, l);
-    let mut t = s;
-    t.channels[i] = channel;
-    t.lanes[i] = lane;
-    t
-}
-
-// The state with slot i from the same rows.
-fn slot_in(r: Reader, q: &[u8], i: usize, c: usize, l: usize) -> Reader
-    requires { ⌜ (i < 8) × (8 * c + 64 ≤ length (now q)) × (8 * l + 64 ≤ length (now q)) ⌝ }
-    ensures { λ t. ⌜ t ≡ slotIn r (now (q .entry)) i c l ⌝ }
-{
-    let s = r.setting;
-    let setting = setting_with(s, q, i, c, l);
-    let x = expect_in(q, c);
-    let mut t = r;
-    t.setting = setting;
-    t.expects[i] = x;
-    t.held[i] = word_in(q, l + 5) as usize;
-    t
-}
-
-// The state from row k on.
-pub fn state_in(s: &[u8], k: usize) -> Reader
-    requires { ⌜ 64 * k + 1088 ≤ length (now s) ⌝ }
-    ensures { λ r. ⌜ r ≡ stateIn (now (s .entry)) k ⌝ }
-{
-    let mut r = front_in(s, 8 * k);
+    let none = Channel {
+        vc: 0,
+        service: 0,
+        octets: 0,
+        ocf: false,
+    };
+    let mut r = [none; 8];
     let mut i: usize = 0;
     while i < 8 {
-        let t = slot_in(r, s, i, 8 * (k + 1 + i), 8 * (k + 9 + i));
-        r = t;
+        let c = channel_in(s, 8 * (k + i));
+        r[i] = c;
         i += 1;
     }
     r
+}
+
+// The eight expected counts from row k on.
+fn expects_in(s: &[u8], k: usize) -> [Expect; 8]
+    requires { ⌜ 64 * k + 512 ≤ length (now s) ⌝ }
+    ensures { λ r. ⌜ r ≡ expectsIn (now (s .entry)) k ⌝ }
+{
+    let none = Expect {
+        known: false,
+        count: 0,
+    };
+    let mut r = [none; 8];
+    let mut i: usize = 0;
+    while i < 8 {
+        let x = expect_in(s, 8 * (k + i));
+        r[i] = x;
+        i += 1;
+    }
+    r
+}
+
+// The eight lanes from row k on.
+fn lanes_in(s: &[u8], k: usize) -> [Lane; 8]
+    requires { ⌜ 64 * k + 512 ≤ length (now s) ⌝ }
+    ensures { λ r. ⌜ r ≡ lanesIn (now (s .entry)) k ⌝ }
+{
+    let none = Lane {
+        channel: 0,
+        map: 0,
+        kind: Kind::Packets,
+        longest: 0,
+        upid: 0,
+    };
+    let mut r = [none; 8];
+    let mut i: usize = 0;
+    while i < 8 {
+        let l = lane_in(s, 8 * (k + i));
+        r[i] = l;
+        i += 1;
+    }
+    r
+}
+
+// What the eight lanes from row k on hold.
+fn held_in(s: &[u8], k: usize) -> [usize; 8]
+    requires { ⌜ 64 * k + 512 ≤ length (now s) ⌝ }
+    ensures { λ r. ⌜ r ≡ heldIn (now (s .entry)) k ⌝ }
+{
+    let mut r = [0usize; 8];
+    let mut i: usize = 0;
+    while i < 8 {
+        r[i] = word_in(s, 8 * (k + i) + 5) as usize;
+        i += 1;
+    }
+    r
+}
+
+// The setting from row k on.
+pub fn setting_in(s: &[u8], k: usize) -> Setting
+    requires { ⌜ 64 * k + 1088 ≤ length (now s) ⌝ }
+    ensures { λ r. ⌜ r ≡ settingIn (now (s .entry)) k ⌝ }
+{
+    let i = 8 * k;
+    let channels = channels_in(s, k + 1);
+    let lanes = lanes_in(s, k + 9);
+    Setting {
+        length: word_in(s, i) as usize,
+        craft: (word_in(s, i + 1) % 65536) as u16,
+        bit: (word_in(s, i + 2) % 256) as u8,
+        insert: word_in(s, i + 3) as usize,
+        check: word_in(s, i + 4) == 1,
+        listed: word_in(s, i + 5) as usize,
+        channels: channels,
+        numbered: word_in(s, i + 6) as usize,
+        lanes: lanes,
+    }
+}
+
+// The reader's state from row k on.
+pub fn reader_in(s: &[u8], k: usize) -> Reader
+    requires { ⌜ 64 * k + 1088 ≤ length (now s) ⌝ }
+    ensures { λ r. ⌜ r ≡ readerIn (now (s .entry)) k ⌝ }
+{
+    let setting = setting_in(s, k);
+    let expects = expects_in(s, k + 1);
+    let held = held_in(s, k + 9);
+    Reader {
+        setting: setting,
+        expects: expects,
+        held: held,
+    }
+}
+
+// Eight counts of those expected.
+fn counts_of(x: [Expect; 8]) -> [u64; 8]
+    ensures { λ r. ⌜ r ≡ countsOf x ⌝ }
+{
+    let a = x[0];
+    let b = x[1];
+    let c = x[2];
+    let d = x[3];
+    let e = x[4];
+    let f = x[5];
+    let g = x[6];
+    let h = x[7];
+    [
+        a.count,
+        b.count,
+        c.count,
+        d.count,
+        e.count,
+        f.count,
+        g.count,
+        h.count,
+    ]
+}
+
+// The writer's state from row k on.
+pub fn writer_in(s: &[u8], k: usize) -> Writer
+    requires { ⌜ 64 * k + 1088 ≤ length (now s) ⌝ }
+    ensures { λ r. ⌜ r ≡ writerIn (now (s .entry)) k ⌝ }
+{
+    let setting = setting_in(s, k);
+    let counts = counts_of(expects_in(s, k + 1));
+    let next = held_in(s, k + 9);
+    Writer {
+        setting: setting,
+        counts: counts,
+        next: next,
+    }
 }
 
 // ---- into octets
@@ -224,78 +315,61 @@ fn lane_row(l: Lane, n: usize) -> [u64; 8]
     ]
 }
 
-// Row i of a state.
-fn state_row(r: Reader, i: usize) -> [u64; 8]
-    requires { ⌜ i < 17 ⌝ }
-    ensures { λ n. ⌜ n ≡ stateRow r i ⌝ }
-{
-    let s = r.setting;
-    if i == 0 {
-        return front_row(s);
-    }
-    if i < 9 {
-        let c = s.channels[i - 1];
-        let x = r.expects[i - 1];
-        return channel_row(c, x);
-    }
-    let l = s.lanes[i - 9];
-    lane_row(l, r.held[i - 9])
-}
-
-// Lays a state into the rows from row k on.
-pub fn put_state(area: &mut [u8], k: usize, r: Reader)
-    requires { ⌜ 64 * k + 1088 ≤ length (now area) ⌝ }
-    ensures { λ _. ⌜ now (area .exit) ≡ laid (now (area .entry)) (64 * k) (stateOctets r) ⌝ }
+// Lays channels and expected counts into the rows from row k on.
+fn put_channels(area: &mut [u8], k: usize, c: [Channel; 8], x: [Expect; 8])
+    requires { ⌜ 64 * k + 512 ≤ length (now area) ⌝ }
+    ensures { λ _. ⌜ now (area .exit) ≡ laid (now (area .entry)) (64 * k) (channelRows c x) ⌝ }
 {
     let mut i: usize = 0;
-    while i < 17 {
-        let row = state_row(r, i);
+    while i < 8 {
+        let row = channel_row(c[i], x[i]);
         put_row(area, k + i, row);
         i += 1;
     }
 }
 
-// ---- a writer's state
-
-// A writer's state from rows.
-pub fn writer_of(r: Reader) -> Writer
-    ensures { λ w. ⌜ w ≡ writerOf r ⌝ }
+// Lays lanes and what they hold into the rows from row k on.
+fn put_lanes(area: &mut [u8], k: usize, l: [Lane; 8], n: [usize; 8])
+    requires { ⌜ 64 * k + 512 ≤ length (now area) ⌝ }
+    ensures { λ _. ⌜ now (area .exit) ≡ laid (now (area .entry)) (64 * k) (laneRows l n) ⌝ }
 {
-    let s = r.setting;
-    let x = r.expects;
-    let next = r.held;
-    let a = x[0];
-    let b = x[1];
-    let c = x[2];
-    let d = x[3];
-    let e = x[4];
-    let f = x[5];
-    let g = x[6];
-    let h = x[7];
-    Writer {
-        setting: s,
-        counts: [
-            a.count,
-            b.count,
-            c.count,
-            d.count,
-            e.count,
-            f.count,
-            g.count,
-            h.count,
-        ],
-        next: next,
+    let mut i: usize = 0;
+    while i < 8 {
+        let row = lane_row(l[i], n[i]);
+        put_row(area, k + i, row);
+        i += 1;
     }
 }
 
-// A writer's state for rows.
-pub fn reader_of(w: Writer) -> Reader
-    ensures { λ r. ⌜ r ≡ readerOf w ⌝ }
+// Lays a state into the rows from row k on.
+fn put_state(area: &mut [u8], k: usize, s: Setting, x: [Expect; 8], n: [usize; 8])
+    requires { ⌜ 64 * k + 1088 ≤ length (now area) ⌝ }
+    ensures { λ _. ⌜ now (area .exit) ≡ laid (now (area .entry)) (64 * k) (stateOctets s x n) ⌝ }
 {
-    let s = w.setting;
-    let n = w.counts;
-    let held = w.next;
-    let x = [
+    let row = front_row(s);
+    put_row(area, k, row);
+    let channels = s.channels;
+    put_channels(area, k + 1, channels, x);
+    let lanes = s.lanes;
+    put_lanes(area, k + 9, lanes, n);
+}
+
+// Lays a reader's state into the rows from row k on.
+pub fn put_reader(area: &mut [u8], k: usize, r: Reader)
+    requires { ⌜ 64 * k + 1088 ≤ length (now area) ⌝ }
+    ensures { λ _. ⌜ now (area .exit) ≡ laid (now (area .entry)) (64 * k) (readerOctets r) ⌝ }
+{
+    let s = r.setting;
+    let x = r.expects;
+    let n = r.held;
+    put_state(area, k, s, x, n);
+}
+
+// Counts for the rows of channels.
+fn expects_of(n: [u64; 8]) -> [Expect; 8]
+    ensures { λ r. ⌜ r ≡ expectsOf n ⌝ }
+{
+    [
         Expect {
             known: false,
             count: n[0],
@@ -328,10 +402,17 @@ pub fn reader_of(w: Writer) -> Reader
             known: false,
             count: n[7],
         },
-    ];
-    Reader {
-        setting: s,
-        expects: x,
-        held: held,
-    }
+    ]
+}
+
+// Lays a writer's state into the rows from row k on.
+pub fn put_writer(area: &mut [u8], k: usize, w: Writer)
+    requires { ⌜ 64 * k + 1088 ≤ length (now area) ⌝ }
+    ensures { λ _. ⌜ now (area .exit) ≡ laid (now (area .entry)) (64 * k) (writerOctets w) ⌝ }
+{
+    let s = w.setting;
+    let c = w.counts;
+    let x = expects_of(c);
+    let n = w.next;
+    put_state(area, k, s, x, n);
 }

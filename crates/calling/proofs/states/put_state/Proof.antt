@@ -1,80 +1,57 @@
-use Prim.Native.Nat.{ℕ, _≤_, _-_, _*_}
-use mathlib.Core.Path.{_≡_, _∙_, ap, sym}
-use native.Mathlib.Omega.{arith}
-use lib.ListN.{length}
-use Rattle.rules.specs.Areas.{laid}
-use Rattle.rules.proofs.Areas.{laid-nil}
-use Rattle.calling.specs.States.{stateRows, stateOctets}
-use Rattle.calling.proofs.Rows.{rows-turn}
+use Rattle.calling.proofs.Rows.{state-laid}
 use borrow.Author.Needs.{needs}
 use Rattle.calling.proofs.states.put_state.Statement.{statement}
 use Rattle.calling.proofs.states.put_state.Tie as tie
 use Rattle.calling.proofs.states.put_state.Reads as reads
 use Rattle.calling.proofs.states.put_state.Lts as lts
+use Rattle.calling.proofs.states.front_row.Reads as front-row-reads
+use Rattle.calling.proofs.states.put_channels.Reads as put-channels-reads
+use Rattle.calling.proofs.states.put_lanes.Reads as put-lanes-reads
 use Rattle.calling.proofs.states.put_row.Reads as put-row-reads
-use Rattle.calling.proofs.states.state_row.Reads as state-row-reads
 
-abbrev Inv-loop : tie.InvT-loop
-Inv-loop area₀ k r i₀ area i = (i ≤ 17) × (length area ≡ length area₀) × (area ≡ laid area₀ (64 * k) (stateRows r i))
+-- src/states.rt:342:9
+front-row-requires : tie.Need-front-row-requires
+front-row-requires c κs = search needs
 
-abbrev μ-loop : tie.MeasureT-loop
-μ-loop area₀ k r i₀ area i = 17 - i
-
--- src/states.rt:251:5
-loop-holds : tie.Need-loop-holds Inv-loop μ-loop
-unfolding stateRows
-loop-holds c = (search needs, search needs, sym (laid-nil _ _))
-
--- src/states.rt:252:13
-state-row-requires : tie.Need-state-row-requires Inv-loop μ-loop
-state-row-requires c κs = search needs
-
--- src/states.rt:253:23
-add-put-row : tie.Need-add-put-row Inv-loop μ-loop
-add-put-row c = search needs
-
--- src/states.rt:253:9
-put-row-requires : tie.Need-put-row-requires Inv-loop μ-loop
+-- src/states.rt:343:5
+put-row-requires : tie.Need-put-row-requires
 put-row-requires c κs = search needs
 
--- src/states.rt:254:9
-add-i : tie.Need-add-i Inv-loop μ-loop
-add-i c = search needs
+-- src/states.rt:345:24
+add-put-channels : tie.Need-add-put-channels
+add-put-channels c = search needs
 
--- src/states.rt:251:5
-loop-less : tie.Need-loop-less Inv-loop μ-loop
-loop-less c = search needs
+-- src/states.rt:345:5
+put-channels-requires : tie.Need-put-channels-requires
+put-channels-requires c κs = search needs
 
--- src/states.rt:251:5
-loop-again : tie.Need-loop-again Inv-loop μ-loop
-loop-again c =
-    let a = c .before .before .before .before .before .before .before .before .args in
-    (search needs, search needs, c .before .before .put-row .ensures ∙ rows-turn (a .area .now) _ _ (a .r) (a .k) _ (search needs) (c .before .before .before .before .before .before .loop .inv .2) (c .before .before .before .before .state-row .ensures))
+-- src/states.rt:347:21
+add-put-lanes : tie.Need-add-put-lanes
+add-put-lanes c = search needs
 
--- src/states.rt:246:1
-same-length : tie.Need-same-length Inv-loop μ-loop
+-- src/states.rt:347:5
+put-lanes-requires : tie.Need-put-lanes-requires
+put-lanes-requires c κs = search needs
+
+-- src/states.rt:338:1
+same-length : tie.Need-same-length
 same-length c = search needs
 
--- src/states.rt:246:1
-returns : tie.Need-returns Inv-loop μ-loop
-unfolding stateOctets
+-- src/states.rt:338:1
+returns : tie.Need-returns
 returns c =
-    let a = c .before .before .before .args in
-    let e : c .before .loop .i ≡ 17 = omega arith in
-    c .before .loop .inv .2 ∙ ap (λ (n : ℕ). laid (a .area .now) (64 * a .k) (stateRows (a .r) n)) e
+    let a = c .before .before .before .before .before .before .before .before .before .before .before .before .before .before .before .before .args in
+    state-laid (a .area .now) _ _ _ _ (a .k) (a .s) _ _ (c .before .before .before .before .before .before .before .before .before .before .before .before .before .before .before .before .pre) (c .before .before .before .before .before .before .before .before .before .before .before .before .before .before .front-row .ensures) (c .before .before .before .before .before .before .before .before .before .before .before .before .put-row .ensures) (c .before .before .before .before .before .before .before .put-channels .ensures) (c .before .before .put-lanes .ensures)
 
 pub put-state-spec : {M : Type 1} → statement M
 put-state-spec =
     tie.close
     (tie.spec
-    Inv-loop
-    μ-loop
-    loop-holds
-    state-row-requires
-    add-put-row
+    front-row-requires
     put-row-requires
-    add-i
-    loop-less
-    loop-again
+    add-put-channels
+    put-channels-requires
+    add-put-lanes
+    put-lanes-requires
     same-length
     returns)
