@@ -1,6 +1,7 @@
 use mathlib.Core.Path.{sym, ap}
 use lib.Seq.{length-take-le}
 use Rattle.rules.specs.Calls.{Got}
+use Rattle.rules.proofs.Promises.{read-is}
 use Rattle.calling.specs.Requests.{readIn, whole}
 use borrow.Author.Needs.{needs}
 use Rattle.calling.proofs.requests.read_in.Statement.{statement}
@@ -54,7 +55,7 @@ returns : tie.Need-returns
 unfolding readIn whole
 returns c =
     let a = c .before .before .before .before .before .before .before .before .before .before .before .before .before .before .args in
-    ap (λ (g : Got). whole (a .z) g (a .held .now) (a .units .now) (a .records .now)) (c .before .before .before .before .before .before .read .ensures)
+    ap (λ (g : Got). whole (a .z) g (a .held .now) (a .units .now) (a .records .now)) (read-is _ _ _ _ _ _ (c .before .before .before .before .before .before .read .ensures))
 
 pub read-in-spec : {M : Type 1} → statement M
 read-in-spec =

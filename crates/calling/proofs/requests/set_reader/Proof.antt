@@ -1,5 +1,6 @@
 use mathlib.Core.Path.{_∙_, ap}
 use Rattle.rules.specs.Calls.{setUpReader}
+use Rattle.rules.proofs.Promises.{reader-starts-is}
 use Rattle.calling.specs.Requests.{heardOn}
 use borrow.Author.Needs.{needs}
 use Rattle.calling.proofs.requests.set_reader.Statement.{statement}
@@ -28,7 +29,7 @@ same-length c = search needs
 
 -- src/requests.rt:180:1
 returns : tie.Need-returns
-returns c = c .before .before .put-heard .ensures ∙ ap (heardOn _) (c .before .before .before .before .set-up .ensures ∙ ap setUpReader (c .before .before .before .before .before .setting-in .ensures))
+returns c = c .before .before .put-heard .ensures ∙ ap (heardOn _) (reader-starts-is _ _ (c .before .before .before .before .set-up .ensures) ∙ ap setUpReader (c .before .before .before .before .before .setting-in .ensures))
 
 pub set-reader-spec : {M : Type 1} → statement M
 set-reader-spec =

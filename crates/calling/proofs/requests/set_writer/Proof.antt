@@ -1,5 +1,6 @@
 use mathlib.Core.Path.{_∙_, ap}
 use Rattle.rules.specs.Calls.{setUpWriter}
+use Rattle.rules.proofs.Promises.{writer-starts-is}
 use Rattle.calling.specs.Requests.{sentOn}
 use borrow.Author.Needs.{needs}
 use Rattle.calling.proofs.requests.set_writer.Statement.{statement}
@@ -28,7 +29,7 @@ same-length c = search needs
 
 -- src/requests.rt:170:1
 returns : tie.Need-returns
-returns c = c .before .before .put-sent .ensures ∙ ap (sentOn _) (c .before .before .before .before .set-up .ensures ∙ ap setUpWriter (c .before .before .before .before .before .setting-in .ensures))
+returns c = c .before .before .put-sent .ensures ∙ ap (sentOn _) (writer-starts-is _ _ (c .before .before .before .before .set-up .ensures) ∙ ap setUpWriter (c .before .before .before .before .before .setting-in .ensures))
 
 pub set-writer-spec : {M : Type 1} → statement M
 set-writer-spec =

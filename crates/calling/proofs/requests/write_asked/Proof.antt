@@ -1,3 +1,4 @@
+use Rattle.rules.proofs.Promises.{write-is}
 use Rattle.calling.proofs.Desks.{asked-is}
 use borrow.Author.Needs.{needs}
 use Rattle.calling.proofs.requests.write_asked.Statement.{statement}
@@ -46,7 +47,7 @@ same-length c = search needs
 
 -- src/requests.rt:187:1
 returns : tie.Need-returns
-returns c = asked-is (c .before .before .before .before .before .before .before .before .before .before .before .before .before .args .q .now) _ _ _ _ (c .before .before .before .before .before .before .before .before .before .before .before .before .before .args .w) _ _ _ _ _ (c .before .before .before .before .before .before .before .before .before .before .word-in .ensures) (c .before .before .before .before .before .before .before .before .before .word-in2 .ensures) (c .before .before .before .before .before .before .before .before .part .ensures) (c .before .before .before .before .before .before .before .word-in3 .ensures) (c .before .before .before .before .before .before .part2 .ensures) (c .before .before .before .before .before .word-in4 .ensures) (c .before .before .before .before .part3 .ensures) (c .before .before .write .ensures)
+returns c = asked-is (c .before .before .before .before .before .before .before .before .before .before .before .before .before .args .q .now) _ _ _ _ (c .before .before .before .before .before .before .before .before .before .before .before .before .before .args .w) _ _ _ _ _ (c .before .before .before .before .before .before .before .before .before .before .word-in .ensures) (c .before .before .before .before .before .before .before .before .before .word-in2 .ensures) (c .before .before .before .before .before .before .before .before .part .ensures) (c .before .before .before .before .before .before .before .word-in3 .ensures) (c .before .before .before .before .before .before .part2 .ensures) (c .before .before .before .before .before .word-in4 .ensures) (c .before .before .before .before .part3 .ensures) (write-is _ _ _ _ _ _ _ (c .before .before .write .ensures))
 
 pub write-asked-spec : {M : Type 1} → statement M
 write-asked-spec =
