@@ -1,15 +1,17 @@
 -- Texts of bounded length, put one after another.
 use Prim.Native.Nat.{ℕ, _+_, _≤_}
-use mathlib.Core.Path.{_≡_, sym, subst}
-use mathlib.Core.List.{List, _++_}
+use mathlib.Core.Path.{_≡_, sym, ap, subst, _∙_}
+use mathlib.Core.List.{List, [], _++_}
 use lib.ListN.{length, length-append}
+use native.Mathlib.Numerals.{add-one}
 use native.Mathlib.Omega.{arith}
 use Rattle.rules.specs.declared.Class.{Class}
 use Rattle.rules.specs.declared.Verdict.{Verdict}
 use Rattle.rules.specs.Listing.{decimal}
+use Rattle.rules.proofs.Areas.{length-laid}
 use Rattle.listing_text.specs.Puts.{Put, front}
-use Rattle.listing_text.proofs.Laws.{put-then, length-decimal, length-front}
-use Rattle.unpack_text.specs.Lines.{Wrote, third}
+use Rattle.listing_text.proofs.Laws.{put-none, put-then, length-decimal, length-front}
+use Rattle.unpack_text.specs.Lines.{Wrote, third, firsts}
 
 -- ---- one
 
@@ -56,3 +58,22 @@ module _ {n₁ n₂ n₃ n₄ n₅ : ℕ} {x₁ x₂ x₃ x₄ x₅ area : List 
   pub wrote-five : Wrote n₁ x₁ area from a₁ e₁ → Wrote n₂ x₂ a₁ e₁ a₂ e₂ → Wrote n₃ x₃ a₂ e₂ a₃ e₃ → Wrote n₄ x₄ a₃ e₃ a₄ e₄ → Wrote n₅ x₅ a₄ e₄ a₅ e₅
       → from + (n₁ + n₂ + n₃ + n₄ + n₅) ≤ length area → Wrote (n₁ + n₂ + n₃ + n₄ + n₅) (x₁ ++ x₂ ++ x₃ ++ x₄ ++ x₅) area from a₅ e₅
   wrote-five p q r s t room = wrote-then (wrote-four p q r s (omega arith)) t (omega arith)
+
+-- ---- line after line
+
+pub wrote-none : (line : ℕ → List ℕ) (area : List ℕ) (from : ℕ) → Wrote 0 (firsts line 0) area from area from
+unfolding firsts
+wrote-none line area from = record { put = put-none area from; most = omega arith }
+
+pub wrote-next : (line : ℕ → List ℕ) (i k : ℕ) {n m : ℕ} {area : List ℕ} {from : ℕ} {a₁ : List ℕ} {at : ℕ} {a₂ : List ℕ} {end : ℕ}
+    → Wrote n (firsts line i) area from a₁ at → Wrote m (line i) a₁ at a₂ end → from + n ≤ length area → n + m ≤ k → Wrote k (firsts line (i + 1)) area from a₂ end
+unfolding firsts
+wrote-next line i k p q room few = rw (add-one i) (wrote-more k few (wrote-then p q room))
+
+pub wrote-all : (line : ℕ → List ℕ) (k : ℕ) {i n m : ℕ} {area : List ℕ} {from : ℕ} {area′ : List ℕ} {end : ℕ}
+    → Wrote m (firsts line i) area from area′ end → i ≡ n → m ≤ k → Wrote k (firsts line n) area from area′ end
+wrote-all line k {area = area} {from = from} {area′ = area′} {end = end} w e few =
+    subst (λ (j : ℕ). Wrote k (firsts line j) area from area′ end) e (wrote-more k few w)
+
+pub wrote-length : {n : ℕ} {xs area : List ℕ} {from : ℕ} {area′ : List ℕ} {end : ℕ} → Wrote n xs area from area′ end → from + n ≤ length area → length area′ ≡ length area
+wrote-length {n} {xs} {area} {from} w room = ap length (w .put .octets) ∙ length-laid area from xs (omega (arith, w .most))
