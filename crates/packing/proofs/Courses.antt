@@ -177,3 +177,11 @@ module _ (j : Job) (c : Course) (xs insert ocf : List ℕ) {good : Bool} {d : Co
       pub unit-whole : length xs ≤ j .longest → Unless d (batchOn j c xs insert ocf) → Unless d (unitCourse j c good xs insert ocf)
       unfolding unitCourse
       unit-whole k e = rw (g, ne-eqb (length xs) 0 z, le-ltb (j .longest) (length xs) k) e
+
+-- ---- turn after turn
+
+-- What was left in a window still stands at the front of the next.
+pub still : {w : Window} {area : List ℕ} {w′ : Window} {area′ : List ℕ} → w .have ≤ length area → Refilled w area w′ area′
+    → take (length (take (w .have) area)) (take (w′ .have) area′) ≡ take (w .have) area
+still {w} {area} {w′} {area′} h r =
+    ap (λ (n : ℕ). take n (take (w′ .have) area′)) (length-take-le (w .have) area h) ∙ take-take (w .have) (w′ .have) area′ (r .more) ∙ r .kept

@@ -2,7 +2,7 @@
 use Prim.Native.Nat.{ℕ, zero, suc, _+_, _-_, _≤_, min}
 use mathlib.Core.Path.{_≡_}
 use mathlib.Core.Bool.{Bool, true, false, cond, not, _&&_}
-use mathlib.Core.List.{List}
+use mathlib.Core.List.{List, []}
 use lib.ListN.{length, take, drop, replicate}
 use Rattle.rules.specs.Tests.{_<?_, _=?_}
 use Rattle.rules.specs.declared.Outcome.{Outcome}
@@ -123,6 +123,19 @@ pub record Turned (j : Job) (c : Course) (w : Window) (xs insert ocf : List ℕ)
 abbrev pub Stepped : Job → Course → Window → List ℕ → List ℕ → List ℕ → Step → List ℕ → Type 0
 Stepped j c w insert ocf area s area′ = Turned j c w (take (w .have) area) insert ocf s (take (s .window .have) area′)
 
+-- Turn after turn from this course on: the course, which octet of the file is next, and those that are in the window already. A window holds
+-- what the one before it left, and then what was read.
+pub data Gone (j : Job) (c₀ : Course) (insert ocf : List ℕ) : Course → ℕ → List ℕ → Type 0 where
+  begun : Gone j c₀ insert ocf c₀ 0 []
+  turn : {c : Course} {at : ℕ} {left : List ℕ} {w : Window} {xs : List ℕ} {s : Step} {ys : List ℕ} → Gone j c₀ insert ocf c at left
+      → w .at ≡ at → take (length left) xs ≡ left → Turned j c w xs insert ocf s ys → Gone j c₀ insert ocf (s .course) (s .window .at) ys
+
+-- A packet lane's file was gone through: what was read in each turn, and so what is left, is what stands open.
+pub record Passed (j : Job) (c : Course) (insert ocf : List ℕ) (c′ : Course) : Type 0 where
+  pub at : ℕ
+  pub left : List ℕ
+  pub gone : Gone j c insert ocf c′ at left
+
 -- "An access lane's file is one unit, of 1 octet up to the lane's longest."
 unfoldable pub unitCourse : Job → Course → Bool → List ℕ → List ℕ → List ℕ → Course
 unitCourse j c good xs insert ocf =
@@ -130,3 +143,9 @@ unitCourse j c good xs insert ocf =
     (cond (length xs =? 0) (ended c faults.NoUnit)
     (cond (j .longest <? length xs) (ended c faults.LongUnit) (batchOn j c xs insert ocf)))
     (ended c faults.NotRead)
+
+-- An access lane's file was gone through: what was read, and whether all reads went well, is what stands open.
+pub record UnitPassed (j : Job) (c : Course) (insert ocf : List ℕ) (c′ : Course) : Type 0 where
+  pub good : Bool
+  pub octets : List ℕ
+  pub course : Unless c′ (unitCourse j c good octets insert ocf)

@@ -11,7 +11,7 @@ ghost use lib.ListN.{length, take};
 ghost use Rattle.io.specs.Counts.{Counts};
 ghost use Rattle.rules.specs.Settings.{lane, channel, ocfOctets, number};
 ghost use Rattle.packing.specs.Words.{begins as beginsWith, lane as laneNamed, nameOf, badPlan, planOn, fine};
-ghost use Rattle.packing.specs.Courses.{sound, wrongFault, Refilled, ended, oneMore, sentFault, SentNext, goesOn, Unless, workedOff, areaBefore, batchOn, noBatch, nextBatch, Stepped, unitCourse};
+ghost use Rattle.packing.specs.Courses.{sound, wrongFault, Refilled, ended, oneMore, sentFault, SentNext, goesOn, Unless, workedOff, areaBefore, batchOn, noBatch, nextBatch, Stepped, Passed, unitCourse, UnitPassed};
 use gathering::Wrong;
 use rules::Kind;
 use rules::Lane;
@@ -448,7 +448,9 @@ fn packets_step(j: Job, c: Course, w: Window, area: &mut [u8], insert: &[u8], oc
 
 // Goes through a packet lane's file, batch after batch. A proved loop has to end: this one goes by the place in the file, to one that no
 // file reaches.
-fn packets_on(j: Job, c: Course, fd: i32, insert: &[u8], ocf: &[u8]) -> Course {
+fn packets_on(j: Job, c: Course, fd: i32, insert: &[u8], ocf: &[u8]) -> Course
+    ensures { λ r. ⌜ Passed j c (now (insert .entry)) (now (ocf .entry)) r ⌝ }
+{
     let mut area = io::large_buffer();
     let mut course = c;
     let mut window = Window {
@@ -485,7 +487,9 @@ fn unit_step(j: Job, c: Course, good: bool, octets: &[u8], insert: &[u8], ocf: &
 }
 
 // Goes through an access lane's file.
-fn unit_on(j: Job, c: Course, fd: i32, insert: &[u8], ocf: &[u8]) -> Course {
+fn unit_on(j: Job, c: Course, fd: i32, insert: &[u8], ocf: &[u8]) -> Course
+    ensures { λ r. ⌜ UnitPassed j c (now (insert .entry)) (now (ocf .entry)) r ⌝ }
+{
     let mut area = io::large_buffer();
     let none = Window {
         have: 0,

@@ -1,15 +1,16 @@
--- The place in the file grows with each batch, and no more octets are in the window than it has.
+-- Turn after turn, each window begins with what the one before left. The place in the file grows with each batch.
 use Prim.Native.Nat.{_-_, _≤_}
 use mathlib.Core.Path.{_≡_}
-use lib.ListN.{length}
+use lib.ListN.{length, take}
 use native.Mathlib.Omega.{arith}
-use Rattle.packing.proofs.Courses.{turned-more}
+use Rattle.packing.specs.Courses.{Gone, begun, turn}
+use Rattle.packing.proofs.Courses.{turned-more, still}
 use borrow.Author.Needs.{needs}
 use Rattle.packing.proofs.packets_on.Statement.{statement}
 use Rattle.packing.proofs.packets_on.Tie as tie
 
 abbrev Inv-loop : tie.InvT-loop
-Inv-loop j fd insert ocf area₀ course₀ window₀ area course window = (window .have ≤ 65536) × (length area ≡ 65536)
+Inv-loop j fd insert ocf area₀ course₀ window₀ area course window = (window .have ≤ 65536) × (length area ≡ 65536) × Gone j course₀ insert ocf course (window .at) (take (window .have) area)
 
 abbrev μ-loop : tie.MeasureT-loop
 μ-loop j fd insert ocf area₀ course₀ window₀ area course window = 18446744073709486080 - window .at
@@ -18,7 +19,7 @@ large-buffer-requires : tie.Need-large-buffer-requires Inv-loop μ-loop
 large-buffer-requires c κs = search needs
 
 loop-holds : tie.Need-loop-holds Inv-loop μ-loop
-loop-holds c = search needs
+loop-holds c = (search needs, search needs, begun)
 
 slice-aggregate-fill-up : tie.Need-slice-aggregate-fill-up Inv-loop μ-loop
 slice-aggregate-fill-up c = search needs
@@ -36,13 +37,13 @@ loop-less : tie.Need-loop-less Inv-loop μ-loop
 loop-less c = omega (arith, c .before .before .before .before .before .before .before .fill-up .ensures .at, turned-more (c .before .before .before .before .packets-step .ensures) (c .if2 .taken), c .before .before .before .before .before .before .before .before .before .if1 .taken)
 
 loop-again : tie.Need-loop-again Inv-loop μ-loop
-loop-again c = (omega (arith, c .before .before .before .before .before .before .before .fill-up .ensures .fits, c .before .before .before .before .before .before .before .before .before .before .before .loop .inv .1, c .before .before .before .before .packets-step .ensures .have), search needs)
+loop-again c = (omega (arith, c .before .before .before .before .before .before .before .fill-up .ensures .fits, c .before .before .before .before .before .before .before .before .before .before .before .loop .inv .1, c .before .before .before .before .packets-step .ensures .have), search needs, turn (c .before .before .before .before .before .before .before .before .before .before .before .loop .inv .2) (c .before .before .before .before .before .before .before .fill-up .ensures .at) (still (search needs) (c .before .before .before .before .before .before .before .fill-up .ensures)) (c .before .before .before .before .packets-step .ensures))
 
 returns : tie.Need-returns Inv-loop μ-loop
-returns c = search needs
+returns c = record { at = _; left = _; gone = c .before .before .loop .inv .2 }
 
 returns-2 : tie.Need-returns-2 Inv-loop μ-loop
-returns-2 c = search needs
+returns-2 c = record { at = _; left = _; gone = turn (c .before .before .before .before .before .before .before .before .before .before .before .loop .inv .2) (c .before .before .before .before .before .before .before .fill-up .ensures .at) (still (search needs) (c .before .before .before .before .before .before .before .fill-up .ensures)) (c .before .before .before .before .packets-step .ensures) }
 
 pub packets-on-spec : {M : Type 1} → statement M
 packets-on-spec =

@@ -25,7 +25,7 @@ unit-step-requires : tie.Need-unit-step-requires
 unit-step-requires c κs = search needs
 
 returns : tie.Need-returns
-returns c = search needs
+returns c = record { good = c .before .before .before .fill-up .result .good; octets = _; course = c .unit-step .ensures }
 
 pub unit-on-spec : {M : Type 1} → statement M
 unit-on-spec =
