@@ -1,21 +1,24 @@
 -- From read to read, from frame to frame, and from batch to batch.
-use Prim.Native.Nat.{ℕ, zero, suc, _+_, _-_, _≤_, _<_}
-use native.Mathlib.Nat.{zero-add}
+use Prim.Native.Nat.{ℕ, zero, suc, _+_, _-_, _≤_, _<_, min}
+use native.Mathlib.Nat.{min-eq-left, min-eq-right}
 use native.Mathlib.Omega.{arith}
 use mathlib.Core.Path.{_≡_, refl, sym, ap, ap₂, subst, _∙_}
 use mathlib.Core.Bool.{Bool, true, false, cond, not, _&&_, false≢true}
 use mathlib.Core.List.{List, _++_}
 use lib.ListN.{length, take, drop, length-take, length-drop}
-use lib.Seq.{take-take, take-append-le, length-take-le}
+use lib.Seq.{take-take, take-all, take-append-le, length-take-le}
 use borrow.Author.Tests.{eq-eqb, ne-eqb, lt-ltb, le-ltb}
 use Rattle.rules.specs.Tests.{_=?_, _<?_}
 use Rattle.rules.specs.declared.Outcome.{Outcome}
 use Rattle.rules.specs.declared.Outcome.the-variants as outcomes
 use Rattle.rules.specs.declared.Sender.{Sender}
 use Rattle.rules.specs.declared.Writer.{Writer}
-use Rattle.rules.specs.Settings.{number}
+use Rattle.rules.specs.declared.Kind.{Kind}
+use Rattle.rules.specs.declared.Lane.{Lane}
+use Rattle.rules.specs.Settings.{number, lane, channel, ocfOctets}
 use Rattle.rules.specs.Areas.{laid}
 use Rattle.rules.specs.Calls.{Sent, write}
+use Rattle.rules.proofs.Tests.{split}
 use Rattle.rules.proofs.Areas.{length-laid, laid-front}
 use Rattle.gathering.specs.Gathering.{gathered}
 use Rattle.gathering.proofs.Kept.{gathered-inside}
@@ -25,7 +28,7 @@ use Rattle.packing.specs.declared.Window.{Window}
 use Rattle.packing.specs.declared.Course.{Course}
 use Rattle.packing.specs.declared.Job.{Job}
 use Rattle.packing.specs.declared.Step.{Step}
-use Rattle.packing.specs.Courses.{sound, sentFault, ended, Refilled, oneMore, courseOf, sentOn, SentNext, goesOn, workedOff, Unless, batchOn, nextBatch, noBatch, stepCourse, Turned, unitCourse}
+use Rattle.packing.specs.Courses.{sound, sentFault, ended, Refilled, oneMore, courseOf, sentOn, SentNext, goesOn, workedOff, Unless, batchOn, nextBatch, noBatch, stepCourse, Turned, unitCourse, PassedAs, LanePassed}
 
 -- ---- reads
 
@@ -185,3 +188,20 @@ pub still : {w : Window} {area : List ℕ} {w′ : Window} {area′ : List ℕ} 
     → take (length (take (w .have) area)) (take (w′ .have) area′) ≡ take (w .have) area
 still {w} {area} {w′} {area′} h r =
     ap (λ (n : ℕ). take n (take (w′ .have) area′)) (length-take-le (w .have) area h) ∙ take-take (w .have) (w′ .have) area′ (r .more) ∙ r .kept
+
+-- ---- lanes
+
+pub take-least : (n : ℕ) (xs : List ℕ) {r : ℕ} → r ≡ min n (length xs) → take r xs ≡ take n xs
+take-least n xs {r} e =
+    split n (length xs)
+    (λ h. ap (λ (i : ℕ). take i xs) (e ∙ min-eq-left h))
+    (λ h. ap (λ (i : ℕ). take i xs) (e ∙ min-eq-right (omega arith)) ∙ take-all (length xs) xs (omega arith) ∙ sym (take-all n xs (omega arith)))
+
+pub lane-passed : (writing : Bool) (c : Course) (l : ℕ) (insert ocf : List ℕ) (a : Lane) (k : Kind) (n o : ℕ) (r : Course) → a ≡ lane (c .state .setting) l
+    → a .kind ≡ k → o ≡ ocfOctets (channel (c .state .setting) (a .channel)) → take n ocf ≡ take o ocf
+    → PassedAs k (record { writing = writing; lane = l; longest = a .longest }) c insert (take n ocf) r → LanePassed writing c l insert ocf r
+unfolding LanePassed
+lane-passed writing c l insert ocf a k n o r e q z t p =
+    let run : Kind → Lane → List ℕ → Type 0 = λ y x os. PassedAs y (record { writing = writing; lane = l; longest = x .longest }) c insert os r in
+    subst (λ (x : Lane). run (x .kind) x (take (ocfOctets (channel (c .state .setting) (x .channel))) ocf)) e
+    (subst (λ (os : List ℕ). run (a .kind) a os) (t ∙ ap (λ (i : ℕ). take i ocf) z) (subst (λ (y : Kind). run y a (take n ocf)) (sym q) p))

@@ -9,7 +9,10 @@ use Rattle.rules.specs.declared.Outcome.{Outcome}
 use Rattle.rules.specs.declared.Outcome.the-variants as outcomes
 use Rattle.rules.specs.declared.Sender.{Sender}
 use Rattle.rules.specs.declared.Writer.{Writer}
-use Rattle.rules.specs.Settings.{number}
+use Rattle.rules.specs.declared.Kind.{Kind}
+use Rattle.rules.specs.declared.Kind.the-variants.{Packets, Access}
+use Rattle.rules.specs.declared.Lane.{Lane}
+use Rattle.rules.specs.Settings.{number, lane, channel, ocfOctets}
 use Rattle.rules.specs.Calls.{Sent, write}
 use Rattle.gathering.specs.declared.Wrong.{Wrong}
 use Rattle.gathering.specs.declared.Wrong.the-variants as wrongs
@@ -149,3 +152,13 @@ pub record UnitPassed (j : Job) (c : Course) (insert ocf : List ℕ) (c′ : Cou
   pub good : Bool
   pub octets : List ℕ
   pub course : Unless c′ (unitCourse j c good octets insert ocf)
+
+unfoldable pub PassedAs : Kind → Job → Course → List ℕ → List ℕ → Course → Type 0
+PassedAs Packets = Passed
+PassedAs Access = UnitPassed
+
+-- The file of lane l was gone through, by the lane's kind and longest unit, and with as many OCF octets as its channel has.
+unfoldable pub LanePassed : Bool → Course → ℕ → List ℕ → List ℕ → Course → Type 0
+LanePassed writing c l insert ocf c′ =
+    let a : Lane = lane (c .state .setting) l in
+    PassedAs (a .kind) (record { writing = writing; lane = l; longest = a .longest }) c insert (take (ocfOctets (channel (c .state .setting) (a .channel))) ocf) c′

@@ -6,12 +6,12 @@
 // all octets of the file (`unit_step`); to work a batch off is to write it, frame by frame, until the lane's number returns to 0
 // (`work_off`); what is wrong, and at which octet (`Fault`). Shown by runs: what no contract can follow into the system.
 ghost use mathlib.Core.Path.{_≡_};
-ghost use Prim.Native.Nat.{_+_, _≤_};
+ghost use Prim.Native.Nat.{_+_, _≤_, min};
 ghost use lib.ListN.{length, take};
 ghost use Rattle.io.specs.Counts.{Counts};
 ghost use Rattle.rules.specs.Settings.{lane, channel, ocfOctets, number};
 ghost use Rattle.packing.specs.Words.{begins as beginsWith, lane as laneNamed, nameOf, badPlan, planOn, fine};
-ghost use Rattle.packing.specs.Courses.{sound, wrongFault, Refilled, ended, oneMore, sentFault, SentNext, goesOn, Unless, workedOff, areaBefore, batchOn, noBatch, nextBatch, Stepped, Passed, unitCourse, UnitPassed};
+ghost use Rattle.packing.specs.Courses.{sound, wrongFault, Refilled, ended, oneMore, sentFault, SentNext, goesOn, Unless, workedOff, areaBefore, batchOn, noBatch, nextBatch, Stepped, Passed, unitCourse, UnitPassed, LanePassed};
 use gathering::Wrong;
 use rules::Kind;
 use rules::Lane;
@@ -194,7 +194,7 @@ struct Window {
 
 // The lesser of two numbers.
 fn least(a: usize, b: usize) -> usize
-    ensures { λ r. ⌜ (r ≤ a) × (r ≤ b) ⌝ }
+    ensures { λ r. ⌜ r ≡ min a b ⌝ }
 {
     if a < b {
         return a;
@@ -205,6 +205,7 @@ fn least(a: usize, b: usize) -> usize
 // As many octets at the front of an area as asked for, or all of them.
 fn within(n: usize, area: &[u8]) -> usize
     ensures { λ r. ⌜ Counts r (now (area .entry)) ⌝ }
+    ensures { λ r. ⌜ take r (now (area .entry)) ≡ take n (now (area .entry)) ⌝ }
 {
     least(n, area.len())
 }
@@ -533,13 +534,10 @@ fn ocf_of(s: Setting, a: Lane) -> usize
 
 // ---- the arguments
 
-// Goes through the file of lane l.
-fn file_on(writing: bool, c: Course, l: usize, path: &[u8], insert: &[u8], ocf: &[u8]) -> Course {
-    let fd = os::open_read(path);
-    if fd < 0 {
-        console::say_failed(b"pack", path);
-        return end_with(c, Fault::NotRead);
-    }
+// Goes through the open file of lane l, by the lane's kind.
+fn lane_on(writing: bool, c: Course, l: usize, fd: i32, insert: &[u8], ocf: &[u8]) -> Course
+    ensures { λ r. ⌜ LanePassed writing c l (now (insert .entry)) (now (ocf .entry)) r ⌝ }
+{
     let w = c.state;
     let s = w.setting;
     let a = lane_of(s, l);
@@ -551,10 +549,20 @@ fn file_on(writing: bool, c: Course, l: usize, path: &[u8], insert: &[u8], ocf: 
         lane: l,
         longest: a.longest,
     };
-    let t = match kind {
+    match kind {
         Kind::Packets => packets_on(j, c, fd, insert, &ocf[..n]),
         Kind::Access => unit_on(j, c, fd, insert, &ocf[..n]),
-    };
+    }
+}
+
+// Goes through the file of lane l, and says what is wrong with it.
+fn file_on(writing: bool, c: Course, l: usize, path: &[u8], insert: &[u8], ocf: &[u8]) -> Course {
+    let fd = os::open_read(path);
+    if fd < 0 {
+        console::say_failed(b"pack", path);
+        return end_with(c, Fault::NotRead);
+    }
+    let t = lane_on(writing, c, l, fd, insert, ocf);
     let fault = t.fault;
     say_fault(path, fault);
     libc::close(fd);
