@@ -28,7 +28,8 @@ use Rattle.packing.specs.declared.Window.{Window}
 use Rattle.packing.specs.declared.Course.{Course}
 use Rattle.packing.specs.declared.Job.{Job}
 use Rattle.packing.specs.declared.Step.{Step}
-use Rattle.packing.specs.Courses.{sound, sentFault, ended, Refilled, oneMore, courseOf, sentOn, SentNext, goesOn, workedOff, Unless, batchOn, nextBatch, noBatch, stepCourse, Turned, unitCourse, PassedAs, LanePassed}
+use Rattle.packing.specs.Courses.{sound, sentFault, ended, Refilled, oneMore, courseOf, sentOn, SentNext, goesOn}
+use Rattle.packing.specs.Courses.{workedOff, Unless, batchOn, nextBatch, noBatch, stepCourse, Turned, unitCourse, PassedAs, LanePassed}
 
 -- ---- reads
 
@@ -48,7 +49,8 @@ refilled-then {w} {a} {x} {b} {y} {d} p q l =
 
 -- ---- frames
 
-module _ (c : Course) (l : ℕ) (batch insert ocf area : List ℕ) {x : Sender} {area′ : List ℕ} (e : record { sender = x; area = area′ } ≡ write (c .state) l batch insert ocf area) where
+module _ (c : Course) (l : ℕ) (batch insert ocf area : List ℕ) {x : Sender} {area′ : List ℕ} (e : record { sender = x; area = area′ } ≡ write
+    (c .state) l batch insert ocf area) where
   -- What the writer answers, whichever it is.
   answered : (c′ : Course) → c′ ≡ courseOf c (x .outcome) (x .state) (sound (c′ .fault)) → SentNext c l batch insert ocf area c′ area′
   unfolding sentOn
@@ -89,7 +91,8 @@ on-sent c l h e =
     let k : (sound (c .fault) && not (number (c .state) l =? 0)) ≡ false = ap (λ (f : Fault). sound f && not (number (c .state) l =? 0)) e in
     absurd (false≢true (sym k ∙ h))
 
-module _ {c : Course} {l : ℕ} {batch insert ocf area : List ℕ} {c′ : Course} {area′ : List ℕ} (s : SentNext c l batch insert ocf area c′ area′) {n m : ℕ} (f : m ≡ suc n) where
+module _ {c : Course} {l : ℕ} {batch insert ocf area : List ℕ} {c′ : Course} {area′ : List ℕ} (s : SentNext c l batch insert ocf area c′ area′) {n m : ℕ}
+    (f : m ≡ suc n) where
   first : (c′ .fault ≡ faults.NotSent → ⊥) → c′ ≡ sentOn c ((write (c .state) l batch insert ocf area) .sender) true
   unfolding sentOn
   first h = taken c _ _ c′ h (sound (c′ .fault)) (s .course)
@@ -120,7 +123,12 @@ module _ (j : Job) (c : Course) (w : Window) (xs insert ocf : List ℕ) {n : ℕ
       record { course = λ _. rw k q; more = rw k; have = omega arith; at = omega arith; left = rw k }
 
   pub turned-some : {d : Course} {more : Bool} {ys : List ℕ} → (n ≡ 0 → ⊥) → Unless d (batchOn j c (take n xs) insert ocf) → more ≡ sound (d .fault)
-      → ys ≡ drop n xs → Turned j c w xs insert ocf (record { course = d; window = record { have = w .have - n; at = w .at + n; good = w .good }; more = more }) ys
+      → ys ≡ drop n xs → Turned j c w xs insert ocf (record {
+        course = d;
+        window = record { have = w .have - n; at = w .at + n; good = w .good };
+        more =
+            more;
+      }) ys
   unfolding stepCourse
   turned-some z q m l =
       let k : (nextBatch j w xs =? 0) ≡ false = rw (← e) (ne-eqb n 0 z) in

@@ -161,4 +161,5 @@ PassedAs Access = UnitPassed
 unfoldable pub LanePassed : Bool → Course → ℕ → List ℕ → List ℕ → Course → Type 0
 LanePassed writing c l insert ocf c′ =
     let a : Lane = lane (c .state .setting) l in
-    PassedAs (a .kind) (record { writing = writing; lane = l; longest = a .longest }) c insert (take (ocfOctets (channel (c .state .setting) (a .channel))) ocf) c′
+    PassedAs (a .kind) (record { writing = writing; lane = l; longest = a .longest }) c insert (take (ocfOctets (channel (c .state .setting)
+    (a .channel))) ocf) c′

@@ -25,7 +25,8 @@ use Rattle.unpack_text.proofs.Placed.{placed-is}
 use Rattle.unpacking.specs.declared.Came.{Came}
 use Rattle.unpacking.specs.declared.Turn.{Turn}
 use Rattle.unpacking.proofs.Cuts.{wrote-front}
-use Rattle.unpacking.specs.Stages.{Stage, got, ruled, told, advanced, through, begun, Reached, Took, Handed, Handled, Turned, Finished, taken, takenTurn, haltedTurn, firstTurn}
+use Rattle.unpacking.specs.Stages.{Stage, got, ruled, told, advanced, through, begun, Reached}
+use Rattle.unpacking.specs.Stages.{Took, Handed, Handled, Turned, Finished, taken, takenTurn, haltedTurn, firstTurn}
 
 -- ---- stages
 
@@ -45,8 +46,16 @@ first u = record { reader = u .state; held = replicate 65536 0; units = replicat
 pub begins : (s : Setting) (u : Turn) → settingOk s ≡ true → u ≡ firstTurn s → (u .count ≡ 0) × Reached (first u) (u .count) (first u)
 unfolding firstTurn through
 begins s u ok e =
-    subst (λ (x : Turn). (x .count ≡ 0) × Reached (first x) (x .count) (first x)) (sym e)
-    (refl, record { frames = []; many = refl; stage = refl; valid = ap (λ (x : Listener). readerOk (x .state)) (setup-accepted s ok .0) ∙ setup-accepted s ok .2 })
+    subst (λ (x : Turn). (x .count ≡ 0) × Reached (first x) (x .count) (first x)) (sym e) (
+      refl,
+      record {
+        frames = [];
+        many = refl;
+        stage = refl;
+        valid = ap (λ (x : Listener). readerOk (x .state))
+            (setup-accepted s ok .0) ∙ setup-accepted s ok .2;
+      },
+    )
 
 -- Where the frames end, the areas may go.
 pub finished : (s : Setting) (u : Turn) {k : ℕ} {g : Stage} → u ≡ firstTurn s → Reached (first u) k g → Finished s k (g .reader) (g .totals)

@@ -25,13 +25,27 @@ same-length : tie.Need-same-length Inv-loop μ-loop
 same-length c = search needs
 
 returns : tie.Need-returns Inv-loop μ-loop
-returns c = refilled-then (c .before .before .before .before .before .before .before .before .loop .inv .0) (c .before .before .before .before .read-on .ensures) (c .before .before .before .before .before .before .before .before .loop .inv .1)
+returns c =
+    refilled-then (c .before .before .before .before .before .before .before .before .loop .inv .0) (c .before .before .before .before .read-on .ensures)
+    (c .before .before .before .before .before .before .before .before .loop .inv .1)
 
 loop-less : tie.Need-loop-less Inv-loop μ-loop
-loop-less c = omega (arith, c .before .before .before .before .read-on .ensures .more, c .before .before .before .before .read-on .ensures .fits, c .if2 .left, c .before .before .before .before .before .before .before .before .loop .inv .1)
+loop-less c =
+    omega (
+      arith,
+      c .before .before .before .before .read-on .ensures .more,
+      c .before .before .before .before .read-on .ensures .fits,
+      c .if2 .left,
+      c
+          .before .before .before .before .before .before .before .before .loop .inv .1,
+    )
 
 loop-again : tie.Need-loop-again Inv-loop μ-loop
-loop-again c = (refilled-then (c .before .before .before .before .before .before .before .before .loop .inv .0) (c .before .before .before .before .read-on .ensures) (c .before .before .before .before .before .before .before .before .loop .inv .1), search needs)
+loop-again c = (
+  refilled-then (c .before .before .before .before .before .before .before .before .loop .inv .0) (c .before .before .before .before .read-on .ensures)
+      (c .before .before .before .before .before .before .before .before .loop .inv .1),
+  search needs,
+)
 
 same-length-2 : tie.Need-same-length-2 Inv-loop μ-loop
 same-length-2 c = search needs

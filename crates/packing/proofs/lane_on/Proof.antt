@@ -35,11 +35,17 @@ unit-on-requires c κs = search needs
 
 returns : tie.Need-returns
 unfolding PassedAs
-returns c = lane-passed _ _ _ _ _ _ Packets (c .before .before .before .before .within .result) _ _ (c .before .before .before .before .before .before .lane-of .ensures) (c .before .before .enum-told .given .1) (c .before .before .before .before .before .ocf-of .ensures) (c .before .before .before .before .within .ensures .1) (c .packets-on .ensures)
+returns c =
+    lane-passed _ _ _ _ _ _ Packets (c .before .before .before .before .within .result) _ _
+    (c .before .before .before .before .before .before .lane-of .ensures) (c .before .before .enum-told .given .1)
+    (c .before .before .before .before .before .ocf-of .ensures) (c .before .before .before .before .within .ensures .1) (c .packets-on .ensures)
 
 returns-2 : tie.Need-returns-2
 unfolding PassedAs
-returns-2 c = lane-passed _ _ _ _ _ _ Access (c .before .before .before .before .within .result) _ _ (c .before .before .before .before .before .before .lane-of .ensures) (c .before .before .enum-told2 .given .1) (c .before .before .before .before .before .ocf-of .ensures) (c .before .before .before .before .within .ensures .1) (c .unit-on .ensures)
+returns-2 c =
+    lane-passed _ _ _ _ _ _ Access (c .before .before .before .before .within .result) _ _
+    (c .before .before .before .before .before .before .lane-of .ensures) (c .before .before .enum-told2 .given .1)
+    (c .before .before .before .before .before .ocf-of .ensures) (c .before .before .before .before .within .ensures .1) (c .unit-on .ensures)
 
 pub lane-on-spec : {M : Type 1} → statement M
 lane-on-spec =

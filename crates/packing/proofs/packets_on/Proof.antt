@@ -10,7 +10,8 @@ use Rattle.packing.proofs.packets_on.Statement.{statement}
 use Rattle.packing.proofs.packets_on.Tie as tie
 
 abbrev Inv-loop : tie.InvT-loop
-Inv-loop j fd insert ocf area₀ course₀ window₀ area course window = (window .have ≤ 65536) × (length area ≡ 65536) × Gone j course₀ insert ocf course (window .at) (take (window .have) area)
+Inv-loop j fd insert ocf area₀ course₀ window₀ area course window = (window .have ≤ 65536) × (length area ≡ 65536) × Gone j course₀ insert ocf course
+    (window .at) (take (window .have) area)
 
 abbrev μ-loop : tie.MeasureT-loop
 μ-loop j fd insert ocf area₀ course₀ window₀ area course window = 18446744073709486080 - window .at
@@ -34,16 +35,44 @@ packets-step-requires : tie.Need-packets-step-requires Inv-loop μ-loop
 packets-step-requires c κs = search needs
 
 loop-less : tie.Need-loop-less Inv-loop μ-loop
-loop-less c = omega (arith, c .before .before .before .before .before .before .before .fill-up .ensures .at, turned-more (c .before .before .before .before .packets-step .ensures) (c .if2 .taken), c .before .before .before .before .before .before .before .before .before .if1 .taken)
+loop-less c =
+    omega (
+      arith,
+      c .before .before .before .before .before .before .before .fill-up .ensures .at,
+      turned-more
+          (c .before .before .before .before .packets-step .ensures) (c .if2 .taken),
+      c .before .before .before .before .before .before .before .before .before
+          .if1 .taken,
+    )
 
 loop-again : tie.Need-loop-again Inv-loop μ-loop
-loop-again c = (omega (arith, c .before .before .before .before .before .before .before .fill-up .ensures .fits, c .before .before .before .before .before .before .before .before .before .before .before .loop .inv .1, c .before .before .before .before .packets-step .ensures .have), search needs, turn (c .before .before .before .before .before .before .before .before .before .before .before .loop .inv .2) (c .before .before .before .before .before .before .before .fill-up .ensures .at) (still (search needs) (c .before .before .before .before .before .before .before .fill-up .ensures)) (c .before .before .before .before .packets-step .ensures))
+loop-again c = (
+  omega (
+    arith,
+    c .before .before .before .before .before .before .before .fill-up .ensures .fits,
+    c .before .before .before .before .before .before
+        .before .before .before .before .before .loop .inv .1,
+    c .before .before .before .before .packets-step .ensures .have,
+  ),
+  search needs,
+  turn
+      (c .before .before .before .before .before .before .before .before .before .before .before .loop .inv .2)
+      (c .before .before .before .before .before .before .before .fill-up .ensures .at) (still (search needs)
+      (c .before .before .before .before .before .before .before .fill-up .ensures)) (c .before .before .before .before .packets-step .ensures),
+)
 
 returns : tie.Need-returns Inv-loop μ-loop
 returns c = record { at = _; left = _; gone = c .before .before .loop .inv .2 }
 
 returns-2 : tie.Need-returns-2 Inv-loop μ-loop
-returns-2 c = record { at = _; left = _; gone = turn (c .before .before .before .before .before .before .before .before .before .before .before .loop .inv .2) (c .before .before .before .before .before .before .before .fill-up .ensures .at) (still (search needs) (c .before .before .before .before .before .before .before .fill-up .ensures)) (c .before .before .before .before .packets-step .ensures) }
+returns-2 c =
+    record {
+      at = _;
+      left = _;
+      gone = turn (c .before .before .before .before .before .before .before .before .before .before .before .loop .inv .2)
+          (c .before .before .before .before .before .before .before .fill-up .ensures .at) (still (search needs)
+          (c .before .before .before .before .before .before .before .fill-up .ensures)) (c .before .before .before .before .packets-step .ensures);
+    }
 
 pub packets-on-spec : {M : Type 1} → statement M
 packets-on-spec =

@@ -35,10 +35,15 @@ returns : tie.Need-returns
 returns c = turned-none _ _ _ _ _ _ (c .before .before .before .next-batch .ensures) (c .before .before .if1 .taken) (c .no-batch .ensures)
 
 slice-reshare-prefix-batch-on : tie.Need-slice-reshare-prefix-batch-on
-slice-reshare-prefix-batch-on c = batch-fits (c .before .before .before .before .before .before .args .j) (c .before .before .before .before .before .before .args .w) (c .before .before .before .before .before .before .args .area .now) (c .before .next-batch .ensures) .1
+slice-reshare-prefix-batch-on c =
+    batch-fits (c .before .before .before .before .before .before .args .j) (c .before .before .before .before .before .before .args .w)
+    (c .before .before .before .before .before .before .args .area .now) (c .before .next-batch .ensures) .1
 
 slice-aggregate-batch-on : tie.Need-slice-aggregate-batch-on
-slice-aggregate-batch-on c = sym (length-take-le _ _ (batch-fits (c .before .before .before .before .before .before .before .args .j) (c .before .before .before .before .before .before .before .args .w) (c .before .before .before .before .before .before .before .args .area .now) (c .before .before .next-batch .ensures) .1))
+slice-aggregate-batch-on c =
+    sym (length-take-le _ _ (batch-fits (c .before .before .before .before .before .before .before .args .j)
+    (c .before .before .before .before .before .before .before .args .w) (c .before .before .before .before .before .before .before .args .area .now)
+    (c .before .before .next-batch .ensures) .1))
 
 batch-on-requires : tie.Need-batch-on-requires
 batch-on-requires c κs = search needs
@@ -56,10 +61,25 @@ is-sound-requires : tie.Need-is-sound-requires
 is-sound-requires c κs = search needs
 
 sub-t23 : tie.Need-sub-t23
-sub-t23 c = batch-fits (c .before .before .before .before .before .before .before .before .before .before .before .before .before .args .j) (c .before .before .before .before .before .before .before .before .before .before .before .before .before .args .w) (c .before .before .before .before .before .before .before .before .before .before .before .before .before .args .area .now) (c .before .before .before .before .before .before .before .before .next-batch .ensures) .0
+sub-t23 c =
+    batch-fits (c .before .before .before .before .before .before .before .before .before .before .before .before .before .args .j)
+    (c .before .before .before .before .before .before .before .before .before .before .before .before .before .args .w)
+    (c .before .before .before .before .before .before .before .before .before .before .before .before .before .args .area .now)
+    (c .before .before .before .before .before .before .before .before .next-batch .ensures) .0
 
 add-t25 : tie.Need-add-t25
-add-t25 c = omega (arith, batch-fits (c .before .before .before .before .before .before .before .before .before .before .before .before .before .before .args .j) (c .before .before .before .before .before .before .before .before .before .before .before .before .before .before .args .w) (c .before .before .before .before .before .before .before .before .before .before .before .before .before .before .args .area .now) (c .before .before .before .before .before .before .before .before .before .next-batch .ensures) .1, c .before .before .before .before .before .before .before .before .before .before .before .before .before .before .pre .1, c .before .before .before .before .before .before .before .before .before .before .before .before .before .before .pre .2)
+add-t25 c =
+    omega (
+      arith,
+      batch-fits (c .before .before .before .before .before .before .before .before .before .before .before .before .before .before .args .j)
+          (c .before .before .before .before .before .before .before .before .before .before .before .before .before .before .args .w)
+          (c .before .before .before .before .before .before .before .before .before .before .before .before .before .before .args .area .now)
+          (c .before .before .before .before .before .before .before .before .before .next-batch .ensures) .1,
+      c .before .before .before .before .before .before
+          .before .before .before .before .before .before .before .before .pre .1,
+      c .before .before .before .before .before .before .before .before .before
+          .before .before .before .before .before .pre .2,
+    )
 
 same-length-2 : tie.Need-same-length-2
 same-length-2 c = search needs
@@ -68,7 +88,11 @@ returns-2 : tie.Need-returns-2
 returns-2 c =
     let a = c .before .before .before .before .before .before .before .before .before .before .before .before .before .before .args in
     let e = c .before .before .before .before .before .before .before .before .before .next-batch .ensures in
-    turned-some _ _ _ _ _ _ e (c .before .before .before .before .before .before .before .before .if1 .left) (rw (take-take _ (a .w .have) (a .area .now) (batch-fits (a .j) (a .w) (a .area .now) e .0)) (c .before .before .before .before .before .before .batch-on .ensures)) (c .before .is-sound .ensures) (ap (λ (ys : List ℕ). take (a .w .have - c .before .before .before .before .before .before .before .before .before .next-batch .result) (ys ++ drop (a .w .have) (a .area .now))) (c .before .before .before .before .shift .ensures) ∙ shifted (a .area .now) (a .w .have) _ (c .before .before .before .before .before .before .before .before .before .before .before .before .before .before .pre .0))
+    turned-some _ _ _ _ _ _ e (c .before .before .before .before .before .before .before .before .if1 .left) (rw (take-take _ (a .w .have) (a .area .now)
+    (batch-fits (a .j) (a .w) (a .area .now) e .0)) (c .before .before .before .before .before .before .batch-on .ensures)) (c .before .is-sound .ensures)
+    (ap (λ (ys : List ℕ). take (a .w .have - c .before .before .before .before .before .before .before .before .before .next-batch .result) (ys ++ drop
+    (a .w .have) (a .area .now))) (c .before .before .before .before .shift .ensures) ∙ shifted (a .area .now) (a .w .have) _
+    (c .before .before .before .before .before .before .before .before .before .before .before .before .before .before .pre .0))
 
 pub packets-step-spec : {M : Type 1} → statement M
 packets-step-spec =

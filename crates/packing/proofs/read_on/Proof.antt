@@ -23,7 +23,14 @@ same-length : tie.Need-same-length
 same-length c = search needs
 
 returns : tie.Need-returns
-returns c = record { fits = search needs; more = search needs; at = refl; kept = let a = c .before .before .before .before .before .before in take-put (a .args .w .have) (length (a .args .area .now) - a .args .w .have) (a .args .area .now) (c .before .before .before .read .last .1 .0) (a .pre) }
+returns c =
+    record {
+      fits = search needs;
+      more = search needs;
+      at = refl;
+      kept = let a = c .before .before .before .before .before .before in take-put
+          (a .args .w .have) (length (a .args .area .now) - a .args .w .have) (a .args .area .now) (c .before .before .before .read .last .1 .0) (a .pre);
+    }
 
 count-requires : tie.Need-count-requires
 count-requires c κs = search needs
@@ -41,7 +48,15 @@ same-length-2 : tie.Need-same-length-2
 same-length-2 c = search needs
 
 returns-2 : tie.Need-returns-2
-returns-2 c = record { fits = search needs; more = search needs; at = refl; kept = let a = c .before .before .before .before .before .before .before .before .before in take-put (a .args .w .have) (length (a .args .area .now) - a .args .w .have) (a .args .area .now) (c .before .before .before .before .before .before .read .last .1 .0) (a .pre) }
+returns-2 c =
+    record {
+      fits = search needs;
+      more = search needs;
+      at = refl;
+      kept = let a = c .before .before .before .before .before .before .before .before .before
+          in take-put (a .args .w .have) (length (a .args .area .now) - a .args .w .have) (a .args .area .now)
+          (c .before .before .before .before .before .before .read .last .1 .0) (a .pre);
+    }
 
 pub read-on-spec : {M : Type 1} → statement M
 read-on-spec =

@@ -23,7 +23,9 @@ same-length : tie.Need-same-length
 same-length c = search needs
 
 returns : tie.Need-returns
-returns c = sent-done _ _ _ _ _ _ (c .before .before .before .before .before .before .before .before .write .ensures) _ _ (c .before .before .before .enum-told .given .1) (c .before .send .ensures) (c .one-more .ensures)
+returns c =
+    sent-done _ _ _ _ _ _ (c .before .before .before .before .before .before .before .before .write .ensures) _ _
+    (c .before .before .before .enum-told .given .1) (c .before .send .ensures) (c .one-more .ensures)
 
 same-length-2 : tie.Need-same-length-2
 same-length-2 c = search needs

@@ -14,13 +14,17 @@ end-with-requires-2 : tie.Need-end-with-requires-2
 end-with-requires-2 c κs = search needs
 
 returns-2 : tie.Need-returns-2
-returns-2 c = unit-long _ _ _ _ _ (c .before .before .before .before .if1 .taken) (c .before .before .before .if2 .left) (c .before .if3 .taken) (c .end-with2 .ensures)
+returns-2 c =
+    unit-long _ _ _ _ _ (c .before .before .before .before .if1 .taken) (c .before .before .before .if2 .left) (c .before .if3 .taken)
+    (c .end-with2 .ensures)
 
 batch-on-requires : tie.Need-batch-on-requires
 batch-on-requires c κs = search needs
 
 returns-3 : tie.Need-returns-3
-returns-3 c = unit-whole _ _ _ _ _ (c .before .before .before .before .if1 .taken) (c .before .before .before .if2 .left) (c .before .if3 .left) (c .batch-on .ensures)
+returns-3 c =
+    unit-whole _ _ _ _ _ (c .before .before .before .before .if1 .taken) (c .before .before .before .if2 .left) (c .before .if3 .left)
+    (c .batch-on .ensures)
 
 end-with-requires-3 : tie.Need-end-with-requires-3
 end-with-requires-3 c κs = search needs

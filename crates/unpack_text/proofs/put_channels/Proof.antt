@@ -12,7 +12,8 @@ use Rattle.unpack_text.proofs.put_channels.Statement.{statement}
 use Rattle.unpack_text.proofs.put_channels.Tie as tie
 
 abbrev Inv-loop : tie.InvT-loop
-Inv-loop area₀ from s ts listed at₀ i₀ area at i = (i ≤ listed) × (length area ≡ length area₀) × Wrote (115 * i) (firsts (λ (j : ℕ). channelLine ((channel s j) .vc) ((channel s j) .service) (getD ts j noChannelTally)) i) area₀ from area at
+Inv-loop area₀ from s ts listed at₀ i₀ area at i = (i ≤ listed) × (length area ≡ length area₀) × Wrote (115 * i) (firsts (λ (j : ℕ). channelLine
+    ((channel s j) .vc) ((channel s j) .service) (getD ts j noChannelTally)) i) area₀ from area at
 
 abbrev μ-loop : tie.MeasureT-loop
 μ-loop area₀ from s ts listed at₀ i₀ area at i = listed - i

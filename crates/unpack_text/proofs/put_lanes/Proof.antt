@@ -11,7 +11,8 @@ use Rattle.unpack_text.proofs.put_lanes.Statement.{statement}
 use Rattle.unpack_text.proofs.put_lanes.Tie as tie
 
 abbrev Inv-loop : tie.InvT-loop
-Inv-loop area₀ from lanes ts at₀ i₀ area at i = (i ≤ lanes) × (length area ≡ length area₀) × Wrote (109 * i) (firsts (λ (j : ℕ). laneLine j (getD ts j noLaneTally)) i) area₀ from area at
+Inv-loop area₀ from lanes ts at₀ i₀ area at i = (i ≤ lanes) × (length area ≡ length area₀) × Wrote (109 * i) (firsts (λ (j : ℕ). laneLine j
+    (getD ts j noLaneTally)) i) area₀ from area at
 
 abbrev μ-loop : tie.MeasureT-loop
 μ-loop area₀ from lanes ts at₀ i₀ area at i = lanes - i

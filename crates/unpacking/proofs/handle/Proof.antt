@@ -22,28 +22,63 @@ array-share-prefix-area : tie.Need-array-share-prefix-area
 array-share-prefix-area c = search needs
 
 slice-aggregate-put-out : tie.Need-slice-aggregate-put-out
-slice-aggregate-put-out c = wrote-cut (c .before .before .before .before .before .before .before .before .before .before .take-frame .ensures .line) (search needs)
+slice-aggregate-put-out c =
+    wrote-cut (c .before .before .before .before .before .before .before .before .before .before .take-frame .ensures .line) (search needs)
 
 slice-reshare-prefix-put-out : tie.Need-slice-reshare-prefix-put-out
-slice-reshare-prefix-put-out c = omega (arith, gave-fits (c .before .before .before .before .before .before .before .before .before .before .take-frame .ensures) .0, c .before .before .before .before .before .before .before .before .before .before .before .before .before .before .before .before .before .before .before .before .before .before .pre .1 .units)
+slice-reshare-prefix-put-out c =
+    omega (
+      arith,
+      gave-fits (c .before .before .before .before .before .before .before .before .before .before .take-frame .ensures) .0,
+      c .before .before
+          .before .before .before .before .before .before .before .before .before .before .before .before .before .before .before .before .before .before .before
+          .before .pre .1 .units,
+    )
 
 slice-aggregate-put-out-2 : tie.Need-slice-aggregate-put-out-2
-slice-aggregate-put-out-2 c = sym (length-take-le _ _ (omega (arith, gave-fits (c .before .before .before .before .before .before .before .before .before .before .before .take-frame .ensures) .0, c .before .before .before .before .before .before .before .before .before .before .before .before .before .before .before .before .before .before .before .before .before .before .before .pre .1 .units)))
+slice-aggregate-put-out-2 c =
+    sym (length-take-le _ _ (omega (
+      arith,
+      gave-fits (c .before .before .before .before .before .before .before .before .before .before .before .take-frame
+          .ensures) .0,
+      c .before .before .before .before .before .before .before .before .before .before .before .before .before .before .before .before .before
+          .before .before .before .before .before .before .pre .1 .units,
+    )))
 
 slice-reshare-prefix-put-out-2 : tie.Need-slice-reshare-prefix-put-out-2
-slice-reshare-prefix-put-out-2 c = omega (arith, gave-fits (c .before .before .before .before .before .before .before .before .before .before .before .take-frame .ensures) .1, c .before .before .before .before .before .before .before .before .before .before .before .before .before .before .before .before .before .before .before .before .before .before .before .pre .1 .records)
+slice-reshare-prefix-put-out-2 c =
+    omega (
+      arith,
+      gave-fits (c .before .before .before .before .before .before .before .before .before .before .before .take-frame .ensures) .1,
+      c .before
+          .before .before .before .before .before .before .before .before .before .before .before .before .before .before .before .before .before .before .before
+          .before .before .before .pre .1 .records,
+    )
 
 slice-aggregate-put-out-3 : tie.Need-slice-aggregate-put-out-3
-slice-aggregate-put-out-3 c = sym (length-take-le _ _ (omega (arith, gave-fits (c .before .before .before .before .before .before .before .before .before .before .before .before .take-frame .ensures) .1, c .before .before .before .before .before .before .before .before .before .before .before .before .before .before .before .before .before .before .before .before .before .before .before .before .pre .1 .records)))
+slice-aggregate-put-out-3 c =
+    sym (length-take-le _ _ (omega (
+      arith,
+      gave-fits (c .before .before .before .before .before .before .before .before .before .before .before .before
+          .take-frame .ensures) .1,
+      c .before .before .before .before .before .before .before .before .before .before .before .before .before .before .before
+          .before .before .before .before .before .before .before .before .before .pre .1 .records,
+    )))
 
 put-out-requires : tie.Need-put-out-requires
 put-out-requires c κs =
     let t = c .before .before .before .before .before .before .before .before .before .before .before .before .take-frame .ensures in
-    let r = c .before .before .before .before .before .before .before .before .before .before .before .before .before .before .before .before .before .before .before .before .before .before .before .before .pre .1 in
+    let r = c .before .before .before .before .before .before .before .before .before .before .before .before .before .before .before .before .before
+    .before .before .before .before .before .before .before .pre .1 in
     handed _ _ t (omega (arith, gave-fits t .0, r .units)) (omega (arith, gave-fits t .1, r .records))
 
 add-say-progress : tie.Need-add-say-progress
-add-say-progress c = omega (arith, c .before .before .before .before .before .before .before .before .before .before .before .before .before .before .before .before .before .before .before .before .before .before .before .before .before .pre .1 .more)
+add-say-progress c =
+    omega (
+      arith,
+      c .before .before .before .before .before .before .before .before .before .before .before .before .before .before .before .before .before
+          .before .before .before .before .before .before .before .before .pre .1 .more,
+    )
 
 say-progress-requires : tie.Need-say-progress-requires
 say-progress-requires c κs = search needs
@@ -52,7 +87,12 @@ goes-on-requires : tie.Need-goes-on-requires
 goes-on-requires c κs = search needs
 
 add-t38 : tie.Need-add-t38
-add-t38 c = omega (arith, c .before .before .before .before .before .before .before .before .before .before .before .before .before .before .before .before .before .before .before .before .before .before .before .before .before .before .before .before .before .before .before .pre .1 .more)
+add-t38 c =
+    omega (
+      arith,
+      c .before .before .before .before .before .before .before .before .before .before .before .before .before .before .before .before .before
+          .before .before .before .before .before .before .before .before .before .before .before .before .before .before .pre .1 .more,
+    )
 
 same-length : tie.Need-same-length
 same-length c = search needs
@@ -65,7 +105,12 @@ same-length-3 c = search needs
 
 returns : tie.Need-returns
 unfolding takenTurn
-returns c = record { stage = c .before .before .before .before .before .before .before .before .before .before .before .before .before .before .before .before .before .before .before .take-frame .ensures .stage; turn = rw (c .before .before .goes-on .ensures) }
+returns c =
+    record {
+      stage = c .before .before .before .before .before .before .before .before .before .before .before .before .before .before .before .before
+          .before .before .before .take-frame .ensures .stage;
+      turn = rw (c .before .before .goes-on .ensures);
+    }
 
 pub handle-spec : {M : Type 1} → statement M
 handle-spec =

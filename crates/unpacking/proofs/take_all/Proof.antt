@@ -10,7 +10,8 @@ use Rattle.unpacking.proofs.take_all.Statement.{statement}
 use Rattle.unpacking.proofs.take_all.Tie as tie
 
 abbrev Inv-loop : tie.InvT-loop
-Inv-loop fd fds held₀ units₀ records₀ frame₀ u₀ k₀ held units records frame u k = (length held ≡ 65536) × (length units ≡ 12288) × (length records ≡ 9600) × (length frame ≡ 4096) × (u .count ≡ k)
+Inv-loop fd fds held₀ units₀ records₀ frame₀ u₀ k₀ held units records frame u k = (length held ≡ 65536) × (length units ≡ 12288) × (length records ≡ 9600) ×
+    (length frame ≡ 4096) × (u .count ≡ k)
     × Reached (record { reader = u₀ .state; held = held₀; units = units₀; records = records₀; totals = u₀ .totals }) (u .count)
     (record { reader = u .state; held = held; units = units; records = records; totals = u .totals })
 
@@ -37,20 +38,47 @@ slice-aggregate-turn-frame-4 : tie.Need-slice-aggregate-turn-frame-4 Inv-loop μ
 slice-aggregate-turn-frame-4 c = search needs
 
 turn-frame-requires : tie.Need-turn-frame-requires Inv-loop μ-loop
-turn-frame-requires c κs = let l = c .before .before .before .before .before .loop .inv in
-    (l .5 .valid, record { more = omega (arith, l .4, c .before .before .before .before .loop-test .taken); units = omega (arith, l .1); records = omega (arith, l .2) }, omega (arith, l .3))
+turn-frame-requires c κs = let l = c .before .before .before .before .before .loop .inv in (
+  l .5 .valid,
+  record {
+    more = omega (arith, l .4, c .before .before .before .before .loop-test .taken);
+    units = omega (arith, l .1);
+    records = omega
+        (arith, l .2);
+  },
+  omega (arith, l .3),
+)
 
 loop-less : tie.Need-loop-less Inv-loop μ-loop
-loop-less c = omega (arith, c .before .before .before .before .before .before .before .before .before .before .loop-test .taken, c .before .before .before .before .before .before .before .before .before .before .before .loop .inv .4, turned-on (c .before .before .before .before .before .before .before .before .before .before .before .loop .inv .5) (c .before .before .before .before .before .turn-frame .ensures) .1 (c .if1 .taken))
+loop-less c =
+    omega (
+      arith,
+      c .before .before .before .before .before .before .before .before .before .before .loop-test .taken,
+      c .before .before .before .before
+          .before .before .before .before .before .before .before .loop .inv .4,
+      turned-on (c .before .before .before .before .before .before .before .before
+          .before .before .before .loop .inv .5) (c .before .before .before .before .before .turn-frame .ensures) .1 (c .if1 .taken),
+    )
 
 loop-again : tie.Need-loop-again Inv-loop μ-loop
-loop-again c = (search needs, search needs, search needs, search needs, refl, turned-on (c .before .before .before .before .before .before .before .before .before .before .before .loop .inv .5) (c .before .before .before .before .before .turn-frame .ensures) .0)
+loop-again c = (
+  search needs,
+  search needs,
+  search needs,
+  search needs,
+  refl,
+  turned-on (c .before .before .before .before .before .before .before .before .before
+      .before .before .loop .inv .5) (c .before .before .before .before .before .turn-frame .ensures) .0,
+)
 
 returns : tie.Need-returns Inv-loop μ-loop
 returns c = finished _ _ (c .before .before .first-turn .ensures) (c .before .loop .inv .5)
 
 returns-2 : tie.Need-returns-2 Inv-loop μ-loop
-returns-2 c = finished _ _ (c .before .before .before .before .before .before .before .before .before .before .before .before .first-turn .ensures) (turned-on (c .before .before .before .before .before .before .before .before .before .before .before .loop .inv .5) (c .before .before .before .before .before .turn-frame .ensures) .0)
+returns-2 c =
+    finished _ _ (c .before .before .before .before .before .before .before .before .before .before .before .before .first-turn .ensures) (turned-on
+    (c .before .before .before .before .before .before .before .before .before .before .before .loop .inv .5)
+    (c .before .before .before .before .before .turn-frame .ensures) .0)
 
 pub take-all-spec : {M : Type 1} → statement M
 take-all-spec =

@@ -10,13 +10,17 @@ halted-requires : tie.Need-halted-requires
 halted-requires c κs = search needs
 
 returns : tie.Need-returns
-returns c = let a = c .before .before .before .before .before .before .args in halts (a .u) (a .came) _ _ _ _ (taken-failed (a .came) (c .before .if1 .taken)) (c .halted .ensures)
+returns c =
+    let a = c .before .before .before .before .before .before .args in halts (a .u) (a .came) _ _ _ _ (taken-failed (a .came) (c .before .if1 .taken))
+    (c .halted .ensures)
 
 halted-requires-2 : tie.Need-halted-requires-2
 halted-requires-2 c κs = search needs
 
 returns-2 : tie.Need-returns-2
-returns-2 c = let a = c .before .before .before .before .before .before .before .args in halts (a .u) (a .came) _ _ _ _ (taken-none (a .came) (c .before .before .if1 .left) (c .before .if2 .taken)) (c .halted2 .ensures)
+returns-2 c =
+    let a = c .before .before .before .before .before .before .before .args in halts (a .u) (a .came) _ _ _ _ (taken-none (a .came)
+    (c .before .before .if1 .left) (c .before .if2 .taken)) (c .halted2 .ensures)
 
 slice-aggregate-handle : tie.Need-slice-aggregate-handle
 slice-aggregate-handle c = sym (length-take-le _ _ (search needs))
@@ -34,7 +38,11 @@ same-length-3 : tie.Need-same-length-3
 same-length-3 c = search needs
 
 returns-3 : tie.Need-returns-3
-returns-3 c = let a = c .before .before .before .before .before .before .before .before .before .before .before .before .before .before .before .before .before .args in takes (a .u) (a .came) _ _ (taken-some (a .came) (c .before .before .before .before .before .before .before .before .before .before .before .before .if1 .left) (c .before .before .before .before .before .before .before .before .before .before .before .if2 .left)) (c .before .before .before .before .before .before .handle .ensures)
+returns-3 c =
+    let a = c .before .before .before .before .before .before .before .before .before .before .before .before .before .before .before .before .before .args
+    in takes (a .u) (a .came) _ _ (taken-some (a .came) (c .before .before .before .before .before .before .before .before .before .before .before .before
+    .if1 .left) (c .before .before .before .before .before .before .before .before .before .before .before .if2 .left))
+    (c .before .before .before .before .before .before .handle .ensures)
 
 pub take-came-spec : {M : Type 1} → statement M
 take-came-spec =
