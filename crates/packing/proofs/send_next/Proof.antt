@@ -1,5 +1,6 @@
 -- A write that was done, and one that was refused.
 use Rattle.packing.proofs.Courses.{sent-done, sent-refused}
+use Rattle.rules.proofs.Promises.{write-is}
 use borrow.Author.Needs.{needs}
 use Rattle.packing.proofs.send_next.Statement.{statement}
 use Rattle.packing.proofs.send_next.Tie as tie
@@ -24,14 +25,14 @@ same-length c = search needs
 
 returns : tie.Need-returns
 returns c =
-    sent-done _ _ _ _ _ _ (c .before .before .before .before .before .before .before .before .write .ensures) _ _
+    sent-done _ _ _ _ _ _ (write-is _ _ _ _ _ _ _ (c .before .before .before .before .before .before .before .before .write .ensures)) _ _
     (c .before .before .before .enum-told .given .1) (c .before .send .ensures) (c .one-more .ensures)
 
 same-length-2 : tie.Need-same-length-2
 same-length-2 c = search needs
 
 returns-2 : tie.Need-returns-2
-returns-2 c = sent-refused _ _ _ _ _ _ (c .before .before .before .before .before .before .write .ensures) _ (c .before .outcome .given .1)
+returns-2 c = sent-refused _ _ _ _ _ _ (write-is _ _ _ _ _ _ _ (c .before .before .before .before .before .before .write .ensures)) _ (c .before .outcome .given .1)
 
 pub send-next-spec : {M : Type 1} → statement M
 send-next-spec =

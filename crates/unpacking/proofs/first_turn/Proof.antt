@@ -1,5 +1,6 @@
 -- A fresh state, and no totals.
 use Rattle.unpacking.specs.Stages.{firstTurn}
+use Rattle.rules.proofs.Promises.{reader-starts-is}
 use borrow.Author.Needs.{needs}
 use Rattle.unpacking.proofs.first_turn.Statement.{statement}
 use Rattle.unpacking.proofs.first_turn.Tie as tie
@@ -12,7 +13,7 @@ no-tally-requires c κs = search needs
 
 returns : tie.Need-returns
 unfolding firstTurn
-returns c = rw (c .before .before .set-up .ensures, c .no-tally .ensures)
+returns c = rw (reader-starts-is _ _ (c .before .before .set-up .ensures), c .no-tally .ensures)
 
 pub first-turn-spec : {M : Type 1} → statement M
 first-turn-spec = tie.close (tie.spec set-up-requires no-tally-requires returns)
