@@ -9,23 +9,98 @@ use crate::text::{decimal, hex, unhex, words};
 use crate::writer::{Lent, Writer};
 
 /// The octets that lent areas are full of where a setting begins.
-const AREA_OCTET: u8 = 0x55;
+pub const AREA_OCTET: u8 = 0x55;
 /// All areas are a little longer than the calls want; the octets past what is lent are looked at too.
-const FRAME_ROOM: usize = 4_200;
-const HELD_ROOM: usize = HELD_AREA + 16;
-const UNIT_ROOM: usize = UNIT_AREA + 16;
-const RECORD_ROOM: usize = RECORD_AREA + 32;
-const SLOTS: usize = 8;
+pub const FRAME_ROOM: usize = 4_200;
+pub const HELD_ROOM: usize = HELD_AREA + 16;
+pub const UNIT_ROOM: usize = UNIT_AREA + 16;
+pub const RECORD_ROOM: usize = RECORD_AREA + 32;
+pub const SLOTS: usize = 8;
+
+/// The lengths of unit, record and held area where none are said.
+pub const LENT: [u64; 3] = [UNIT_AREA as u64, RECORD_AREA as u64, HELD_AREA as u64];
+
+/// A line of a script.
+pub enum Line {
+    Nothing,
+    Setting(Said),
+    Channel(u64, [u64; 4]),
+    Lane(u64, [u64; 5]),
+    Begin,
+    Take,
+    Count(u64, u64),
+    Next(u64, u64),
+    Expect(u64, Expected),
+    Held(u64, Vec<u8>),
+    Hold(u64, u64),
+    Write { lane: u64, batch: Vec<u8>, insert: Vec<u8>, ocf: Vec<u8>, area: u64 },
+    Read { frame: Vec<u8>, areas: [u64; 3] },
+    Keep(u64),
+    Check(Vec<u8>),
+}
+
+impl Line {
+    /// What the words of a line say.
+    pub fn parse(words: &[&str]) -> Result<Line, String> {
+        match words {
+            [] => Ok(Line::Nothing),
+            ["begin"] => Ok(Line::Begin),
+            ["take"] => Ok(Line::Take),
+            ["held", lane, octets] => {
+                let mut octets = unhex(octets)?;
+                octets.truncate(HELD_PART);
+                Ok(Line::Held(decimal(lane)?, octets))
+            }
+            ["write", lane, batch, insert, ocf, area] => Ok(Line::Write {
+                lane: decimal(lane)?,
+                batch: unhex(batch)?,
+                insert: unhex(insert)?,
+                ocf: unhex(ocf)?,
+                area: decimal(area)?,
+            }),
+            ["read", frame, lengths @ ..] if lengths.len() <= 3 => {
+                Ok(Line::Read { frame: unhex(frame)?, areas: area_lengths(lengths)? })
+            }
+            ["check", octets] => Ok(Line::Check(unhex(octets)?)),
+            [word, numbers @ ..] => {
+                let numbers: Result<Vec<u64>, String> = numbers.iter().map(|number| decimal(number)).collect();
+                Line::of_numbers(word, &numbers?)
+            }
+        }
+    }
+
+    /// A line that says numbers alone. They are taken as they are, within their types.
+    fn of_numbers(word: &str, numbers: &[u64]) -> Result<Line, String> {
+        match (word, numbers) {
+            ("setting", &[length, spacecraft, bit, insert, check, listed, numbered]) => {
+                let front = [length, spacecraft % 65_536, bit % 256, insert, u64::from(check == 1), listed, numbered];
+                Ok(Line::Setting(Said { front, ..Said::default() }))
+            }
+            ("channel", &[slot, virtual_channel, service, octets, ocf]) => {
+                Ok(Line::Channel(slot, [virtual_channel % 256, service % 256, octets, u64::from(ocf == 1)]))
+            }
+            ("lane", &[slot, channel, map, kind, longest, upid]) => {
+                Ok(Line::Lane(slot, [channel, map % 256, u64::from(kind != 0), longest, upid % 256]))
+            }
+            ("count", &[slot, number]) => Ok(Line::Count(slot, number)),
+            ("next", &[slot, number]) => Ok(Line::Next(slot, number)),
+            ("expect", &[slot, known, count]) => Ok(Line::Expect(slot, Expected { known: known == 1, count })),
+            ("hold", &[slot, number]) => Ok(Line::Hold(slot, number)),
+            ("keep", &[length]) => Ok(Line::Keep(length)),
+            _ => Err("a line of a script".to_string()),
+        }
+    }
+}
 
 /// A setting as the script says it: numbers in eight slots of each kind, not judged.
 #[derive(Clone, Default)]
-struct Said {
+pub struct Said {
     /// F, spacecraft, bit, I, check, listed channels, numbered lanes.
-    front: [u64; 7],
+    pub front: [u64; 7],
     /// Virtual channel, service, octets of the count, OCF.
-    channels: [[u64; 4]; SLOTS],
+    pub channels: [[u64; 4]; SLOTS],
     /// Channel, map, kind, longest, UPID.
-    lanes: [[u64; 5]; SLOTS],
+    pub lanes: [[u64; 5]; SLOTS],
 }
 
 impl Said {
@@ -79,16 +154,16 @@ fn sum(numbers: impl Iterator<Item = u64>) -> u64 {
     numbers.fold(0, |sum, number| (sum * 31 + number % (1 << 32)) % (1 << 32))
 }
 
-fn area_sum(area: &[u8]) -> u64 {
-    sum(area.iter().map(|&octet| u64::from(octet)))
+fn area_sum(area: &[u8]) -> u32 {
+    area.iter().fold(0, |sum: u32, &octet| sum.wrapping_mul(31).wrapping_add(u32::from(octet)))
 }
 
 /// A writer's state in all its slots; slots past the listed are not the writer's business.
 #[derive(Clone, Default)]
-struct WriterSlots {
-    said: Said,
-    counts: [u64; SLOTS],
-    next: [u64; SLOTS],
+pub struct WriterSlots {
+    pub said: Said,
+    pub counts: [u64; SLOTS],
+    pub next: [u64; SLOTS],
 }
 
 impl WriterSlots {
@@ -112,10 +187,10 @@ impl WriterSlots {
 
 /// A reader's state in all its slots.
 #[derive(Clone, Default)]
-struct ReaderSlots {
-    said: Said,
-    expects: [Expected; SLOTS],
-    held: [u64; SLOTS],
+pub struct ReaderSlots {
+    pub said: Said,
+    pub expects: [Expected; SLOTS],
+    pub held: [u64; SLOTS],
 }
 
 impl ReaderSlots {
@@ -169,7 +244,8 @@ impl Ends {
         let setting = self.said.setting();
         let writer = Writer::fresh(&setting);
         let reader = Reader::fresh(&setting);
-        let outcomes = [writer.as_ref().err(), reader.as_ref().err()].map(|refusal| outcome(refusal.copied()));
+        let refusal = |refusal: Option<&u8>| refusal.map_or(0, |&number| u64::from(number));
+        let outcomes = [refusal(writer.as_ref().err()), refusal(reader.as_ref().err())];
         self.writer = WriterSlots::default();
         if let Ok(writer) = writer {
             self.writer.said = self.said.clone();
@@ -180,119 +256,113 @@ impl Ends {
             self.reader.said = self.said.clone();
             self.reader.take(&reader);
         }
-        format!("begin writer {} reader {}\n{}{}", outcomes[0], outcomes[1], self.writer.line(), self.reader.line())
+        begun(outcomes, &self.writer, &self.reader)
     }
 
-    fn write(&mut self, lent: &Lent, area_length: usize) -> String {
+    fn write(&mut self, lent: &Lent, area_length: u64) -> String {
         let mut writer = self.writer.writer();
-        let length = area_length.min(FRAME_ROOM);
+        let length = area_length.min(FRAME_ROOM as u64) as usize;
         let refusal = writer.write(lent, &mut self.frame[..length]).err();
         self.writer.take(&writer);
-        let frame_length = self.writer.said.front[0].min(FRAME_ROOM as u64) as usize;
-        format!(
-            "write {}\nframe {}\narea {}\n{}",
-            outcome(refusal),
-            hex(&self.frame[..frame_length]),
-            area_sum(&self.frame),
-            self.writer.line(),
-        )
+        written(refusal.map_or(0, u64::from), &self.writer, &self.frame)
     }
 
-    fn read(&mut self, frame: &[u8], lengths: [usize; 3]) -> String {
+    fn read(&mut self, frame: &[u8], lengths: [u64; 3]) -> String {
         let mut reader = self.reader.reader();
+        let lent = |length: u64, room: usize| length.min(room as u64) as usize;
         let mut areas = Areas {
-            units: &mut self.units[..lengths[0].min(UNIT_ROOM)],
-            records: &mut self.records[..lengths[1].min(RECORD_ROOM)],
-            held: &mut self.held[..lengths[2].min(HELD_ROOM)],
+            units: &mut self.units[..lent(lengths[0], UNIT_ROOM)],
+            records: &mut self.records[..lent(lengths[1], RECORD_ROOM)],
+            held: &mut self.held[..lent(lengths[2], HELD_ROOM)],
         };
         let answer = reader.read(frame, &mut areas);
         self.reader.take(&reader);
-        let mut text = answer_line(&answer);
-        text += &format!("units {}\n", hex(&self.units[..answer.octets as usize]));
-        text += &format!("records {}\n", hex(&self.records[..answer.units as usize * RECORD]));
-        for (lane, &held) in self.reader.held.iter().enumerate().filter(|(_, &held)| held > 0) {
-            let octets = if held <= HELD_PART as u64 { held as usize } else { 0 };
-            text += &format!("lane {lane} {}\n", hex(&self.held[lane * HELD_PART..lane * HELD_PART + octets]));
-        }
-        let sums = [&self.units, &self.records, &self.held].map(|area| area_sum(area).to_string()).join(" ");
-        text + &format!("areas {sums}\n{}", self.reader.line())
-    }
-
-    /// Puts octets at the lane's place, as if such a state were handed in.
-    fn set_held(&mut self, lane: usize, octets: &[u8]) {
-        if lane < SLOTS {
-            let octets = &octets[..octets.len().min(HELD_PART)];
-            self.reader.held[lane] = octets.len() as u64;
-            self.held[lane * HELD_PART..lane * HELD_PART + octets.len()].copy_from_slice(octets);
-        }
+        taken(&answer, &self.reader, [&self.units, &self.records, &self.held])
     }
 
     /// One line of the script; what it prints.
-    fn obey(&mut self, words: &[&str]) -> Result<String, String> {
-        match words {
-            ["begin"] => Ok(self.begin()),
-            ["write", lane, batch, insert, ocf, area_length] => {
-                let (batch, insert, ocf) = (unhex(batch)?, unhex(insert)?, unhex(ocf)?);
-                let lent = Lent { lane: decimal(lane)?, batch: &batch, insert: &insert, ocf: &ocf };
-                Ok(self.write(&lent, decimal(area_length)? as usize))
+    fn obey(&mut self, line: &Line) -> String {
+        match line {
+            Line::Begin => return self.begin(),
+            Line::Write { lane, batch, insert, ocf, area } => {
+                return self.write(&Lent { lane: *lane, batch, insert, ocf }, *area);
             }
-            ["read", frame, lengths @ ..] if lengths.len() <= 3 => {
-                let lengths = area_lengths(lengths)?;
-                Ok(self.read(&unhex(frame)?, lengths))
+            Line::Read { frame, areas } => return self.read(frame, *areas),
+            Line::Keep(length) => {
+                let frame = self.frame[..(*length).min(FRAME_ROOM as u64) as usize].to_vec();
+                return self.read(&frame, LENT);
             }
-            ["keep", length] => {
-                let length = (decimal(length)? as usize).min(FRAME_ROOM);
-                let frame = self.frame[..length].to_vec();
-                Ok(self.read(&frame, [UNIT_AREA, RECORD_AREA, HELD_AREA]))
-            }
-            ["check", octets] => Ok(format!("check {:04X}\n", frame_check(&unhex(octets)?))),
-            _ => self.say(words).map(|()| String::new()),
+            Line::Check(octets) => return checked(frame_check(octets).into()),
+            _ => self.say(line),
         }
+        String::new()
     }
 
     /// A line that says a part of the setting or of a state.
-    fn say(&mut self, words: &[&str]) -> Result<(), String> {
-        match words {
-            [] => {}
-            ["held", lane, octets] => self.set_held(decimal(lane)? as usize, &unhex(octets)?),
-            ["take"] => {
+    fn say(&mut self, line: &Line) {
+        match line {
+            Line::Setting(said) => *self = Ends::new(said.clone()),
+            Line::Channel(slot, numbers) => put(&mut self.said.channels, *slot, *numbers),
+            Line::Lane(slot, numbers) => put(&mut self.said.lanes, *slot, *numbers),
+            Line::Take => {
                 self.writer.said = self.said.clone();
                 self.reader.said = self.said.clone();
             }
-            [word, numbers @ ..] => {
-                let numbers: Result<Vec<u64>, String> = numbers.iter().map(|number| decimal(number)).collect();
-                self.set(word, &numbers?)?;
+            Line::Count(slot, number) => put(&mut self.writer.counts, *slot, *number),
+            Line::Next(slot, number) => put(&mut self.writer.next, *slot, *number),
+            Line::Expect(slot, expected) => put(&mut self.reader.expects, *slot, *expected),
+            Line::Hold(slot, number) => put(&mut self.reader.held, *slot, *number),
+            Line::Held(slot, octets) if *slot < SLOTS as u64 => {
+                let lane = *slot as usize;
+                self.reader.held[lane] = octets.len() as u64;
+                self.held[lane * HELD_PART..lane * HELD_PART + octets.len()].copy_from_slice(octets);
             }
+            _ => {}
         }
-        Ok(())
-    }
-
-    fn set(&mut self, word: &str, numbers: &[u64]) -> Result<(), String> {
-        match (word, numbers) {
-            ("setting", &[length, spacecraft, bit, insert, check, listed, numbered]) => {
-                let front = [length, spacecraft % 65_536, bit % 256, insert, u64::from(check == 1), listed, numbered];
-                *self = Ends::new(Said { front, ..Said::default() });
-            }
-            ("channel", &[slot, virtual_channel, service, octets, ocf]) => {
-                put(&mut self.said.channels, slot, [virtual_channel % 256, service % 256, octets, u64::from(ocf == 1)]);
-            }
-            ("lane", &[slot, channel, map, kind, longest, upid]) => {
-                put(&mut self.said.lanes, slot, [channel, map % 256, u64::from(kind != 0), longest, upid % 256]);
-            }
-            ("count", &[slot, number]) => put(&mut self.writer.counts, slot, number),
-            ("next", &[slot, number]) => put(&mut self.writer.next, slot, number),
-            ("expect", &[slot, known, count]) => {
-                put(&mut self.reader.expects, slot, Expected { known: known == 1, count });
-            }
-            ("hold", &[slot, number]) => put(&mut self.reader.held, slot, number),
-            _ => return Err("a line of a script".to_string()),
-        }
-        Ok(())
     }
 }
 
-fn outcome(refusal: Option<u8>) -> String {
-    refusal.map_or("done".to_string(), |number| format!("refused {number}"))
+// ---- what is printed for a call, without the script's line
+
+/// 0 is done.
+fn outcome(refusal: u64) -> String {
+    if refusal == 0 {
+        return "done".to_string();
+    }
+    format!("refused {refusal}")
+}
+
+pub fn begun(refusals: [u64; 2], writer: &WriterSlots, reader: &ReaderSlots) -> String {
+    let [one, other] = refusals.map(outcome);
+    format!("begin writer {one} reader {other}\n{}{}", writer.line(), reader.line())
+}
+
+pub fn written(refusal: u64, writer: &WriterSlots, frame: &[u8]) -> String {
+    let octets = front(frame, writer.said.front[0]);
+    format!("write {}\nframe {}\narea {}\n{}", outcome(refusal), hex(octets), area_sum(frame), writer.line())
+}
+
+/// The areas are those of units, records and held octets.
+pub fn taken(answer: &Answer, reader: &ReaderSlots, areas: [&[u8]; 3]) -> String {
+    let [units, records, held] = areas;
+    let mut text = answer_line(answer);
+    text += &format!("units {}\n", hex(front(units, answer.octets)));
+    text += &format!("records {}\n", hex(front(records, answer.units.saturating_mul(RECORD as u64))));
+    for (lane, &length) in reader.held.iter().enumerate().filter(|(_, &length)| length > 0) {
+        let length = if length <= HELD_PART as u64 { length } else { 0 };
+        text += &format!("lane {lane} {}\n", hex(front(&held[lane * HELD_PART..], length)));
+    }
+    let sums = areas.map(|area| area_sum(area).to_string()).join(" ");
+    text + &format!("areas {sums}\n{}", reader.line())
+}
+
+pub fn checked(check: u64) -> String {
+    format!("check {check:04X}\n")
+}
+
+/// The first octets, as many as there are.
+fn front(octets: &[u8], length: u64) -> &[u8] {
+    &octets[..length.min(octets.len() as u64) as usize]
 }
 
 fn answer_line(answer: &Answer) -> String {
@@ -307,16 +377,16 @@ fn answer_line(answer: &Answer) -> String {
 }
 
 /// The lengths of unit, record and held area, where the line says them.
-fn area_lengths(said: &[&str]) -> Result<[usize; 3], String> {
-    let mut lengths = [UNIT_AREA, RECORD_AREA, HELD_AREA];
+fn area_lengths(said: &[&str]) -> Result<[u64; 3], String> {
+    let mut lengths = LENT;
     for (length, word) in lengths.iter_mut().zip(said) {
-        *length = decimal(word)? as usize;
+        *length = decimal(word)?;
     }
     Ok(lengths)
 }
 
 /// Changes a slot, if there is one.
-fn put<T>(slots: &mut [T], place: u64, value: T) {
+pub fn put<T>(slots: &mut [T], place: u64, value: T) {
     if let Some(slot) = usize::try_from(place).ok().and_then(|place| slots.get_mut(place)) {
         *slot = value;
     }
@@ -349,13 +419,22 @@ pub fn setting_lines(setting: &Setting) -> String {
     text
 }
 
+/// Each line of a script, by its number.
+pub fn lines(input: impl BufRead) -> impl Iterator<Item = Result<(usize, Line), String>> {
+    input.lines().enumerate().map(|(place, line)| {
+        let line = line.map_err(|error| error.to_string())?;
+        let number = place + 1;
+        let line = Line::parse(&words(&line)).map_err(|expected| format!("line {number}: expected {expected}"))?;
+        Ok((number, line))
+    })
+}
+
 /// Obeys a script; each call's first line begins with the script's line.
 pub fn run(input: impl BufRead, out: &mut impl Write) -> Result<(), String> {
     let mut ends = Ends::new(Said::default());
-    for (place, line) in input.lines().enumerate() {
-        let line = line.map_err(|error| error.to_string())?;
-        let number = place + 1;
-        let printed = ends.obey(&words(&line)).map_err(|expected| format!("line {number}: expected {expected}"))?;
+    for line in lines(input) {
+        let (number, line) = line?;
+        let printed = ends.obey(&line);
         if !printed.is_empty() {
             write!(out, "{number} {printed}").map_err(|error| error.to_string())?;
         }

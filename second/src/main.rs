@@ -10,18 +10,22 @@ mod random;
 mod reader;
 mod samples;
 mod setting;
+mod stream;
 mod text;
 mod writer;
 
 #[cfg(test)]
 mod tests;
 
-use std::io::{self, BufWriter, Write};
+use std::fs::File;
+use std::io::{self, BufReader, BufWriter, Write};
 use std::process::ExitCode;
 
 const USAGE: &str = "usage: second unpack SETTING RECORDING PREFIX
        second pack SETTING LANE=FILE ..
        second calls
+       second requests
+       second answers SCRIPT
        second sample SEED FOLDER
        second random SEED COUNT
        second demand3 SEED COUNT
@@ -45,6 +49,11 @@ fn run(arguments: &[String]) -> Result<(), String> {
         ("unpack", _) => programs::unpack(rest),
         ("pack", _) => programs::pack(rest),
         ("calls", []) => calls::run(io::stdin().lock(), &mut BufWriter::new(io::stdout().lock())),
+        ("requests", []) => stream::requests(io::stdin().lock(), &mut BufWriter::new(io::stdout().lock())),
+        ("answers", [script]) => {
+            let script = File::open(script).map_err(|error| format!("{script}: {error}"))?;
+            stream::answers(BufReader::new(script), io::stdin().lock(), &mut BufWriter::new(io::stdout().lock()))
+        }
         ("measure", _) => figures::run(rest),
         ("sample", [seed, folder]) => samples::write_sample(text::decimal(seed)?, folder),
         ("random", [seed, count]) => print(&random::script(text::decimal(seed)?, text::decimal(count)?)),

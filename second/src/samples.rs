@@ -79,7 +79,8 @@ fn spoil_lines(random: &mut Random, lines: &mut Vec<String>) {
         }
         4 => lines[place] = lines[place].replacen(['e', 'a'], "x", 1),
         5 => {
-            let number = random.pick(&["00000000000000000000007", "99999999999999999999", "4097", "63", "256", "0", "-1"]);
+            let number =
+                random.pick(&["00000000000000000000007", "99999999999999999999", "4097", "63", "256", "0", "-1"]);
             lines[place] = lines[place]
                 .split(' ')
                 .map(|word| if word.bytes().all(|octet| octet.is_ascii_digit()) { number } else { word })
@@ -121,7 +122,8 @@ fn lane_file(random: &mut Random, setting: &Setting, lane: usize) -> Vec<u8> {
 
 fn spoil_words(random: &mut Random, words: &mut Vec<String>) {
     if random.one_in(10) {
-        let wrong = random.pick(&["insert=insert", "8=lane0", "x=lane0", "lane0", "0=no_such_file", "ocf=recording", "=lane0"]);
+        let wrong =
+            random.pick(&["insert=insert", "8=lane0", "x=lane0", "lane0", "0=no_such_file", "ocf=recording", "=lane0"]);
         words.push(wrong.to_string());
     }
 }

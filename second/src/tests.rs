@@ -6,6 +6,7 @@ use crate::frame::frame_check;
 use crate::random;
 use crate::reader::{Answer, Areas, Class, Reader, HELD_AREA, HELD_PART, RECORD_AREA, UNIT_AREA};
 use crate::setting::{Channel, Kind, Lane, Setting};
+use crate::stream;
 use crate::text::{setting_from_file, setting_to_lines, unhex};
 use crate::writer::{Lent, Writer};
 
@@ -365,6 +366,62 @@ fn a_refused_setting_leaves_states_of_zeros() {
     assert!(printed.contains(&format!("3 read refused 1 {zeros}\n")));
     assert!(printed.contains("4 write refused 1\n"));
     assert!(printed.ends_with("next 0 0 0 0 0 0 0 0 setting 0\n"));
+}
+
+#[test]
+fn a_script_as_requests() {
+    let asked = |script: &str| {
+        let mut out = Vec::new();
+        stream::requests(script.as_bytes(), &mut out).unwrap();
+        out
+    };
+    let row = |numbers: &[u64]| -> Vec<u8> {
+        let mut row = numbers.to_vec();
+        row.resize(8, 0);
+        row.iter().flat_map(|number| number.to_be_bytes()).collect()
+    };
+    let blank = [row(&[3]), row(&[4, 6_440, 0]), vec![0; 2_240], vec![0x55; 4_200]].concat();
+    assert_eq!(asked(""), blank);
+    let after = |script: &str| asked(script)[blank.len()..].to_vec();
+    assert_eq!(after("setting 32 42 0 0 0 1 1\n# none\n\nlane 9 0 0 0 0 0\n"), blank);
+    assert_eq!(after("count 7 258\n"), [row(&[4, 8, 64 * 9 + 40]), vec![0, 0, 0, 0, 0, 0, 1, 2]].concat());
+    assert_eq!(after("next 0 1\ncount 8 1\n"), [row(&[4, 8, 64 * 10 + 40]), vec![0, 0, 0, 0, 0, 0, 0, 1]].concat());
+    assert_eq!(after("hold 1 9\n"), [row(&[4, 8, 64 * 28 + 40]), vec![0, 0, 0, 0, 0, 0, 0, 9]].concat());
+    let held = [row(&[2, 2, 8_192]), vec![1, 2], row(&[4, 8, 64 * 28 + 40]), vec![0, 0, 0, 0, 0, 0, 0, 2]].concat();
+    assert_eq!(after("held 1 0102\n"), held);
+    assert_eq!(after("read 0A 1\n"), [row(&[1, 1, 1, 9_600, 65_536]), vec![10]].concat());
+    assert_eq!(after("keep 32\n"), row(&[0, 0, 12_288, 9_600, 65_536, 32]));
+    let write = [row(&[7, 274, 3, 1, 0, 40]), vec![0xAA], vec![0; 271], vec![1, 2]].concat();
+    assert_eq!(after("write 3 0102 AA - 40\n"), write);
+    assert_eq!(after("begin\n").len(), 2 * (64 + 17 * 64 + 56 + 8 * 32 + 8 * 40));
+    assert_eq!(after("take\n").len(), 2 * (17 * 64 + 56 + 8 * 32 + 8 * 40));
+}
+
+#[test]
+fn answers_as_text() {
+    let text = |script: &str, answers: &[u8]| {
+        let mut out = Vec::new();
+        stream::answers(script.as_bytes(), answers, &mut out).map(|()| String::from_utf8(out).unwrap())
+    };
+    let mut desk = vec![0; 2_240];
+    desk.extend(vec![0x55; 4_200]);
+    desk[6..8].copy_from_slice(&[0x29, 0xB1]);
+    assert_eq!(text("\ncheck 31\n", &desk), Ok("2 check 29B1\n".to_string()));
+    assert!(text("check 31\n", &desk[1..]).is_err());
+    assert!(text("take\n", &desk).is_err());
+    // A state of zeros that is refused prints what the calls themselves print, and one octet more or less shows.
+    let script = "begin\nwrite 0 - - - 0\nread -\n";
+    desk[..8].copy_from_slice(&1_u64.to_be_bytes());
+    let mut taken = desk.clone();
+    taken[..16].copy_from_slice(&[0, 0, 0, 0, 0, 0, 0, 3, 0, 0, 0, 0, 0, 0, 0, 1]);
+    taken.extend(vec![0x55; 65_552 + 12_304 + 9_632]);
+    let answers = [desk.clone(), desk.clone(), desk, taken].concat();
+    assert_eq!(text(script, &answers).unwrap(), printed(script));
+    for place in [64, 6_440 + 64 + 7, 6_440 + 18 * 64 + 7, 2 * 6_440 + 2_240, 3 * 6_440 + 15, answers.len() - 1] {
+        let mut changed = answers.clone();
+        changed[place] ^= 1;
+        assert_eq!(text(script, &changed).as_ref() == Ok(&printed(script)), place == 64, "octet {place}");
+    }
 }
 
 #[test]

@@ -1,9 +1,13 @@
-// The setting that a script says, and the states of both ends: changed slot by slot, and printed whole.
-use crate::text::fold;
-use crate::text::put_said;
-use crate::text::put_text;
-use crate::text::say;
-use crate::words::number;
+// Numbers, settings and states out of octets and into octets (docs/CALLS.md has the layout).
+ghost use mathlib.Core.Path.{_≡_};
+ghost use Prim.Native.Nat.{_+_, _*_, _≤_, _<_};
+ghost use lib.ListN.{length};
+ghost use Rattle.rules.specs.Octets.{flag};
+ghost use Rattle.rules.specs.Areas.{laid};
+ghost use Rattle.calling.specs.Rows.{word, spelled};
+ghost use Rattle.calling.specs.States.{channelIn, expectIn, kindIn, laneIn, channelsIn, expectsIn, lanesIn, heldIn};
+ghost use Rattle.calling.specs.States.{settingIn, readerIn, countsOf, writerIn};
+ghost use Rattle.calling.specs.States.{frontRow, channelRow, kindNumber, laneRow, channelRows, laneRows, stateOctets, readerOctets, expectsOf, writerOctets};
 use rules::Channel;
 use rules::Expect;
 use rules::Kind;
@@ -12,205 +16,236 @@ use rules::Reader;
 use rules::Setting;
 use rules::Writer;
 
-// The setting said so far, and both ends.
-pub struct Ends {
-    pub setting: Setting,
-    pub writer: Writer,
-    pub reader: Reader,
+// Number i of some octets.
+pub fn word_in(s: &[u8], i: usize) -> u64
+    requires { ⌜ 8 * i + 8 ≤ length (now s) ⌝ }
+    ensures { λ r. ⌜ r ≡ word (now (s .entry)) i ⌝ }
+{
+    let from = 8 * i;
+    let to = from + 8;
+    octets::exact(&s[from..to])
 }
 
-// No setting, and states of zeros.
-pub fn nothing() -> Ends {
-    let w = setting::no_writer();
-    let r = setting::no_reader();
-    let s = r.setting;
-    Ends {
-        setting: s,
-        writer: w,
-        reader: r,
+// ---- out of octets
+
+// The channel of the row that begins with number i.
+fn channel_in(s: &[u8], i: usize) -> Channel
+    requires { ⌜ 8 * i + 64 ≤ length (now s) ⌝ }
+    ensures { λ r. ⌜ r ≡ channelIn (now (s .entry)) i ⌝ }
+{
+    Channel {
+        vc: (word_in(s, i) % 256) as u8,
+        service: (word_in(s, i + 1) % 256) as u8,
+        octets: word_in(s, i + 2) as usize,
+        ocf: word_in(s, i + 3) == 1,
     }
 }
 
-// The same ends with another setting said.
-pub fn with_setting(e: Ends, s: Setting) -> Ends {
-    let w = e.writer;
-    let r = e.reader;
-    Ends {
-        setting: s,
-        writer: w,
-        reader: r,
+// The expected count of that row.
+fn expect_in(s: &[u8], i: usize) -> Expect
+    requires { ⌜ 8 * i + 64 ≤ length (now s) ⌝ }
+    ensures { λ r. ⌜ r ≡ expectIn (now (s .entry)) i ⌝ }
+{
+    Expect {
+        known: word_in(s, i + 4) == 1,
+        count: word_in(s, i + 5),
     }
 }
 
-// The same ends with another writer.
-pub fn with_writer(e: Ends, w: Writer) -> Ends {
-    let s = e.setting;
-    let r = e.reader;
-    Ends {
-        setting: s,
-        writer: w,
-        reader: r,
-    }
-}
-
-// The same ends with another reader.
-pub fn with_reader(e: Ends, r: Reader) -> Ends {
-    let s = e.setting;
-    let w = e.writer;
-    Ends {
-        setting: s,
-        writer: w,
-        reader: r,
-    }
-}
-
-// ---- what lines say
-
-// Word k as an octet.
-fn octet_of(line: &[u8], k: usize) -> u8 {
-    (number(line, k) % 256) as u8
-}
-
-// Word k as a flag.
-fn flag_of(line: &[u8], k: usize) -> bool {
-    number(line, k) == 1
-}
-
-// Word k as a place or a length.
-pub fn place_of(line: &[u8], k: usize) -> usize {
-    number(line, k) as usize
-}
-
-// Word k as what a lane carries.
-fn kind_of(line: &[u8], k: usize) -> Kind {
-    let n = number(line, k);
+// What a lane carries, by its number.
+fn kind_in(n: u64) -> Kind
+    ensures { λ r. ⌜ r ≡ kindIn n ⌝ }
+{
     if n == 0 {
         return Kind::Packets;
     }
     Kind::Access
 }
 
-// The numbers of a line `setting`, with no channel and no lane.
-pub fn setting_said(line: &[u8]) -> Setting {
-    let none = setting::no_reader();
-    let mut s = none.setting;
-    s.length = place_of(line, 1);
-    s.craft = (number(line, 2) % 65536) as u16;
-    s.bit = octet_of(line, 3);
-    s.insert = place_of(line, 4);
-    s.check = flag_of(line, 5);
-    s.listed = place_of(line, 6);
-    s.numbered = place_of(line, 7);
-    s
+// The lane of the row that begins with number i.
+fn lane_in(s: &[u8], i: usize) -> Lane
+    requires { ⌜ 8 * i + 64 ≤ length (now s) ⌝ }
+    ensures { λ r. ⌜ r ≡ laneIn (now (s .entry)) i ⌝ }
+{
+    Lane {
+        channel: word_in(s, i) as usize,
+        map: (word_in(s, i + 1) % 256) as u8,
+        kind: kind_in(word_in(s, i + 2)),
+        longest: word_in(s, i + 3) as usize,
+        upid: (word_in(s, i + 4) % 256) as u8,
+    }
 }
 
-// The setting with the channel of a line `channel`.
-pub fn channel_said(s: Setting, line: &[u8]) -> Setting {
-    let vc = octet_of(line, 2);
-    let service = octet_of(line, 3);
-    let octets = place_of(line, 4);
-    let ocf = flag_of(line, 5);
-    let c = Channel {
-        vc: vc,
-        service: service,
-        octets: octets,
-        ocf: ocf,
+// The eight channels from row k on.
+fn channels_in(s: &[u8], k: usize) -> [Channel; 8]
+    requires { ⌜ 64 * k + 512 ≤ length (now s) ⌝ }
+    ensures { λ r. ⌜ r ≡ channelsIn (now (s .entry)) k ⌝ }
+{
+    let none = Channel {
+        vc: 0,
+        service: 0,
+        octets: 0,
+        ocf: false,
     };
-    let mut t = s;
-    let i = place_of(line, 1);
-    if i < 8 {
-        t.channels[i] = c;
+    let mut r = [none; 8];
+    let mut i: usize = 0;
+    while i < 8 {
+        let c = channel_in(s, 8 * (k + i));
+        r[i] = c;
+        i += 1;
     }
-    t
+    r
 }
 
-// The setting with the lane of a line `lane`.
-pub fn lane_said(s: Setting, line: &[u8]) -> Setting {
-    let channel = place_of(line, 2);
-    let map = octet_of(line, 3);
-    let kind = kind_of(line, 4);
-    let longest = place_of(line, 5);
-    let upid = octet_of(line, 6);
-    let l = Lane {
-        channel: channel,
-        map: map,
-        kind: kind,
-        longest: longest,
-        upid: upid,
+// The eight expected counts from row k on.
+fn expects_in(s: &[u8], k: usize) -> [Expect; 8]
+    requires { ⌜ 64 * k + 512 ≤ length (now s) ⌝ }
+    ensures { λ r. ⌜ r ≡ expectsIn (now (s .entry)) k ⌝ }
+{
+    let none = Expect {
+        known: false,
+        count: 0,
     };
-    let mut t = s;
-    let i = place_of(line, 1);
-    if i < 8 {
-        t.lanes[i] = l;
+    let mut r = [none; 8];
+    let mut i: usize = 0;
+    while i < 8 {
+        let x = expect_in(s, 8 * (k + i));
+        r[i] = x;
+        i += 1;
     }
-    t
+    r
 }
 
-// The writer with one count set.
-pub fn count_said(w: Writer, line: &[u8]) -> Writer {
-    let n = number(line, 2);
-    let i = place_of(line, 1);
-    let mut t = w;
-    if i < 8 {
-        t.counts[i] = n;
-    }
-    t
-}
-
-// The writer with one next frame number set.
-pub fn next_said(w: Writer, line: &[u8]) -> Writer {
-    let n = place_of(line, 2);
-    let i = place_of(line, 1);
-    let mut t = w;
-    if i < 8 {
-        t.next[i] = n;
-    }
-    t
-}
-
-// The reader with one expected count and its flag set.
-pub fn expect_said(r: Reader, line: &[u8]) -> Reader {
-    let known = flag_of(line, 2);
-    let n = number(line, 3);
-    let x = Expect {
-        known: known,
-        count: n,
+// The eight lanes from row k on.
+fn lanes_in(s: &[u8], k: usize) -> [Lane; 8]
+    requires { ⌜ 64 * k + 512 ≤ length (now s) ⌝ }
+    ensures { λ r. ⌜ r ≡ lanesIn (now (s .entry)) k ⌝ }
+{
+    let none = Lane {
+        channel: 0,
+        map: 0,
+        kind: Kind::Packets,
+        longest: 0,
+        upid: 0,
     };
-    let i = place_of(line, 1);
-    let mut t = r;
-    if i < 8 {
-        t.expects[i] = x;
+    let mut r = [none; 8];
+    let mut i: usize = 0;
+    while i < 8 {
+        let l = lane_in(s, 8 * (k + i));
+        r[i] = l;
+        i += 1;
     }
-    t
+    r
 }
 
-// The reader with lane i said to hold n octets.
-pub fn holding(r: Reader, i: usize, n: usize) -> Reader {
-    let mut t = r;
-    if i < 8 {
-        t.held[i] = n;
+// What the eight lanes from row k on hold.
+fn held_in(s: &[u8], k: usize) -> [usize; 8]
+    requires { ⌜ 64 * k + 512 ≤ length (now s) ⌝ }
+    ensures { λ r. ⌜ r ≡ heldIn (now (s .entry)) k ⌝ }
+{
+    let mut r = [0usize; 8];
+    let mut i: usize = 0;
+    while i < 8 {
+        r[i] = word_in(s, 8 * (k + i) + 5) as usize;
+        i += 1;
     }
-    t
+    r
 }
 
-// Both ends with the setting that was said, unjudged, and all else as it is.
-pub fn taken(e: Ends) -> Ends {
-    let s = e.setting;
-    let mut w = e.writer;
-    let mut r = e.reader;
-    w.setting = s;
-    r.setting = s;
-    Ends {
-        setting: s,
-        writer: w,
-        reader: r,
+// The setting from row k on.
+pub fn setting_in(s: &[u8], k: usize) -> Setting
+    requires { ⌜ 64 * k + 1088 ≤ length (now s) ⌝ }
+    ensures { λ r. ⌜ r ≡ settingIn (now (s .entry)) k ⌝ }
+{
+    let i = 8 * k;
+    let channels = channels_in(s, k + 1);
+    let lanes = lanes_in(s, k + 9);
+    Setting {
+        length: word_in(s, i) as usize,
+        craft: (word_in(s, i + 1) % 65536) as u16,
+        bit: (word_in(s, i + 2) % 256) as u8,
+        insert: word_in(s, i + 3) as usize,
+        check: word_in(s, i + 4) == 1,
+        listed: word_in(s, i + 5) as usize,
+        channels: channels,
+        numbered: word_in(s, i + 6) as usize,
+        lanes: lanes,
     }
 }
 
-// ---- sums and lines
+// The reader's state from row k on.
+pub fn reader_in(s: &[u8], k: usize) -> Reader
+    requires { ⌜ 64 * k + 1088 ≤ length (now s) ⌝ }
+    ensures { λ r. ⌜ r ≡ readerIn (now (s .entry)) k ⌝ }
+{
+    let setting = setting_in(s, k);
+    let expects = expects_in(s, k + 1);
+    let held = held_in(s, k + 9);
+    Reader {
+        setting: setting,
+        expects: expects,
+        held: held,
+    }
+}
+
+// Eight counts of those expected.
+fn counts_of(x: [Expect; 8]) -> [u64; 8]
+    ensures { λ r. ⌜ r ≡ countsOf x ⌝ }
+{
+    let a = x[0];
+    let b = x[1];
+    let c = x[2];
+    let d = x[3];
+    let e = x[4];
+    let f = x[5];
+    let g = x[6];
+    let h = x[7];
+    [
+        a.count,
+        b.count,
+        c.count,
+        d.count,
+        e.count,
+        f.count,
+        g.count,
+        h.count,
+    ]
+}
+
+// The writer's state from row k on.
+pub fn writer_in(s: &[u8], k: usize) -> Writer
+    requires { ⌜ 64 * k + 1088 ≤ length (now s) ⌝ }
+    ensures { λ r. ⌜ r ≡ writerIn (now (s .entry)) k ⌝ }
+{
+    let setting = setting_in(s, k);
+    let counts = counts_of(expects_in(s, k + 1));
+    let next = held_in(s, k + 9);
+    Writer {
+        setting: setting,
+        counts: counts,
+        next: next,
+    }
+}
+
+// ---- into octets
+
+// Lays a row into row k.
+pub fn put_row(area: &mut [u8], k: usize, row: [u64; 8])
+    requires { ⌜ 64 * k + 64 ≤ length (now area) ⌝ }
+    ensures { λ _. ⌜ now (area .exit) ≡ laid (now (area .entry)) (64 * k) (spelled row) ⌝ }
+{
+    let at = 64 * k;
+    let mut i: usize = 0;
+    while i < 8 {
+        octets::lay_number(area, at + 8 * i, 8, row[i]);
+        i += 1;
+    }
+}
 
 // 1 or 0.
-fn bit_of(b: bool) -> u64 {
+fn bit_of(b: bool) -> u64
+    ensures { λ r. ⌜ r ≡ flag b ⌝ }
+{
     if b {
         return 1;
     }
@@ -218,134 +253,166 @@ fn bit_of(b: bool) -> u64 {
 }
 
 // 0 or 1.
-fn kind_number(k: Kind) -> u64 {
+fn kind_number(k: Kind) -> u64
+    ensures { λ r. ⌜ r ≡ kindNumber k ⌝ }
+{
     match k {
         Kind::Packets => 0,
         Kind::Access => 1,
     }
 }
 
-// A sum that went on over a channel.
-fn fold_channel(sum: u64, c: Channel) -> u64 {
-    let a = fold(sum, c.vc as u64);
-    let b = fold(a, c.service as u64);
-    let d = fold(b, c.octets as u64);
-    fold(d, bit_of(c.ocf))
+// The row of a setting's first numbers.
+fn front_row(s: Setting) -> [u64; 8]
+    ensures { λ r. ⌜ r ≡ frontRow s ⌝ }
+{
+    let check = bit_of(s.check);
+    [
+        s.length as u64,
+        s.craft as u64,
+        s.bit as u64,
+        s.insert as u64,
+        check,
+        s.listed as u64,
+        s.numbered as u64,
+        0,
+    ]
 }
 
-// A sum that went on over a lane.
-fn fold_lane(sum: u64, l: Lane) -> u64 {
-    let a = fold(sum, l.channel as u64);
-    let b = fold(a, l.map as u64);
+// The row of a channel slot.
+fn channel_row(c: Channel, x: Expect) -> [u64; 8]
+    ensures { λ r. ⌜ r ≡ channelRow c x ⌝ }
+{
+    let ocf = bit_of(c.ocf);
+    let known = bit_of(x.known);
+    [
+        c.vc as u64,
+        c.service as u64,
+        c.octets as u64,
+        ocf,
+        known,
+        x.count,
+        0,
+        0,
+    ]
+}
+
+// The row of a lane slot.
+fn lane_row(l: Lane, n: usize) -> [u64; 8]
+    ensures { λ r. ⌜ r ≡ laneRow l n ⌝ }
+{
     let k = l.kind;
-    let c = fold(b, kind_number(k));
-    let d = fold(c, l.longest as u64);
-    fold(d, l.upid as u64)
+    let kind = kind_number(k);
+    [
+        l.channel as u64,
+        l.map as u64,
+        kind,
+        l.longest as u64,
+        l.upid as u64,
+        n as u64,
+        0,
+        0,
+    ]
 }
 
-// A sum that went on over all channel slots.
-fn fold_channels(sum: u64, cs: [Channel; 8]) -> u64 {
-    let mut v = sum;
+// Lays channels and expected counts into the rows from row k on.
+fn put_channels(area: &mut [u8], k: usize, c: [Channel; 8], x: [Expect; 8])
+    requires { ⌜ 64 * k + 512 ≤ length (now area) ⌝ }
+    ensures { λ _. ⌜ now (area .exit) ≡ laid (now (area .entry)) (64 * k) (channelRows c x) ⌝ }
+{
     let mut i: usize = 0;
     while i < 8 {
-        v = fold_channel(v, cs[i]);
+        let row = channel_row(c[i], x[i]);
+        put_row(area, k + i, row);
         i += 1;
     }
-    v
 }
 
-// A sum that went on over all lane slots.
-fn fold_lanes(sum: u64, ls: [Lane; 8]) -> u64 {
-    let mut v = sum;
+// Lays lanes and what they hold into the rows from row k on.
+fn put_lanes(area: &mut [u8], k: usize, l: [Lane; 8], n: [usize; 8])
+    requires { ⌜ 64 * k + 512 ≤ length (now area) ⌝ }
+    ensures { λ _. ⌜ now (area .exit) ≡ laid (now (area .entry)) (64 * k) (laneRows l n) ⌝ }
+{
     let mut i: usize = 0;
     while i < 8 {
-        v = fold_lane(v, ls[i]);
+        let row = lane_row(l[i], n[i]);
+        put_row(area, k + i, row);
         i += 1;
     }
-    v
 }
 
-// The sum over a setting's first numbers.
-fn sum_of_front(s: Setting) -> u64 {
-    let a = fold(0, s.length as u64);
-    let b = fold(a, s.craft as u64);
-    let c = fold(b, s.bit as u64);
-    let d = fold(c, s.insert as u64);
-    let e = fold(d, bit_of(s.check));
-    let f = fold(e, s.listed as u64);
-    fold(f, s.numbered as u64)
+// Lays a state into the rows from row k on.
+fn put_state(area: &mut [u8], k: usize, s: Setting, x: [Expect; 8], n: [usize; 8])
+    requires { ⌜ 64 * k + 1088 ≤ length (now area) ⌝ }
+    ensures { λ _. ⌜ now (area .exit) ≡ laid (now (area .entry)) (64 * k) (stateOctets s x n) ⌝ }
+{
+    let row = front_row(s);
+    put_row(area, k, row);
+    let channels = s.channels;
+    put_channels(area, k + 1, channels, x);
+    let lanes = s.lanes;
+    put_lanes(area, k + 9, lanes, n);
 }
 
-// The sum over all numbers of a setting, every slot among them.
-fn sum_of_setting(s: Setting) -> u64 {
-    let front = sum_of_front(s);
-    let cs = s.channels;
-    let v = fold_channels(front, cs);
-    let ls = s.lanes;
-    fold_lanes(v, ls)
-}
-
-// Puts eight counts.
-fn put_counts(out: &mut [u8], at: usize, counts: [u64; 8]) -> usize {
-    let mut n = at;
-    let mut i: usize = 0;
-    while i < 8 {
-        n = put_said(out, n, b" ", counts[i]);
-        i += 1;
-    }
-    n
-}
-
-// Puts eight places or lengths.
-fn put_places(out: &mut [u8], at: usize, places: [usize; 8]) -> usize {
-    let mut n = at;
-    let mut i: usize = 0;
-    while i < 8 {
-        n = put_said(out, n, b" ", places[i] as u64);
-        i += 1;
-    }
-    n
-}
-
-// Puts an expected count and its flag.
-fn put_expect(out: &mut [u8], at: usize, x: Expect) -> usize {
-    let n = put_said(out, at, b" ", bit_of(x.known));
-    put_said(out, n, b":", x.count)
-}
-
-// Puts eight expected counts with their flags.
-fn put_expects(out: &mut [u8], at: usize, expects: [Expect; 8]) -> usize {
-    let mut n = at;
-    let mut i: usize = 0;
-    while i < 8 {
-        n = put_expect(out, n, expects[i]);
-        i += 1;
-    }
-    n
-}
-
-// Prints a writer's state.
-pub fn say_writer(out: &mut [u8], w: Writer) {
-    let a = put_text(out, 0, b"writer counts");
-    let counts = w.counts;
-    let b = put_counts(out, a, counts);
-    let c = put_text(out, b, b" next");
-    let next = w.next;
-    let d = put_places(out, c, next);
-    let s = w.setting;
-    let end = put_said(out, d, b" setting ", sum_of_setting(s));
-    say(out, end);
-}
-
-// Prints a reader's state.
-pub fn say_reader(out: &mut [u8], r: Reader) {
-    let a = put_text(out, 0, b"reader expects");
-    let expects = r.expects;
-    let b = put_expects(out, a, expects);
-    let c = put_text(out, b, b" held");
-    let held = r.held;
-    let d = put_places(out, c, held);
+// Lays a reader's state into the rows from row k on.
+pub fn put_reader(area: &mut [u8], k: usize, r: Reader)
+    requires { ⌜ 64 * k + 1088 ≤ length (now area) ⌝ }
+    ensures { λ _. ⌜ now (area .exit) ≡ laid (now (area .entry)) (64 * k) (readerOctets r) ⌝ }
+{
     let s = r.setting;
-    let end = put_said(out, d, b" setting ", sum_of_setting(s));
-    say(out, end);
+    let x = r.expects;
+    let n = r.held;
+    put_state(area, k, s, x, n);
+}
+
+// Counts for the rows of channels.
+fn expects_of(n: [u64; 8]) -> [Expect; 8]
+    ensures { λ r. ⌜ r ≡ expectsOf n ⌝ }
+{
+    [
+        Expect {
+            known: false,
+            count: n[0],
+        },
+        Expect {
+            known: false,
+            count: n[1],
+        },
+        Expect {
+            known: false,
+            count: n[2],
+        },
+        Expect {
+            known: false,
+            count: n[3],
+        },
+        Expect {
+            known: false,
+            count: n[4],
+        },
+        Expect {
+            known: false,
+            count: n[5],
+        },
+        Expect {
+            known: false,
+            count: n[6],
+        },
+        Expect {
+            known: false,
+            count: n[7],
+        },
+    ]
+}
+
+// Lays a writer's state into the rows from row k on.
+pub fn put_writer(area: &mut [u8], k: usize, w: Writer)
+    requires { ⌜ 64 * k + 1088 ≤ length (now area) ⌝ }
+    ensures { λ _. ⌜ now (area .exit) ≡ laid (now (area .entry)) (64 * k) (writerOctets w) ⌝ }
+{
+    let s = w.setting;
+    let c = w.counts;
+    let x = expects_of(c);
+    let n = w.next;
+    put_state(area, k, s, x, n);
 }

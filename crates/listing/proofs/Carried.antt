@@ -8,6 +8,7 @@ use native.Mathlib.Nat.{zero-add, add-assoc}
 use native.Mathlib.Omega.{arith}
 use borrow.Author.Tests.{ne-eqb}
 use Rattle.rules.specs.declared.Listener.{Listener}
+use Rattle.rules.specs.declared.Answer.{Answer}
 use Rattle.rules.specs.declared.Reader.{Reader}
 use Rattle.rules.specs.declared.Setting.{Setting}
 use Rattle.rules.specs.declared.Verdict.{Verdict}
@@ -50,9 +51,9 @@ unfolding linesOf setUpReader settingOk rangesOk channelsOk channelOk channelsAg
 begins = record { seen = []; said = []; whole = refl; framed = refl; goes = λ n rest. ap (λ (m : ℕ). linesOf m rest) (zero-add n) }
 
 -- After one more.
-pub carried : (k : ℕ) (r : Reader) (h u c f area : List ℕ) (r′ : Reader) (h′ u′ c′ area′ : List ℕ) (end : ℕ)
-    → Reached k r h u c → length f ≡ 32 → Listed k (read r f h u c) area r′ h′ u′ c′ area′ end → Reached (k + 1) r′ h′ u′ c′
-carried k r h u c f area r′ h′ u′ c′ area′ end p e l =
+pub carried : (k : ℕ) (r : Reader) (h u c f area : List ℕ) (a : Answer) (r′ : Reader) (h′ u′ c′ area′ : List ℕ) (end : ℕ)
+    → Reached k r h u c → length f ≡ 32 → Listed k (read r f h u c) area a r′ h′ u′ c′ area′ end → Reached (k + 1) r′ h′ u′ c′
+carried k r h u c f area a r′ h′ u′ c′ area′ end p e l =
     record {
       seen = p .seen ++ f;
       said = p .said ++ line k ((read r f h u c) .taken .answer);

@@ -4,6 +4,7 @@ use mathlib.Core.Path.{_≡_}
 use mathlib.Core.Bool.{Bool, true, false, cond}
 use mathlib.Core.List.{List, [], _∷_, _++_}
 use lib.ListN.{length, take, drop, replicate}
+use Rattle.rules.specs.declared.Answer.{Answer}
 use Rattle.rules.specs.declared.Reader.{Reader}
 use Rattle.rules.specs.Tests.{_=?_}
 use Rattle.rules.specs.Calls.{setUpReader, Got}
@@ -17,16 +18,17 @@ unfoldable pub opening : ℕ → List ℕ
 opening k = cond (k =? 0) (text "frame answer units missing\n") []
 
 -- What is printed for frame k.
-unfoldable pub printed : ℕ → Got → List ℕ
-printed k o = opening k ++ line k (o .taken .answer)
+unfoldable pub printed : ℕ → Answer → List ℕ
+printed k a = opening k ++ line k a
 
 -- A frame's text, 98 octets at most, stands at the front of the area, and state and areas are what the read leaves.
-pub record Listed (k : ℕ) (o : Got) (area : List ℕ) (r : Reader) (h u c area′ : List ℕ) (end : ℕ) : Type 0 where
+pub record Listed (k : ℕ) (o : Got) (area : List ℕ) (a : Answer) (r : Reader) (h u c area′ : List ℕ) (end : ℕ) : Type 0 where
+  pub answer : a ≡ o .taken .answer
   pub state : r ≡ o .taken .state
   pub held : h ≡ o .heldArea
   pub units : u ≡ o .unitArea
   pub records : c ≡ o .recordArea
-  pub text : Put (printed k o) area 0 area′ end
+  pub text : Put (printed k a) area 0 area′ end
   pub short : end ≤ 98
 
 -- The lines of an input, as the rules' listing has them after its title, n at most.

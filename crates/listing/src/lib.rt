@@ -1,10 +1,10 @@
 // The listing program: frames of the worked setting from standard input, a line for each to standard output.
 //
-// Proved: the octets put for printing of frame k are the title, before the first line alone, and the rules' `line` of the
-// answer that the rules' `read` gives, and none are put where there is no frame (`list_frame`, `list_next`). Before each
+// Proved: the octets handed over for printing of frame k are the title, before the first line alone, and the rules' `line` of the
+// answer that the rules' `read` gives, and none are where there is no frame (`list_frame`, `list_next`, `print`). Before each
 // frame, the state and the areas are those from which the rules' `listing` of the worked setting goes on after as many whole
 // frames, whatever follows (`Reached`), from its beginning on. Shown by runs: that the frames are those of standard input
-// and that the octets put are printed, for no contract can speak of what a call of the system reads or writes; and that a
+// and that what is handed over is printed, for no contract can speak of what a call of the system reads or writes; and that a
 // short last frame, or the input's end, ends the run.
 ghost use mathlib.Core.Path.{_≡_};
 ghost use Prim.Native.Nat.{_+_, _≤_};
@@ -12,16 +12,18 @@ ghost use lib.ListN.{length};
 ghost use Rattle.rules.specs.Worked.{worked, packetLane};
 ghost use Rattle.rules.specs.Calls.{read};
 ghost use Rattle.listing_text.specs.Puts.{Put};
-ghost use Rattle.listing.specs.Runs.{opening, Listed, Reached, GoesOn};
+ghost use Rattle.listing.specs.Runs.{opening, printed, Listed, Reached, GoesOn};
+use rules::Answer;
 use rules::Channel;
 use rules::Kind;
 use rules::Lane;
 use rules::Reader;
 use rules::Setting;
 
-// The state after a frame, and where its text ends.
+// The state after a frame, its answer, and where its text ends.
 struct Printed {
     state: Reader,
+    answer: Answer,
     end: usize,
 }
 
@@ -98,14 +100,25 @@ fn list_frame(
     area: &mut [u8],
 ) -> Printed
     requires { ⌜ (1 ≤ length (now frame)) × (98 ≤ length (now area)) ⌝ }
-    ensures { λ p. ⌜ Listed k (read r (now (frame .entry)) (now (held .entry)) (now (units .entry)) (now (records .entry))) (now (area .entry)) (p .state) (now (held .exit)) (now (units .exit)) (now (records .exit)) (now (area .exit)) (p .end) ⌝ }
+    ensures { λ p. ⌜ Listed k (read r (now (frame .entry)) (now (held .entry)) (now (units .entry)) (now (records .entry))) (now (area .entry)) (p .answer) (p .state) (now (held .exit)) (now (units .exit)) (now (records .exit)) (now (area .exit)) (p .end) ⌝ }
 {
     let t = reader::read(r, frame, held, units, records);
     let a = t.answer;
     let s = t.state;
     let at = put_opening(area, k);
     let end = listing_text::put_line(area, at, k, a);
-    Printed { state: s, end: end }
+    Printed {
+        state: s,
+        answer: a,
+        end: end,
+    }
+}
+
+// Prints what is printed for frame k, of this answer.
+fn print(k: u64, a: Answer, text: &[u8])
+    requires { ⌜ now text ≡ printed k a ⌝ }
+{
+    io::write_all(1, text);
 }
 
 // Reads and prints frame k, if there is one. After a whole frame the listing goes on from what is handed back.
@@ -123,8 +136,9 @@ fn list_next(k: u64, r: Reader, held: &mut [u8], units: &mut [u8], records: &mut
     }
     let mut area = [0u8; 98];
     let p = list_frame(k, r, &frame[..n], held, units, records, &mut area);
+    let a = p.answer;
     let end = p.end;
-    io::write_all(1, &area[..end]);
+    print(k, a, &area[..end]);
     let s = p.state;
     Turn {
         state: s,

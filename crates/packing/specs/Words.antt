@@ -7,6 +7,9 @@ use Rattle.rules.specs.Tests.{_≤?_, _<?_, _=?_, all}
 use Rattle.rules.specs.Listing.{text}
 use Rattle.packing.specs.declared.Named.{Named}
 use Rattle.packing.specs.declared.Named.the-variants.{ToLane, Insert, Ocf, Other}
+use Rattle.packing.specs.declared.Bad.{Bad}
+use Rattle.packing.specs.declared.Bad.the-variants as bads
+use Rattle.packing.specs.declared.Plan.{Plan}
 
 -- These octets begin with that word.
 unfoldable pub begins : List ℕ → List ℕ → Bool
@@ -20,3 +23,22 @@ lane numbered xs = cond (all (getD xs 1 0 =? 61 ∷ 48 ≤? getD xs 0 0 ∷ (get
 
 unfoldable pub nameOf : ℕ → List ℕ → Named
 nameOf numbered xs = cond (begins (text "insert=") xs) Insert (cond (begins (text "ocf=") xs) Ocf (lane numbered xs))
+
+-- ---- the arguments, one after another
+
+unfoldable pub fine : Bad → Bool
+fine bads.Nothing = true
+fine bads.InsertTwice = false
+fine bads.OcfTwice = false
+fine bads.NoName = false
+fine bads.NoWord = false
+
+abbrev pub badPlan : Plan → Bad → Plan
+badPlan p b = record { bad = b; insert = p .insert; ocf = p .ocf }
+
+-- "At most once each": the plan after argument i with this name. An argument that names no octets leaves it.
+unfoldable pub planOn : Plan → ℕ → Named → Plan
+planOn p i (ToLane l) = p
+planOn p i Insert = cond (p .insert =? 0) (record { bad = bads.Nothing; insert = i; ocf = p .ocf }) (badPlan p bads.InsertTwice)
+planOn p i Ocf = cond (p .ocf =? 0) (record { bad = bads.Nothing; insert = p .insert; ocf = i }) (badPlan p bads.OcfTwice)
+planOn p i Other = badPlan p bads.NoName

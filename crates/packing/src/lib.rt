@@ -1,17 +1,22 @@
 // The program pack: frames of the batches that files hold, to standard output.
 //
-// Proved: what an argument names (`name_of`), and that each function is safe and ends. What a batch is and what is wrong with a file are
-// promised by crate gathering, and each frame by the writer. Shown by runs: that the octets are those of the files, that the frames are
-// written, and what is said, for no contract can speak of what a call of the system reads or writes.
+// What the system reads stands in the contracts as what the window then holds; all else is determined by it, unless a write to standard output
+// fails. Proved: what an argument names (`name_of`) and what the arguments come to (`planned`); the batch of a turn is what is gathered of
+// the octets in the window, it alone is worked off, and the window then holds the octets after it (`packets_step`); an access lane's batch is
+// all octets of the file (`unit_step`); to work a batch off is to write it, frame by frame, until the lane's number returns to 0
+// (`work_off`); what is wrong, and at which octet (`Fault`). Shown by runs: what no contract can follow into the system.
 ghost use mathlib.Core.Path.{_≡_};
-ghost use Prim.Native.Nat.{_≤_};
-ghost use lib.ListN.{length};
+ghost use Prim.Native.Nat.{_+_, _≤_, min};
+ghost use lib.ListN.{length, take};
 ghost use Rattle.io.specs.Counts.{Counts};
-ghost use Rattle.packing.specs.Words.{begins as beginsWith, lane, nameOf};
+ghost use Rattle.rules.specs.Settings.{lane, channel, ocfOctets, number};
+ghost use Rattle.packing.specs.Words.{begins as beginsWith, lane as laneNamed, nameOf, badPlan, planOn, fine};
+ghost use Rattle.packing.specs.Courses.{sound, wrongFault, Refilled, ended, oneMore, sentFault, SentNext, goesOn, Unless, workedOff, areaBefore, batchOn, noBatch, nextBatch, Stepped, Passed, unitCourse, UnitPassed, LanePassed};
 use gathering::Wrong;
 use rules::Kind;
 use rules::Lane;
 use rules::Outcome;
+use rules::Sender;
 use rules::Setting;
 use rules::Writer;
 
@@ -44,7 +49,7 @@ fn begins(s: &[u8], word: &[u8]) -> bool
 
 // The lane whose file these octets name, if they do.
 fn lane_named(s: &[u8], numbered: usize) -> Named
-    ensures { λ r. ⌜ r ≡ lane numbered (now (s .entry)) ⌝ }
+    ensures { λ r. ⌜ r ≡ laneNamed numbered (now (s .entry)) ⌝ }
 {
     if s.len() < 2 {
         return Named::Other;
@@ -78,7 +83,47 @@ pub fn name_of(s: &[u8], numbered: usize) -> Named
     lane_named(s, numbered)
 }
 
-// ---- messages
+// ---- what may go wrong, and how it is said
+
+// What ends the program early: nothing; a file that cannot be read; what is wrong with the packet at an octet of it; a unit that is
+// empty, or above the lane's longest; a batch that the writer refused; standard output.
+enum Fault {
+    Nothing,
+    NotRead,
+    Packet(u64, Wrong),
+    NoUnit,
+    LongUnit,
+    Refused(u8),
+    NotSent,
+}
+
+// Whether nothing went wrong.
+fn is_sound(f: Fault) -> bool
+    ensures { λ r. ⌜ r ≡ sound f ⌝ }
+{
+    match f {
+        Fault::Nothing => true,
+        Fault::NotRead => false,
+        Fault::Packet(_, _) => false,
+        Fault::NoUnit => false,
+        Fault::LongUnit => false,
+        Fault::Refused(_) => false,
+        Fault::NotSent => false,
+    }
+}
+
+// What goes wrong with the packet at octet `at`, of which this is wrong.
+fn wrong_fault(at: u64, w: Wrong) -> Fault
+    ensures { λ r. ⌜ r ≡ wrongFault at w ⌝ }
+{
+    match w {
+        Wrong::Nothing => Fault::Nothing,
+        Wrong::NoPacket => Fault::Packet(at, w),
+        Wrong::Idle => Fault::Packet(at, w),
+        Wrong::Long(_) => Fault::Packet(at, w),
+        Wrong::Cut => Fault::Packet(at, w),
+    }
+}
 
 // Says how many octets a file should have.
 fn say_expected(path: &[u8], n: u64) {
@@ -100,32 +145,20 @@ fn say_long(path: &[u8], at: u64, n: u64) {
     io::write_all(2, b" octets, above the lane's longest\n");
 }
 
-// Says what is wrong with the packet at octet `at` of a file, and answers whether nothing is.
-fn say_wrong(path: &[u8], at: u64, w: Wrong) -> bool {
+// Says something of an octet of a file.
+fn say_octet(path: &[u8], at: u64, what: &[u8]) {
+    console::say_at(b"pack", path, b"octet", at, what);
+}
+
+// Says what is wrong with the packet at octet `at` of a file.
+fn say_wrong(path: &[u8], at: u64, w: Wrong) {
     match w {
-        Wrong::Nothing => {
-            return true;
-        }
-        Wrong::NoPacket => {
-            console::say_at(b"pack", path, b"octet", at, b"not a Space Packet");
-        }
-        Wrong::Idle => {
-            console::say_at(b"pack", path, b"octet", at, b"an idle packet");
-        }
-        Wrong::Long(n) => {
-            say_long(path, at, n as u64);
-        }
-        Wrong::Cut => {
-            console::say_at(
-                b"pack",
-                path,
-                b"octet",
-                at,
-                b"a packet that the file's end cuts",
-            );
-        }
+        Wrong::Nothing => {}
+        Wrong::NoPacket => say_octet(path, at, b"not a Space Packet"),
+        Wrong::Idle => say_octet(path, at, b"an idle packet"),
+        Wrong::Long(n) => say_long(path, at, n as u64),
+        Wrong::Cut => say_octet(path, at, b"a packet that the file's end cuts"),
     }
-    false
 }
 
 // Says that the writer refused a batch.
@@ -137,17 +170,31 @@ fn say_refused(path: &[u8], n: u8) {
     io::write_all(2, b"\n");
 }
 
+// Says what went wrong with a file, if anything did.
+fn say_fault(path: &[u8], f: Fault) {
+    match f {
+        Fault::Nothing => {}
+        Fault::NotRead => console::say_failed(b"pack", path),
+        Fault::Packet(at, w) => say_wrong(path, at, w),
+        Fault::NoUnit => say_octet(path, 0, b"expected a unit of at least 1 octet"),
+        Fault::LongUnit => say_octet(path, 0, b"a unit above the lane's longest"),
+        Fault::Refused(n) => say_refused(path, n),
+        Fault::NotSent => console::say_failed(b"pack", b"standard output"),
+    }
+}
+
 // ---- files
 
-// How many octets at the front of an area are filled, and whether all reads went well.
-struct Filled {
+// What an area holds of a file: how many octets at its front, which octet of the file the first is, and whether all reads went well.
+struct Window {
     have: usize,
+    at: u64,
     good: bool,
 }
 
 // The lesser of two numbers.
 fn least(a: usize, b: usize) -> usize
-    ensures { λ r. ⌜ (r ≤ a) × (r ≤ b) ⌝ }
+    ensures { λ r. ⌜ r ≡ min a b ⌝ }
 {
     if a < b {
         return a;
@@ -158,61 +205,76 @@ fn least(a: usize, b: usize) -> usize
 // As many octets at the front of an area as asked for, or all of them.
 fn within(n: usize, area: &[u8]) -> usize
     ensures { λ r. ⌜ Counts r (now (area .entry)) ⌝ }
+    ensures { λ r. ⌜ take r (now (area .entry)) ≡ take n (now (area .entry)) ⌝ }
 {
     least(n, area.len())
 }
 
-// Reads once, into the area from octet `from` on.
-fn read_on(fd: i32, area: &mut [u8], from: usize) -> Filled
-    requires { ⌜ from ≤ length (now area) ⌝ }
-    ensures { λ r. ⌜ (from ≤ r .have) × (r .have ≤ length (now (area .entry))) ⌝ }
+// Reads once, behind what the area holds.
+fn read_on(fd: i32, area: &mut [u8], w: Window) -> Window
+    requires { ⌜ w .have ≤ length (now area) ⌝ }
+    ensures { λ r. ⌜ Refilled w (now (area .entry)) r (now (area .exit)) ⌝ }
 {
+    let from = w.have;
     let end = area.len();
     let got = libc::read(fd, &mut area[from..end]);
     if got < 0 {
-        return Filled {
+        return Window {
             have: from,
+            at: w.at,
             good: false,
         };
     }
     let came = io::count(got, area);
     let n = least(came, end - from);
-    Filled {
+    Window {
         have: from + n,
+        at: w.at,
         good: true,
     }
 }
 
-// Fills the area up from octet `from` on, to its end or the file's.
-fn fill_up(fd: i32, area: &mut [u8], from: usize) -> Filled
-    requires { ⌜ from ≤ length (now area) ⌝ }
-    ensures { λ r. ⌜ r .have ≤ length (now (area .entry)) ⌝ }
+// Fills the area up, to its end or the file's.
+fn fill_up(fd: i32, area: &mut [u8], w: Window) -> Window
+    requires { ⌜ w .have ≤ length (now area) ⌝ }
+    ensures { λ r. ⌜ Refilled w (now (area .entry)) r (now (area .exit)) ⌝ }
 {
-    let mut have = from;
-    while have < area.len() {
-        let f = read_on(fd, area, have);
-        if f.have == have {
-            return f;
+    let mut window = w;
+    while window.have < area.len() {
+        let before = window.have;
+        window = read_on(fd, area, window);
+        if window.have == before {
+            return window;
         }
-        have = f.have;
     }
-    Filled {
-        have: have,
-        good: true,
-    }
+    window
 }
 
 // ---- frames
 
-// What goes from batch to batch: whether all went well, the writer's state, and how many frames are written.
+// What goes from batch to batch: what went wrong, the writer's state, and how many frames are written.
 struct Course {
-    good: bool,
+    fault: Fault,
     state: Writer,
     frames: u64,
 }
 
+// The same course, ended so.
+fn end_with(c: Course, fault: Fault) -> Course
+    ensures { λ r. ⌜ r ≡ ended c fault ⌝ }
+{
+    let w = c.state;
+    Course {
+        fault: fault,
+        state: w,
+        frames: c.frames,
+    }
+}
+
 // One more, of a number that no run brings to its end.
-fn one_more(n: u64) -> u64 {
+fn one_more(n: u64) -> u64
+    ensures { λ r. ⌜ r ≡ oneMore n ⌝ }
+{
     if n < 18446744073709551615 {
         return n + 1;
     }
@@ -220,34 +282,38 @@ fn one_more(n: u64) -> u64 {
 }
 
 // The state's number of lane l's next frame, 0 where there is no such lane.
-fn next_number(w: Writer, l: usize) -> usize {
+fn next_number(w: Writer, l: usize) -> usize
+    ensures { λ r. ⌜ r ≡ number w l ⌝ }
+{
     if l < 8 {
         return w.next[l];
     }
     0
 }
 
-// Writes the first n octets of a frame area to standard output, and says so where that fails.
-fn send(area: &[u8], n: usize) -> bool {
-    let end = within(n, area);
+// Writes the frame at the front of an area to standard output.
+fn send(s: Setting, area: &[u8]) -> Fault
+    ensures { λ r. ⌜ r ≡ sentFault (sound r) ⌝ }
+{
+    let end = within(s.length, area);
     let good = io::write_all(1, &area[..end]);
     if good {
-        return true;
+        return Fault::Nothing;
     }
-    console::say_failed(b"pack", b"standard output");
-    false
+    Fault::NotSent
 }
 
-// Writes the next frame of a batch.
+// Writes the next frame of a batch, and hands it on.
 fn send_next(
     c: Course,
     l: usize,
-    path: &[u8],
     batch: &[u8],
     insert: &[u8],
     ocf: &[u8],
     area: &mut [u8],
-) -> Course {
+) -> Course
+    ensures { λ r. ⌜ SentNext c l (now (batch .entry)) (now (insert .entry)) (now (ocf .entry)) (now (area .entry)) r (now (area .exit)) ⌝ }
+{
     let w = c.state;
     let s = w.setting;
     let t = writer::write(w, l, batch, insert, ocf, area);
@@ -255,40 +321,48 @@ fn send_next(
     let after = t.state;
     match outcome {
         Outcome::Done => {
-            let good = send(area, s.length);
+            let fault = send(s, area);
             let frames = one_more(c.frames);
             Course {
-                good: good,
+                fault: fault,
                 state: after,
                 frames: frames,
             }
         }
-        Outcome::Refused(n) => {
-            say_refused(path, n);
-            Course {
-                good: false,
-                state: after,
-                frames: c.frames,
-            }
-        }
+        Outcome::Refused(n) => Course {
+            fault: Fault::Refused(n),
+            state: after,
+            frames: c.frames,
+        },
     }
 }
 
+// Whether more frames of lane l's batch follow.
+fn goes_on(c: Course, l: usize) -> bool
+    ensures { λ r. ⌜ r ≡ goesOn c l ⌝ }
+{
+    let fault = c.fault;
+    let good = is_sound(fault);
+    if good {
+        let w = c.state;
+        let n = next_number(w, l);
+        return n != 0;
+    }
+    false
+}
+
 // Works a batch off. It has no more frames than octets.
-fn work_off(c: Course, l: usize, path: &[u8], batch: &[u8], insert: &[u8], ocf: &[u8]) -> Course {
-    let mut area = io::buffer();
+fn work_off(c: Course, l: usize, batch: &[u8], insert: &[u8], ocf: &[u8]) -> Course
+    ensures { λ r. ⌜ Unless r (workedOff 32768 c l (now (batch .entry)) (now (insert .entry)) (now (ocf .entry)) areaBefore) ⌝ }
+{
+    let mut area = [0u8; 4096];
     let mut course = c;
     let mut k: u64 = 0;
     while k < 32768 {
-        let t = send_next(course, l, path, batch, insert, ocf, &mut area);
-        course = t;
+        course = send_next(course, l, batch, insert, ocf, &mut area);
         k += 1;
-        let w = t.state;
-        let number = next_number(w, l);
-        if number == 0 {
-            break;
-        }
-        if !t.good {
+        let more = goes_on(course, l);
+        if more {} else {
             break;
         }
     }
@@ -297,152 +371,143 @@ fn work_off(c: Course, l: usize, path: &[u8], batch: &[u8], insert: &[u8], ocf: 
 
 // ---- a file's batches
 
-// What the window holds, how many octets of it are the next batch, and whether all went well.
-struct Step {
-    have: usize,
-    batch: usize,
-    good: bool,
-}
-
-// Fills the window up from octet `from` on and gathers the next batch at its front: none at the file's end, or where something is wrong,
-// and then it says what. The window's first octet is octet `at` of the file.
-fn next_batch(fd: i32, path: &[u8], at: u64, longest: usize, window: &mut [u8], from: usize) -> Step
-    requires { ⌜ from ≤ length (now window) ⌝ }
-    ensures { λ r. ⌜ (r .batch ≤ r .have) × (r .have ≤ length (now (window .entry))) ⌝ }
-{
-    let f = fill_up(fd, window, from);
-    let n = within(f.have, window);
-    if f.good {
-        let batch = gathering::gather(&window[..n], longest);
-        if batch == 0 {
-            let w = gathering::wrong_at(&window[..n], longest);
-            let good = say_wrong(path, at, w);
-            return Step {
-                have: n,
-                batch: 0,
-                good: good,
-            };
-        }
-        return Step {
-            have: n,
-            batch: batch,
-            good: true,
-        };
-    }
-    console::say_failed(b"pack", path);
-    Step {
-        have: n,
-        batch: 0,
-        good: false,
-    }
+// What to do with a lane's file: the lane, its longest unit, and whether its batches are written, or looked through.
+struct Job {
+    writing: bool,
+    lane: usize,
+    longest: usize,
 }
 
 // How a batch goes on: worked off where frames are written, and passed over in the first pass.
-fn batch_on(
-    writing: bool,
-    c: Course,
-    l: usize,
-    path: &[u8],
-    batch: &[u8],
-    insert: &[u8],
-    ocf: &[u8],
-) -> Course {
-    if writing {
-        return work_off(c, l, path, batch, insert, ocf);
+fn batch_on(j: Job, c: Course, batch: &[u8], insert: &[u8], ocf: &[u8]) -> Course
+    ensures { λ r. ⌜ Unless r (batchOn j c (now (batch .entry)) (now (insert .entry)) (now (ocf .entry))) ⌝ }
+{
+    if j.writing {
+        return work_off(c, j.lane, batch, insert, ocf);
     }
     c
 }
 
-// The same course, gone well or not.
-fn ended(c: Course, good: bool) -> Course {
-    let w = c.state;
-    Course {
-        good: good,
-        state: w,
-        frames: c.frames,
+// A turn with a packet lane's file: the course after it, what is left in the window, and whether there may be more.
+struct Step {
+    course: Course,
+    window: Window,
+    more: bool,
+}
+
+// There is no batch: the file ended, could not be read, or something is wrong with it.
+fn no_batch(j: Job, c: Course, w: Window, octets: &[u8]) -> Course
+    ensures { λ r. ⌜ r ≡ noBatch j c w (now (octets .entry)) ⌝ }
+{
+    if w.good {
+        let wrong = gathering::wrong_at(octets, j.longest);
+        let fault = wrong_fault(w.at, wrong);
+        return end_with(c, fault);
+    }
+    end_with(c, Fault::NotRead)
+}
+
+// How many octets in the window are the next batch.
+fn next_batch(j: Job, w: Window, octets: &[u8]) -> usize
+    ensures { λ r. ⌜ r ≡ nextBatch j w (now (octets .entry)) ⌝ }
+{
+    if w.good {
+        return gathering::gather(octets, j.longest);
+    }
+    0
+}
+
+// Works off the batch at the front of the window, and moves what is behind it to the front.
+fn packets_step(j: Job, c: Course, w: Window, area: &mut [u8], insert: &[u8], ocf: &[u8]) -> Step
+    requires { ⌜ (w .have ≤ length (now area)) × (w .at + 65536 ≤ 18446744073709551615) × (length (now area) ≤ 65536) ⌝ }
+    ensures { λ r. ⌜ Stepped j c w (now (insert .entry)) (now (ocf .entry)) (now (area .entry)) r (now (area .exit)) ⌝ }
+{
+    let have = w.have;
+    let n = next_batch(j, w, &area[..have]);
+    if n == 0 {
+        let t = no_batch(j, c, w, &area[..have]);
+        return Step {
+            course: t,
+            window: w,
+            more: false,
+        };
+    }
+    let t = batch_on(j, c, &area[..n], insert, ocf);
+    gathering::shift(&mut area[..have], n);
+    let fault = t.fault;
+    let more = is_sound(fault);
+    Step {
+        course: t,
+        window: Window {
+            have: have - n,
+            at: w.at + n as u64,
+            good: w.good,
+        },
+        more: more,
     }
 }
 
 // Goes through a packet lane's file, batch after batch. A proved loop has to end: this one goes by the place in the file, to one that no
 // file reaches.
-fn packets_on(
-    writing: bool,
-    c: Course,
-    l: usize,
-    longest: usize,
-    fd: i32,
-    path: &[u8],
-    insert: &[u8],
-    ocf: &[u8],
-) -> Course {
-    let mut window = io::large_buffer();
+fn packets_on(j: Job, c: Course, fd: i32, insert: &[u8], ocf: &[u8]) -> Course
+    ensures { λ r. ⌜ Passed j c (now (insert .entry)) (now (ocf .entry)) r ⌝ }
+{
+    let mut area = io::large_buffer();
     let mut course = c;
-    let mut have: usize = 0;
-    let mut at: u64 = 0;
-    while at < 18446744073709486080 {
-        let t = next_batch(fd, path, at, longest, &mut window, have);
-        let n = t.batch;
-        if n == 0 {
-            return ended(course, t.good);
+    let mut window = Window {
+        have: 0,
+        at: 0,
+        good: true,
+    };
+    while window.at < 18446744073709486080 {
+        window = fill_up(fd, &mut area, window);
+        let t = packets_step(j, course, window, &mut area, insert, ocf);
+        course = t.course;
+        window = t.window;
+        if t.more {} else {
+            break;
         }
-        let u = batch_on(writing, course, l, path, &window[..n], insert, ocf);
-        if !u.good {
-            return u;
-        }
-        course = u;
-        let end = t.have;
-        gathering::shift(&mut window[..end], n);
-        have = end - n;
-        at += n as u64;
     }
     course
 }
 
-// Goes through an access lane's file, which is one unit.
-fn unit_on(
-    writing: bool,
-    c: Course,
-    l: usize,
-    longest: usize,
-    fd: i32,
-    path: &[u8],
-    insert: &[u8],
-    ocf: &[u8],
-) -> Course {
-    let mut window = io::large_buffer();
-    let f = fill_up(fd, &mut window, 0);
-    if !f.good {
-        console::say_failed(b"pack", path);
-        return ended(c, false);
+// What becomes of an access lane's file with these octets, which is one unit.
+fn unit_step(j: Job, c: Course, good: bool, octets: &[u8], insert: &[u8], ocf: &[u8]) -> Course
+    ensures { λ r. ⌜ Unless r (unitCourse j c good (now (octets .entry)) (now (insert .entry)) (now (ocf .entry))) ⌝ }
+{
+    if good {
+        if octets.len() == 0 {
+            return end_with(c, Fault::NoUnit);
+        }
+        if j.longest < octets.len() {
+            return end_with(c, Fault::LongUnit);
+        }
+        return batch_on(j, c, octets, insert, ocf);
     }
-    let n = within(f.have, &window);
-    if n == 0 {
-        console::say_at(
-            b"pack",
-            path,
-            b"octet",
-            0,
-            b"expected a unit of at least 1 octet",
-        );
-        return ended(c, false);
-    }
-    if longest < n {
-        console::say_at(
-            b"pack",
-            path,
-            b"octet",
-            0,
-            b"a unit above the lane's longest",
-        );
-        return ended(c, false);
-    }
-    batch_on(writing, c, l, path, &window[..n], insert, ocf)
+    end_with(c, Fault::NotRead)
+}
+
+// Goes through an access lane's file.
+fn unit_on(j: Job, c: Course, fd: i32, insert: &[u8], ocf: &[u8]) -> Course
+    ensures { λ r. ⌜ UnitPassed j c (now (insert .entry)) (now (ocf .entry)) r ⌝ }
+{
+    let mut area = io::large_buffer();
+    let none = Window {
+        have: 0,
+        at: 0,
+        good: true,
+    };
+    let w = fill_up(fd, &mut area, none);
+    let n = w.have;
+    unit_step(j, c, w.good, &area[..n], insert, ocf)
 }
 
 // ---- the setting's lanes
 
 // A lane of the setting, by its number; a lane of zeros where there is none.
-fn lane_of(s: Setting, l: usize) -> Lane {
+fn lane_of(s: Setting, l: usize) -> Lane
+    ensures { λ r. ⌜ r ≡ lane s l ⌝ }
+{
     if l < 8 {
         return s.lanes[l];
     }
@@ -456,7 +521,9 @@ fn lane_of(s: Setting, l: usize) -> Lane {
 }
 
 // How many OCF octets the frames of a lane have.
-fn ocf_of(s: Setting, a: Lane) -> usize {
+fn ocf_of(s: Setting, a: Lane) -> usize
+    ensures { λ r. ⌜ r ≡ ocfOctets (channel s (a .channel)) ⌝ }
+{
     let p = a.channel;
     if p < 8 {
         let c = s.channels[p];
@@ -467,23 +534,37 @@ fn ocf_of(s: Setting, a: Lane) -> usize {
 
 // ---- the arguments
 
-// Goes through the file of lane l.
-fn file_on(writing: bool, c: Course, l: usize, path: &[u8], insert: &[u8], ocf: &[u8]) -> Course {
-    let fd = os::open_read(path);
-    if fd < 0 {
-        console::say_failed(b"pack", path);
-        return ended(c, false);
-    }
+// Goes through the open file of lane l, by the lane's kind.
+fn lane_on(writing: bool, c: Course, l: usize, fd: i32, insert: &[u8], ocf: &[u8]) -> Course
+    ensures { λ r. ⌜ LanePassed writing c l (now (insert .entry)) (now (ocf .entry)) r ⌝ }
+{
     let w = c.state;
     let s = w.setting;
     let a = lane_of(s, l);
     let o = ocf_of(s, a);
     let n = within(o, ocf);
     let kind = a.kind;
-    let t = match kind {
-        Kind::Packets => packets_on(writing, c, l, a.longest, fd, path, insert, &ocf[..n]),
-        Kind::Access => unit_on(writing, c, l, a.longest, fd, path, insert, &ocf[..n]),
+    let j = Job {
+        writing: writing,
+        lane: l,
+        longest: a.longest,
     };
+    match kind {
+        Kind::Packets => packets_on(j, c, fd, insert, &ocf[..n]),
+        Kind::Access => unit_on(j, c, fd, insert, &ocf[..n]),
+    }
+}
+
+// Goes through the file of lane l, and says what is wrong with it.
+fn file_on(writing: bool, c: Course, l: usize, path: &[u8], insert: &[u8], ocf: &[u8]) -> Course {
+    let fd = os::open_read(path);
+    if fd < 0 {
+        console::say_failed(b"pack", path);
+        return end_with(c, Fault::NotRead);
+    }
+    let t = lane_on(writing, c, l, fd, insert, ocf);
+    let fault = t.fault;
+    say_fault(path, fault);
     libc::close(fd);
     t
 }
@@ -513,15 +594,16 @@ fn pass(writing: bool, s: Setting, n: usize, insert: &[u8], ocf: &[u8]) -> Cours
     let fresh = writer::set_up(s);
     let w = fresh.state;
     let mut course = Course {
-        good: true,
+        fault: Fault::Nothing,
         state: w,
         frames: 0,
     };
     let mut i: usize = 2;
     while i < n {
-        let t = argument_on(writing, course, i, insert, ocf);
-        course = t;
-        if !t.good {
+        course = argument_on(writing, course, i, insert, ocf);
+        let fault = course.fault;
+        let good = is_sound(fault);
+        if !good {
             break;
         }
         i += 1;
@@ -531,51 +613,88 @@ fn pass(writing: bool, s: Setting, n: usize, insert: &[u8], ocf: &[u8]) -> Cours
 
 // ---- the insert and OCF octets
 
-// Which arguments name the insert and OCF octets, 0 for none, and whether all arguments are good.
+// What is wrong with the arguments: nothing, or one that names the insert octets or the OCF octets again, or none of what it should.
+enum Bad {
+    Nothing,
+    InsertTwice,
+    OcfTwice,
+    NoName,
+    NoWord,
+}
+
+// What is wrong with the arguments, and which of them name the insert and OCF octets, 0 for none.
 struct Plan {
-    good: bool,
+    bad: Bad,
     insert: usize,
     ocf: usize,
 }
 
-// Says what is wrong with an argument.
-fn bad_word(word: &[u8], what: &[u8]) -> Plan {
-    console::say(b"pack", word, what);
+// The same plan, but for what is wrong.
+fn bad_plan(p: Plan, bad: Bad) -> Plan
+    ensures { λ r. ⌜ r ≡ badPlan p bad ⌝ }
+{
     Plan {
-        good: false,
-        insert: 0,
-        ocf: 0,
+        bad: bad,
+        insert: p.insert,
+        ocf: p.ocf,
     }
 }
 
 // The plan after an argument with this name, argument i.
-fn planned(p: Plan, i: usize, word: &[u8], name: Named) -> Plan {
+fn planned(p: Plan, i: usize, name: Named) -> Plan
+    ensures { λ r. ⌜ r ≡ planOn p i name ⌝ }
+{
     match name {
         Named::ToLane(_) => p,
         Named::Insert => {
             if p.insert != 0 {
-                return bad_word(word, b"insert is named twice");
+                return bad_plan(p, Bad::InsertTwice);
             }
             Plan {
-                good: true,
+                bad: Bad::Nothing,
                 insert: i,
                 ocf: p.ocf,
             }
         }
         Named::Ocf => {
             if p.ocf != 0 {
-                return bad_word(word, b"ocf is named twice");
+                return bad_plan(p, Bad::OcfTwice);
             }
             Plan {
-                good: true,
+                bad: Bad::Nothing,
                 insert: p.insert,
                 ocf: i,
             }
         }
-        Named::Other => bad_word(
+        Named::Other => bad_plan(p, Bad::NoName),
+    }
+}
+
+// Whether nothing is wrong with the arguments.
+fn is_fine(bad: Bad) -> bool
+    ensures { λ r. ⌜ r ≡ fine bad ⌝ }
+{
+    match bad {
+        Bad::Nothing => true,
+        Bad::InsertTwice => false,
+        Bad::OcfTwice => false,
+        Bad::NoName => false,
+        Bad::NoWord => false,
+    }
+}
+
+// Says what is wrong with an argument, if anything is.
+fn say_bad(word: &[u8], bad: Bad) {
+    match bad {
+        Bad::Nothing => {}
+        Bad::InsertTwice => console::say(b"pack", word, b"insert is named twice"),
+        Bad::OcfTwice => console::say(b"pack", word, b"ocf is named twice"),
+        Bad::NoName => console::say(
+            b"pack",
             word,
             b"expected a lane of the setting, insert or ocf, then = and a file",
         ),
+        Bad::NoWord => {}
     }
 }
 
@@ -585,28 +704,28 @@ fn plan_next(p: Plan, i: usize, numbered: usize) -> Plan {
     let n = os::arg(i, &mut word);
     if os::errno() != 0 {
         console::say_failed(b"pack", b"an argument");
-        return Plan {
-            good: false,
-            insert: 0,
-            ocf: 0,
-        };
+        return bad_plan(p, Bad::NoWord);
     }
     let name = name_of(&word[..n], numbered);
-    planned(p, i, &word[..n], name)
+    let q = planned(p, i, name);
+    let bad = q.bad;
+    say_bad(&word[..n], bad);
+    q
 }
 
 // The plan of all arguments, of which there are n.
 fn plan_all(n: usize, numbered: usize) -> Plan {
     let mut plan = Plan {
-        good: true,
+        bad: Bad::Nothing,
         insert: 0,
         ocf: 0,
     };
     let mut i: usize = 2;
     while i < n {
-        let p = plan_next(plan, i, numbered);
-        plan = p;
-        if !p.good {
+        plan = plan_next(plan, i, numbered);
+        let bad = plan.bad;
+        let good = is_fine(bad);
+        if !good {
             break;
         }
         i += 1;
@@ -622,14 +741,19 @@ fn load_file(path: &[u8], n: usize, area: &mut [u8]) -> bool {
         return false;
     }
     let mut space = io::buffer();
-    let f = fill_up(fd, &mut space, 0);
-    if !f.good {
+    let none = Window {
+        have: 0,
+        at: 0,
+        good: true,
+    };
+    let w = fill_up(fd, &mut space, none);
+    if !w.good {
         console::say_failed(b"pack", path);
         libc::close(fd);
         return false;
     }
     libc::close(fd);
-    let have = within(f.have, &space);
+    let have = w.have;
     if have != n {
         say_expected(path, n as u64);
         return false;
@@ -657,9 +781,13 @@ fn load_octets(i: usize, from: usize, n: usize, area: &mut [u8]) -> bool {
 fn pack_files(s: Setting, n: usize, insert: &[u8], ocf: &[u8]) {
     let i = within(s.insert, insert);
     let looked = pass(false, s, n, &insert[..i], ocf);
-    if looked.good {
+    let found = looked.fault;
+    let good = is_sound(found);
+    if good {
         let c = pass(true, s, n, &insert[..i], ocf);
-        if c.good {
+        let fault = c.fault;
+        let done = is_sound(fault);
+        if done {
             console::say_count(b"pack", b"done: ", c.frames, b" frames");
         }
     }
@@ -668,7 +796,9 @@ fn pack_files(s: Setting, n: usize, insert: &[u8], ocf: &[u8]) {
 // Packs by this setting, with n arguments.
 fn pack_all(s: Setting, n: usize) {
     let p = plan_all(n, s.numbered);
-    if p.good {
+    let bad = p.bad;
+    let good = is_fine(bad);
+    if good {
         let mut insert = [0u8; 64];
         let mut ocf = [0u8; 4];
         let inserted = load_octets(p.insert, 7, s.insert, &mut insert);
@@ -698,9 +828,11 @@ pub fn run() {
         console::say_failed(b"pack", b"an argument");
         return;
     }
-    let l = setting_file::load(b"pack", &path[..k]);
-    let s = l.setting;
-    if l.good {
+    let mut area = [0u8; 65537];
+    let l = setting_file::load(b"pack", &path[..k], &mut area);
+    let j = l.judged;
+    let s = j.setting;
+    if j.good {
         pack_all(s, n);
     }
 }

@@ -1,25 +1,38 @@
-// A setting from a file, and in words what is wrong with one. No contract can speak of what is read from a descriptor or written
-// to one; what a text is, is said by crate `setting_text`.
+// A setting from a file, and in words what is wrong with one. What stands in the area after the reads is what was read; all that
+// follows from it is promised (`load`), but for the words, which no contract can follow to a descriptor.
 ghost use mathlib.Core.Path.{_≡_};
-ghost use mathlib.Core.Bool.{true};
 ghost use Prim.Native.Nat.{_≤_};
 ghost use lib.ListN.{length};
-ghost use Rattle.rules.specs.Settings.{settingOk};
+ghost use Rattle.setting_file.specs.Files.{none, textFound, judged};
 use rules::Setting;
 use setting_text::Finding;
 use setting_text::Missing;
 use setting_text::Wanted;
 
-// Whether the file gave a setting that document 01 accepts, and that setting.
-pub struct Loaded {
+// What a file is: one that could not be read, one that is longer than a text may be, or a text and what that is found to be.
+pub enum Found {
+    Unread,
+    TooLong,
+    Text(Finding),
+}
+
+// What a file is, whether it gave a setting that document 01 accepts, and that setting.
+pub struct Judged {
+    pub found: Found,
     pub good: bool,
     pub setting: Setting,
 }
 
-// How many octets were read, and whether no read failed.
-struct Filled {
-    read: bool,
-    size: usize,
+// Whether the file was read, and how many octets of it are at the front of the area.
+pub struct Filled {
+    pub read: bool,
+    pub size: usize,
+}
+
+// How a file was read, and what it is.
+pub struct Loaded {
+    pub filled: Filled,
+    pub judged: Judged,
 }
 
 // Says that a line has something else than a number from `low` to `high`.
@@ -174,51 +187,92 @@ fn fill(fd: i32, area: &mut [u8]) -> Filled
     }
 }
 
-// The setting of a file that is open for reading: one of zeros, and a message, where there is none.
-fn load_open(program: &[u8], path: &[u8], fd: i32) -> Setting {
-    let mut area = [0u8; 65537];
-    let f = fill(fd, &mut area);
-    let n = f.size;
-    if !f.read {
-        console::say_failed(program, path);
-        return no_setting();
-    }
-    if 65536 < n {
-        console::say(program, path, b"more than 65536 octets");
-        return no_setting();
-    }
-    let p = setting_text::parse(&area[..n]);
-    let found = p.finding;
-    say_finding(program, path, found);
-    p.setting
-}
-
-// A setting of zeros.
-fn no_setting() -> Setting {
-    let r = setting::no_reader();
-    r.setting
-}
-
-// The setting of a file: one of zeros, and a message, where there is none.
-fn load_file(program: &[u8], path: &[u8]) -> Setting {
-    let fd = os::open_read(path);
-    if fd < 0 {
-        console::say_failed(program, path);
-        return no_setting();
-    }
-    let s = load_open(program, path, fd);
-    libc::close(fd);
-    s
-}
-
-// Reads a setting from a file. Where it cannot, a message of this program says why.
-pub fn load(program: &[u8], path: &[u8]) -> Loaded
-    ensures { λ r. ⌜ (r .good ≡ true → settingOk (r .setting) ≡ true) ⌝ }
+// The same from a file that was opened, or could not be.
+fn fill_from(fd: i32, area: &mut [u8]) -> Filled
+    ensures { λ r. ⌜ r .size ≤ length (now (area .exit)) ⌝ }
 {
-    let s = load_file(program, path);
+    if fd < 0 {
+        return Filled {
+            read: false,
+            size: 0,
+        };
+    }
+    fill(fd, area)
+}
+
+// No setting, but one of zeros.
+fn no_setting(found: Found) -> Judged
+    ensures { λ r. ⌜ r ≡ none found ⌝ }
+{
+    let r = setting::no_reader();
+    let s = r.setting;
+    Judged {
+        found: found,
+        good: false,
+        setting: s,
+    }
+}
+
+// What a file with these octets is.
+fn judge_text(octets: &[u8]) -> Judged
+    ensures { λ r. ⌜ r ≡ textFound (now (octets .entry)) ⌝ }
+{
+    if 65536 < octets.len() {
+        return no_setting(Found::TooLong);
+    }
+    let p = setting_text::parse(octets);
+    let s = p.setting;
+    let f = p.finding;
     let good = setting::setting_ok(s);
-    Loaded {
+    Judged {
+        found: Found::Text(f),
         good: good,
         setting: s,
+    }
+}
+
+// What a file is that was read so into the area.
+fn judge(filled: Filled, area: &[u8]) -> Judged
+    requires { ⌜ filled .size ≤ length (now area) ⌝ }
+    ensures { λ r. ⌜ r ≡ judged filled (now (area .entry)) ⌝ }
+{
+    if filled.read {
+        let n = filled.size;
+        return judge_text(&area[..n]);
+    }
+    no_setting(Found::Unread)
+}
+
+// Says what is wrong with a file, if anything is.
+fn say_found(program: &[u8], path: &[u8], found: Found) {
+    match found {
+        Found::Unread => console::say_failed(program, path),
+        Found::TooLong => console::say(program, path, b"more than 65536 octets"),
+        Found::Text(f) => say_finding(program, path, f),
+    }
+}
+
+// Closes a file that was opened.
+fn close(fd: i32) {
+    if fd < 0 {
+        return;
+    }
+    libc::close(fd);
+}
+
+// Reads a setting from a file into the area, which should have room for more octets than a text may have. Where there is no setting, a message
+// of this program says why.
+pub fn load(program: &[u8], path: &[u8], area: &mut [u8]) -> Loaded
+    ensures { λ r. ⌜ r .judged ≡ judged (r .filled) (now (area .exit)) ⌝ }
+{
+    let fd = os::open_read(path);
+    let filled = fill_from(fd, area);
+    let j = judge(filled, area);
+    let found = j.found;
+    say_found(program, path, found);
+    close(fd);
+    Loaded {
+        filled: filled,
+        judged: j,
     }
 }

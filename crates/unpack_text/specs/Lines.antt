@@ -1,10 +1,13 @@
 -- What unpack prints, as docs/PROGRAMS.md has it.
-use Prim.Native.Nat.{ℕ, _≤_}
-use mathlib.Core.List.{List, _++_}
-use lib.ListN.{length}
+use Prim.Native.Nat.{ℕ, zero, suc, _≤_}
+use mathlib.Core.List.{List, [], _++_}
+use lib.ListN.{length, getD}
 use Rattle.rules.specs.declared.Answer.{Answer}
+use Rattle.rules.specs.declared.Reader.{Reader}
+use Rattle.rules.specs.declared.Setting.{Setting}
 use Rattle.rules.specs.declared.Verdict.{Verdict}
 use Rattle.rules.specs.declared.Verdict.the-variants.{Refused, Idle, Counted, Read}
+use Rattle.rules.specs.Settings.{channel}
 use Rattle.rules.specs.Listing.{text, decimal}
 use Rattle.listing_text.specs.Puts.{Put, front}
 use Rattle.unpack_text.specs.declared.Classes.{Classes}
@@ -12,6 +15,7 @@ use Rattle.unpack_text.specs.declared.Sums.{Sums}
 use Rattle.unpack_text.specs.declared.LaneTally.{LaneTally}
 use Rattle.unpack_text.specs.declared.ChannelTally.{ChannelTally}
 use Rattle.unpack_text.specs.declared.Tally.{Tally}
+use Rattle.unpack_text.specs.Totals.{noLaneTally, noChannelTally, heldIn}
 
 -- `xs` was put, n octets at most.
 pub record Wrote (n : ℕ) (xs area : List ℕ) (from : ℕ) (area′ : List ℕ) (end : ℕ) : Type 0 where
@@ -73,3 +77,23 @@ sumsText t =
 
 unfoldable pub totalLine : Tally → ℕ → List ℕ
 totalLine t held = classesText (t .classes) ++ sumsText (t .sums) ++ (text " held " ++ decimal held) ++ text "\n"
+
+-- The first n lines, in order.
+unfoldable pub firsts : (ℕ → List ℕ) → ℕ → List ℕ
+firsts line zero = []
+firsts line (suc n) = firsts line n ++ line n
+
+-- "A line for each lane in order, ..."
+unfoldable pub laneLines : List LaneTally → ℕ → List ℕ
+laneLines ts n = firsts (λ (i : ℕ). laneLine i (getD ts i noLaneTally)) n
+
+-- "... a line for each channel in order, ..."
+unfoldable pub channelLines : Setting → List ChannelTally → List ℕ
+channelLines s ts = firsts (λ (i : ℕ). channelLine ((channel s i) .vc) ((channel s i) .service) (getD ts i noChannelTally)) (s .listed)
+
+-- "... and one line for all; `held` is the octets that lanes still hold at the end."
+unfoldable pub totalsText : Reader → Tally → List ℕ
+totalsText r t =
+    laneLines (t .lanes) (r .setting .numbered)
+    ++ channelLines (r .setting) (t .channels)
+    ++ totalLine t (heldIn (r .held) (r .setting .numbered))

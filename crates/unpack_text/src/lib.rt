@@ -10,11 +10,12 @@ ghost use Rattle.rules.specs.Calls.{classRefusal};
 ghost use Rattle.rules.specs.Listing.{decimal};
 ghost use Rattle.header.specs.Heads.{headOf};
 ghost use Rattle.unpack_text.specs.Totals.{add, classed, summed, laneAfter, channelAfter, inLane, inChannel, lanesAfter, channelsAfter, tallied, noTally, heldIn};
-ghost use Rattle.unpack_text.specs.Lines.{Wrote, third, givenText, restText, frameLine, laneLine, channelLine, classesText, sumsText, totalLine, title};
+ghost use Rattle.unpack_text.specs.Lines.{Wrote, third, givenText, restText, frameLine, laneLine, channelLine, classesText, sumsText, totalLine, title, laneLines, channelLines, totalsText};
 use header::Head;
 use rules::Answer;
 use rules::Class;
 use rules::Place;
+use rules::Reader;
 use rules::Setting;
 use rules::Verdict;
 
@@ -116,7 +117,7 @@ pub fn place_of(s: Setting, class: Class, frame: &[u8]) -> Verdict
 // ---- totals
 
 // The sum, and the largest number where that does not hold it.
-pub fn add(a: u64, b: u64) -> u64
+fn add(a: u64, b: u64) -> u64
     ensures { λ r. ⌜ r ≡ add a b ⌝ }
 {
     if 18446744073709551615 - a < b {
@@ -323,7 +324,7 @@ fn slot(held: [usize; 8], i: usize) -> u64
 }
 
 // How many octets the first n lanes hold together.
-pub fn held_in(held: [usize; 8], n: usize) -> u64
+fn held_in(held: [usize; 8], n: usize) -> u64
     ensures { λ r. ⌜ r ≡ heldIn held n ⌝ }
 {
     let mut sum: u64 = 0;
@@ -406,7 +407,7 @@ pub fn put_title(area: &mut [u8], from: usize) -> usize
 }
 
 // Puts the line of a lane's totals.
-pub fn put_lane(area: &mut [u8], from: usize, l: u64, t: LaneTally) -> usize
+fn put_lane(area: &mut [u8], from: usize, l: u64, t: LaneTally) -> usize
     requires { ⌜ from + 109 ≤ length (now area) ⌝ }
     ensures { λ r. ⌜ Wrote 109 (laneLine l t) (now (area .entry)) from (now (area .exit)) r ⌝ }
 {
@@ -418,7 +419,7 @@ pub fn put_lane(area: &mut [u8], from: usize, l: u64, t: LaneTally) -> usize
 }
 
 // Puts the line of a channel's totals.
-pub fn put_channel(area: &mut [u8], from: usize, vc: u8, service: u8, t: ChannelTally) -> usize
+fn put_channel(area: &mut [u8], from: usize, vc: u8, service: u8, t: ChannelTally) -> usize
     requires { ⌜ from + 115 ≤ length (now area) ⌝ }
     ensures { λ r. ⌜ Wrote 115 (channelLine vc service t) (now (area .entry)) from (now (area .exit)) r ⌝ }
 {
@@ -454,7 +455,7 @@ fn put_sums(area: &mut [u8], from: usize, t: Sums) -> usize
 }
 
 // Puts the last line, of all frames.
-pub fn put_total(area: &mut [u8], from: usize, t: Tally, held: u64) -> usize
+fn put_total(area: &mut [u8], from: usize, t: Tally, held: u64) -> usize
     requires { ⌜ from + 306 ≤ length (now area) ⌝ }
     ensures { λ r. ⌜ Wrote 306 (totalLine t held) (now (area .entry)) from (now (area .exit)) r ⌝ }
 {
@@ -464,4 +465,51 @@ pub fn put_total(area: &mut [u8], from: usize, t: Tally, held: u64) -> usize
     let at = put_sums(area, at, x);
     let at = put_named(area, at, b" held ", held);
     listing_text::put_octet(area, at, b'\n')
+}
+
+// Puts the lines of the first lanes' totals.
+fn put_lanes(area: &mut [u8], from: usize, lanes: usize, ts: [LaneTally; 8]) -> usize
+    requires { ⌜ (lanes ≤ 8) × (from + 872 ≤ length (now area)) ⌝ }
+    ensures { λ r. ⌜ Wrote 872 (laneLines ts lanes) (now (area .entry)) from (now (area .exit)) r ⌝ }
+{
+    let mut at = from;
+    let mut i: usize = 0;
+    while i < lanes {
+        let t = ts[i];
+        at = put_lane(area, at, i as u64, t);
+        i += 1;
+    }
+    at
+}
+
+// Puts the lines of the listed channels' totals.
+fn put_channels(area: &mut [u8], from: usize, s: Setting, ts: [ChannelTally; 8]) -> usize
+    requires { ⌜ (s .listed ≤ 8) × (from + 920 ≤ length (now area)) ⌝ }
+    ensures { λ r. ⌜ Wrote 920 (channelLines s ts) (now (area .entry)) from (now (area .exit)) r ⌝ }
+{
+    let listed = s.listed;
+    let mut at = from;
+    let mut i: usize = 0;
+    while i < listed {
+        let c = s.channels[i];
+        let t = ts[i];
+        at = put_channel(area, at, c.vc, c.service, t);
+        i += 1;
+    }
+    at
+}
+
+// Puts all totals of a recording, after which a reader has this state.
+pub fn put_totals(area: &mut [u8], from: usize, r: Reader, t: Tally) -> usize
+    requires { ⌜ (r .setting .listed ≤ 8) × (r .setting .numbered ≤ 8) × (from + 2098 ≤ length (now area)) ⌝ }
+    ensures { λ e. ⌜ Wrote 2098 (totalsText r t) (now (area .entry)) from (now (area .exit)) e ⌝ }
+{
+    let s = r.setting;
+    let ls = t.lanes;
+    let cs = t.channels;
+    let h = r.held;
+    let held = held_in(h, s.numbered);
+    let at = put_lanes(area, from, s.numbered, ls);
+    let at = put_channels(area, at, s, cs);
+    put_total(area, at, t, held)
 }

@@ -1,16 +1,19 @@
 -- From frame to frame.
-use Prim.Native.Nat.{ℕ, _+_, _*_, _≤_}
+use Prim.Native.Nat.{ℕ, _+_, _*_, _≤_, _<_}
 use mathlib.Core.Path.{_≡_, refl, sym, ap, ap₂, subst, _∙_}
-use mathlib.Core.Bool.{Bool, true, false, false≢true}
+use mathlib.Core.Bool.{Bool, true, false, cond, false≢true}
 use mathlib.Core.List.{List, [], _∷_, _++_}
-use lib.ListN.{length-append, replicate}
+use lib.ListN.{length, take, length-append, replicate}
+use lib.Seq.{length-take-le}
 use native.Mathlib.Omega.{arith}
+use borrow.Author.Tests.{ne-eqb}
 use Rattle.rules.specs.declared.Answer.{Answer}
 use Rattle.rules.specs.declared.Listener.{Listener}
 use Rattle.rules.specs.declared.Reader.{Reader}
 use Rattle.rules.specs.declared.Setting.{Setting}
 use Rattle.rules.specs.declared.Taken.{Taken}
 use Rattle.rules.specs.declared.Verdict.{Verdict}
+use Rattle.rules.specs.Tests.{_=?_}
 use Rattle.rules.specs.Settings.{settingOk, readerOk}
 use Rattle.rules.specs.Refusals.{judged}
 use Rattle.rules.specs.Calls.{setUpReader, Got, read, verdict, classRefusal}
@@ -19,8 +22,11 @@ use Rattle.unpack_text.specs.declared.Tally.{Tally}
 use Rattle.unpack_text.specs.Totals.{tallied, noTally}
 use Rattle.unpack_text.specs.Lines.{Wrote, frameLine}
 use Rattle.unpack_text.proofs.Placed.{placed-is}
+use Rattle.unpacking.specs.declared.Came.{Came}
 use Rattle.unpacking.specs.declared.Turn.{Turn}
-use Rattle.unpacking.specs.Stages.{Stage, got, ruled, told, advanced, through, begun, Reached, Took, Turned, Finished}
+use Rattle.unpacking.proofs.Cuts.{wrote-front}
+use Rattle.unpacking.specs.Stages.{Stage, got, ruled, told, advanced, through, begun, Reached}
+use Rattle.unpacking.specs.Stages.{Took, Handed, Handled, Turned, Finished, taken, takenTurn, haltedTurn, firstTurn}
 
 -- ---- stages
 
@@ -33,51 +39,99 @@ advanced-valid : (g : Stage) (f : List ℕ) → readerOk (g .reader) ≡ true �
 unfolding advanced got
 advanced-valid g f ok = read-valid (g .reader) f (g .held) (g .units) (g .records) ok
 
--- Before the first frame.
-begins : (s : Setting) → settingOk s ≡ true
-    → Reached s 0 (record { reader = (setUpReader s) .state; held = replicate 65536 0; units = replicate 12288 0; records = replicate 9600 0; totals = noTally })
-unfolding through begun
-begins s ok =
-    record {
-      frames = [];
-      many = refl;
-      stage = refl;
-      valid = ap (λ (x : Listener). readerOk (x .state)) (setup-accepted s ok .0) ∙ setup-accepted s ok .2;
-    }
+-- The stage of a turn before which nothing was read.
+abbrev first : Turn → Stage
+first u = record { reader = u .state; held = replicate 65536 0; units = replicate 12288 0; records = replicate 9600 0; totals = u .totals }
 
-pub begins-turn : (s : Setting) (u : Turn) → settingOk s ≡ true
-    → u ≡ record { state = (setUpReader s) .state; totals = noTally; count = 0; more = true; good = true }
-    → (u .count ≡ 0) × Reached s 0 (record { reader = u .state; held = replicate 65536 0; units = replicate 12288 0; records = replicate 9600 0; totals = u .totals })
-begins-turn s u ok e =
-    subst (λ (x : Turn). (x .count ≡ 0) × Reached s 0 (record { reader = x .state; held = replicate 65536 0; units = replicate 12288 0; records = replicate 9600 0; totals = x .totals }))
-    (sym e) (refl, begins s ok)
+pub begins : (s : Setting) (u : Turn) → settingOk s ≡ true → u ≡ firstTurn s → (u .count ≡ 0) × Reached (first u) (u .count) (first u)
+unfolding firstTurn through
+begins s u ok e =
+    subst (λ (x : Turn). (x .count ≡ 0) × Reached (first x) (x .count) (first x)) (sym e) (
+      refl,
+      record {
+        frames = [];
+        many = refl;
+        stage = refl;
+        valid = ap (λ (x : Listener). readerOk (x .state))
+            (setup-accepted s ok .0) ∙ setup-accepted s ok .2;
+      },
+    )
+
+-- Where the frames end, the areas may go.
+pub finished : (s : Setting) (u : Turn) {k : ℕ} {g : Stage} → u ≡ firstTurn s → Reached (first u) k g → Finished s k (g .reader) (g .totals)
+unfolding firstTurn begun
+finished s u {k} {g} e p =
+    record { held = g .held; units = g .units; records = g .records; reached = subst (λ (x : Turn). Reached (first x) k g) e p }
 
 -- After one more.
-pub goes : {s : Setting} {k : ℕ} {g : Stage} {f area : List ℕ} {g′ : Stage} {area′ : List ℕ} {v : Verdict} {units octets end : ℕ}
-    → Reached s k g → Took k g f area g′ area′ v units octets end → Reached s (k + 1) g′
-goes {s} {k} {g} {f} p t =
+goes : {g₀ : Stage} {k : ℕ} {g : Stage} (f : List ℕ) {g′ : Stage} → Reached g₀ k g → g′ ≡ advanced g f → Reached g₀ (k + 1) g′
+goes {g₀} {k} {g} f p e =
     record {
       frames = p .frames ++ f ∷ [];
       many = omega (arith, length-append (p .frames) (f ∷ []), p .many);
-      stage = t .stage ∙ ap (λ (x : Stage). advanced x f) (p .stage) ∙ sym (through-more (begun s) (p .frames) f);
-      valid = ap (λ (x : Stage). readerOk (x .reader)) (t .stage) ∙ advanced-valid g f (p .valid);
+      stage = e ∙ ap (λ (x : Stage). advanced x f) (p .stage) ∙ sym (through-more g₀ (p .frames) f);
+      valid = ap (λ (x : Stage). readerOk (x .reader)) e ∙ advanced-valid g f (p .valid);
     }
 
-pub turns : {s : Setting} {k : ℕ} (more : Bool) {g : Stage} → Reached s (k + 1) g → Turned s k (k + 1) more g
-turns more p = record { reached = p; counted = λ _. omega arith }
+-- After a turn, and that one after which there may be more took a frame.
+pub turned-on : {g₀ : Stage} {u : Turn} {c : Came} {g : Stage} {area : List ℕ} {u′ : Turn} {g′ : Stage} → Reached g₀ (u .count) g → Turned u c g area u′ g′
+    → Reached g₀ (u′ .count) g′ × (u′ .more ≡ true → u .count < u′ .count)
+unfolding takenTurn haltedTurn
+turned-on {g₀} {u} {c} {g} {area} {u′} {g′} p t = by (taken c) (t .stage) (t .turn)
+  where
+    by : (b : Bool) → g′ ≡ cond b (advanced g (take (c .octets) area)) g → u′ ≡ cond b (takenTurn u c g′ (u′ .went)) (haltedTurn u c)
+        → Reached g₀ (u′ .count) g′ × (u′ .more ≡ true → u .count < u′ .count)
+    by true e q =
+        let n : u′ .count ≡ u .count + 1 = ap (λ (x : Turn). x .count) q in
+        (subst (λ (k : ℕ). Reached g₀ k g′) (sym n) (goes (take (c .octets) area) p e), λ _. omega arith)
+    by false e q =
+        let n : u′ .count ≡ u .count = ap (λ (x : Turn). x .count) q in
+        let m : u′ .more ≡ false = ap (λ (x : Turn). x .more) q in
+        (subst (λ (x : Stage). Reached g₀ (u′ .count) x) (sym e) (subst (λ (k : ℕ). Reached g₀ k g) (sym n) p), λ h. absurd (false≢true (sym m ∙ h)))
 
-pub stays : {s : Setting} {k : ℕ} {g : Stage} → Reached s k g → Turned s k k false g
-stays p = record { reached = p; counted = λ e. absurd (false≢true e) }
+-- ---- one turn
+
+pub taken-failed : (c : Came) → c .failed ≡ true → taken c ≡ false
+unfolding taken
+taken-failed c h = rw h
+
+pub taken-none : (c : Came) → c .failed ≡ false → c .octets ≡ 0 → taken c ≡ false
+unfolding taken
+taken-none c h z = rw (h, z)
+
+pub taken-some : (c : Came) → c .failed ≡ false → (c .octets ≡ 0 → ⊥) → taken c ≡ true
+unfolding taken
+taken-some c h z = rw (h, ne-eqb (c .octets) 0 z)
+
+module _ (u : Turn) (c : Came) where
+  pub halts : (h us cs area : List ℕ) {u′ : Turn} → taken c ≡ false → u′ ≡ haltedTurn u c
+      → Turned u c (record { reader = u .state; held = h; units = us; records = cs; totals = u .totals }) area u′
+      (record { reader = u′ .state; held = h; units = us; records = cs; totals = u′ .totals })
+  unfolding haltedTurn
+  halts h us cs area k e =
+      record { stage = rw k (ap (λ (x : Turn). record { reader = x .state; held = h; units = us; records = cs; totals = x .totals }) e); turn = rw k e }
+
+  pub takes : (g : Stage) (area : List ℕ) {u′ : Turn} {g′ : Stage} → taken c ≡ true → Handled u c g (take (c .octets) area) u′ g′ → Turned u c g area u′ g′
+  takes g area h t = record { stage = rw h (t .stage); turn = rw h (t .turn) }
+
+-- What came stands in the turn.
+pub turned-came : {u : Turn} {c : Came} {g : Stage} {area : List ℕ} {u′ : Turn} {g′ : Stage} → Turned u c g area u′ g′ → Turned u (u′ .came) g area u′ g′
+unfolding takenTurn haltedTurn
+turned-came {u} {c} {g} {area} {u′} {g′} t = subst (λ (x : Came). Turned u x g area u′ g′) (sym (by (taken c) (t .turn))) t
+  where
+    by : (b : Bool) → u′ ≡ cond b (takenTurn u c g′ (u′ .went)) (haltedTurn u c) → u′ .came ≡ c
+    by true e = ap (λ (x : Turn). x .came) e
+    by false e = ap (λ (x : Turn). x .came) e
 
 -- ---- one frame
 
 -- What it gave fits the areas.
-pub gave-fits : {k : ℕ} {g : Stage} {f area : List ℕ} {g′ : Stage} {area′ : List ℕ} {v : Verdict} {units octets end : ℕ}
-    → Took k g f area g′ area′ v units octets end → (octets ≤ 12288) × (16 * units ≤ 9600)
+pub gave-fits : {k : ℕ} {g : Stage} {f area : List ℕ} {g′ : Stage} {area′ : List ℕ} {v : Verdict} {a : Answer} {end : ℕ}
+    → Took k g f area g′ area′ v a end → (a .octets ≤ 12288) × (16 * a .units ≤ 9600)
 unfolding told got
 gave-fits {k} {g} {f} t =
     let s : Small ((read (g .reader) f (g .held) (g .units) (g .records)) .taken .answer) = read-fits (g .reader) f (g .held) (g .units) (g .records) in
-    (omega (arith, s .octets, t .long), omega (arith, s .records, t .gave))
+    (omega (arith, s .octets, ap (λ (x : Answer). x .octets) (t .answer)), omega (arith, s .records, ap (λ (x : Answer). x .units) (t .answer)))
 
 module _ (k : ℕ) (r : Reader) (t : Tally) (f h u c area : List ℕ) where
   -- The read, whose the frame is, the totals, and the line.
@@ -86,7 +140,7 @@ module _ (k : ℕ) (r : Reader) (t : Tally) (f h u c area : List ℕ) where
       → v ≡ judged (r .setting) f (classRefusal (n .answer .class)) → t′ ≡ tallied (r .setting) t v (n .answer)
       → Wrote 176 (frameLine k v (n .answer)) area 0 area′ end
       → Took k (record { reader = r; held = h; units = u; records = c; totals = t }) f area
-      (record { reader = n .state; held = h′; units = u′; records = c′; totals = t′ }) area′ v (n .answer .units) (n .answer .octets) end
+      (record { reader = n .state; held = h′; units = u′; records = c′; totals = t′ }) area′ v (n .answer) end
   unfolding advanced got ruled told
   took n h′ u′ c′ v t′ area′ end e w q l =
       let a : n .answer ≡ (read r f h u c) .taken .answer = ap (λ (x : Got). x .taken .answer) e in
@@ -97,12 +151,13 @@ module _ (k : ℕ) (r : Reader) (t : Tally) (f h u c area : List ℕ) where
         stage =
             ap₂ (λ (x : Got) (w : Tally). record { reader = x .taken .state; held = x .heldArea; units = x .unitArea; records = x .recordArea; totals = w }) e
             (q ∙ ap₂ (tallied (r .setting) t) y a);
-        line = subst (λ (x : Verdict). Wrote 176 (frameLine k x ((read r f h u c) .taken .answer)) area 0 area′ end) y (subst (λ (x : Answer). Wrote 176 (frameLine k v x) area 0 area′ end) a l);
+        line = l;
         whose = y;
-        gave = ap (λ (x : Answer). x .units) a;
-        long = ap (λ (x : Answer). x .octets) a;
+        answer = a;
       }
 
--- Where the frames end, the areas may go.
-pub finished : {s : Setting} {k n : ℕ} {g : Stage} → Reached s k g → n ≡ k → Finished s n (g .reader) (g .totals)
-finished {s} {k} {n} {g} p e = record { held = g .held; units = g .units; records = g .records; reached = subst (λ (i : ℕ). Reached s i g) (sym e) p }
+-- What is cut out of the areas is what is handed out.
+pub handed : {k : ℕ} {g : Stage} {f area : List ℕ} {g′ : Stage} {area′ : List ℕ} {v : Verdict} {a : Answer} {end : ℕ} (u c : List ℕ)
+    → Took k g f area g′ area′ v a end → a .octets ≤ length u → 16 * a .units ≤ length c
+    → Handed k v a (take end area′) (take (a .octets) u) (take (16 * a .units) c)
+handed u c t p q = record { line = wrote-front (t .line); units = length-take-le _ _ p; records = length-take-le _ _ q }

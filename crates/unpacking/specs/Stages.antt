@@ -1,18 +1,23 @@
 -- What unpack carries from frame to frame.
-use Prim.Native.Nat.{ℕ, _+_, _≤_, _<_}
+use Prim.Native.Nat.{ℕ, _+_, _*_, _≤_, _<_}
 use mathlib.Core.Path.{_≡_}
-use mathlib.Core.Bool.{Bool, true}
+use mathlib.Core.Bool.{Bool, true, false, cond, not}
 use mathlib.Core.List.{List, [], _∷_}
-use lib.ListN.{length, replicate}
+use lib.ListN.{length, take, replicate}
 use Rattle.rules.specs.declared.Answer.{Answer}
 use Rattle.rules.specs.declared.Reader.{Reader}
 use Rattle.rules.specs.declared.Setting.{Setting}
 use Rattle.rules.specs.declared.Verdict.{Verdict}
+use Rattle.rules.specs.Tests.{_=?_}
 use Rattle.rules.specs.Settings.{readerOk}
 use Rattle.rules.specs.Calls.{setUpReader, Got, read, verdict}
 use Rattle.unpack_text.specs.declared.Tally.{Tally}
 use Rattle.unpack_text.specs.Totals.{tallied, noTally}
 use Rattle.unpack_text.specs.Lines.{Wrote, frameLine}
+use Rattle.unpacking.specs.declared.Came.{Came}
+use Rattle.unpacking.specs.declared.Went.{Went}
+use Rattle.unpacking.specs.declared.Went.the-variants.{Well, NotRead, NotPrinted, NotWritten}
+use Rattle.unpacking.specs.declared.Turn.{Turn}
 
 -- The reader's state, the areas, and the totals.
 pub record Stage : Type 0 where
@@ -58,37 +63,88 @@ begun s =
       totals = noTally;
     }
 
--- The rules' reading of k frames, from a fresh state of this setting, comes to this stage; its state is valid.
-pub record Reached (s : Setting) (k : ℕ) (g : Stage) : Type 0 where
+-- The rules' reading of k frames from one stage on comes to another, whose state is valid.
+pub record Reached (g₀ : Stage) (k : ℕ) (g : Stage) : Type 0 where
   pub frames : List (List ℕ)
   pub many : length frames ≡ k
-  pub stage : g ≡ through (begun s) frames
+  pub stage : g ≡ through g₀ frames
   pub valid : readerOk (g .reader) ≡ true
 
--- Frame k was taken: the stage after it, its line in the area, whose it is, and how much it gave.
-pub record Took (k : ℕ) (g : Stage) (f area : List ℕ) (g′ : Stage) (area′ : List ℕ) (v : Verdict) (units octets end : ℕ) : Type 0 where
+-- Frame k was taken: the stage after it, its line in the area, whose it is, and its answer.
+pub record Took (k : ℕ) (g : Stage) (f area : List ℕ) (g′ : Stage) (area′ : List ℕ) (v : Verdict) (a : Answer) (end : ℕ) : Type 0 where
   pub stage : g′ ≡ advanced g f
-  pub line : Wrote 176 (frameLine k (ruled g f) (told g f)) area 0 area′ end
+  pub line : Wrote 176 (frameLine k v a) area 0 area′ end
   pub whose : v ≡ ruled g f
-  pub gave : units ≡ (told g f) .units
-  pub long : octets ≡ (told g f) .octets
-
--- One turn: the stage after it, and that a turn after which there may be more took a frame.
-pub record Turned (s : Setting) (k k′ : ℕ) (more : Bool) (g : Stage) : Type 0 where
-  pub reached : Reached s k′ g
-  pub counted : more ≡ true → k < k′
+  pub answer : a ≡ told g f
 
 -- Areas in which a turn has room, and a frame number that another one follows.
-pub record Room (k : ℕ) (u c a m : List ℕ) (n : ℕ) : Type 0 where
+pub record Room (k : ℕ) (u c : List ℕ) : Type 0 where
   pub more : k < 18446744073709551615
   pub units : 12288 ≤ length u
   pub records : 9600 ≤ length c
-  pub line : 176 ≤ length a
-  pub name : n + 30 ≤ length m
 
--- State and totals after k frames, with areas that are no longer lent.
+-- ---- what is handed to the system, and what it answers
+
+-- A lane's units go to its output. Other frames have none.
+unfoldable pub outputOf : Verdict → ℕ
+outputOf (Verdict.Refused n) = 9
+outputOf Verdict.Idle = 9
+outputOf (Verdict.Counted c) = 9
+outputOf (Verdict.Read l) = l
+
+-- The octets that are handed out for frame k: its line, and its units and records, as many as the answer says.
+pub record Handed (k : ℕ) (v : Verdict) (a : Answer) (l u c : List ℕ) : Type 0 where
+  pub line : l ≡ frameLine k v a
+  pub units : length u ≡ a .octets
+  pub records : length c ≡ 16 * a .units
+
+unfoldable pub wellGone : Went → Bool
+wellGone Well = true
+wellGone NotRead = false
+wellGone NotPrinted = false
+wellGone (NotWritten i) = false
+
+-- There may be more after a whole frame, if all went well.
+unfoldable pub goesOn : Bool → Went → Bool
+goesOn whole w = cond whole (wellGone w) false
+
+-- ---- turns
+
+-- "Reads the recording's frames, F octets each, to its end (a last frame that is short is a frame too ...)": what came is a frame.
+unfoldable pub taken : Came → Bool
+taken c = cond (c .failed) false (not (c .octets =? 0))
+
+-- A turn in which a frame came: one frame more.
+unfoldable pub takenTurn : Turn → Came → Stage → Went → Turn
+takenTurn u c g w =
+    record { state = g .reader; totals = g .totals; count = u .count + 1; came = c; went = w; more = goesOn (c .octets =? u .state .setting .length) w }
+
+-- "A recording that cannot be read is told apart from its end."
+unfoldable pub endingOf : Bool → Went
+endingOf failed = cond failed NotRead Well
+
+-- A turn in which none came: nothing changes.
+unfoldable pub haltedTurn : Turn → Came → Turn
+haltedTurn u c = record { state = u .state; totals = u .totals; count = u .count; came = c; went = endingOf (c .failed); more = false }
+
+-- A turn with this frame, up to how the writes went.
+pub record Handled (u : Turn) (c : Came) (g : Stage) (f : List ℕ) (u′ : Turn) (g′ : Stage) : Type 0 where
+  pub stage : g′ ≡ advanced g f
+  pub turn : u′ ≡ takenTurn u c g′ (u′ .went)
+
+-- A turn in which this came into the frame area, up to how the writes went: the frame is what came.
+pub record Turned (u : Turn) (c : Came) (g : Stage) (area : List ℕ) (u′ : Turn) (g′ : Stage) : Type 0 where
+  pub stage : g′ ≡ cond (taken c) (advanced g (take (c .octets) area)) g
+  pub turn : u′ ≡ cond (taken c) (takenTurn u c g′ (u′ .went)) (haltedTurn u c)
+
+-- Before the first.
+unfoldable pub firstTurn : Setting → Turn
+firstTurn s =
+    record { state = (setUpReader s) .state; totals = noTally; count = 0; came = record { octets = 0; failed = false }; went = Well; more = true }
+
+-- State and totals after k frames from the beginning, with areas that are no longer lent.
 pub record Finished (s : Setting) (k : ℕ) (r : Reader) (t : Tally) : Type 0 where
   pub held : List ℕ
   pub units : List ℕ
   pub records : List ℕ
-  pub reached : Reached s k (record { reader = r; held = held; units = units; records = records; totals = t })
+  pub reached : Reached (begun s) k (record { reader = r; held = held; units = units; records = records; totals = t })

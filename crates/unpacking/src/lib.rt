@@ -1,26 +1,26 @@
 // The program unpack: a setting, a recording and a prefix from the command line; the recording's frames through one reader;
 // units by lane, records, a line a frame and totals.
 //
-// Proved: before each frame, state, areas and totals are those to which the rules' `read` comes from a fresh state over as
-// many frames, and the state is valid (`Reached`); state and totals are so too where the frames end (`take_all`). The octets
-// put for printing of frame k are its line, of the rules' verdict and answer (`take_frame`), and a name is its prefix and
-// suffix (`put_name`). Shown by runs: that the frames are those of the recording and that what is put is written, for no
-// contract can speak of what a call of the system reads or writes.
+// What the system reads and answers stands in the contracts as what came (`Came`) and how the writes went (`Went`); all else is determined by
+// it. Proved: the frame of a turn is the octets that came, and state, areas and totals after it are those to which the rules' `read` comes
+// (`turn_frame`); so they are over all frames (`take_all`). What is handed to the system is asked for where it is handed over: a
+// frame's line, of the rules' verdict and answer, as many unit and record octets as it gave (`put_out`), the title, and the text of all
+// totals (`hand_totals`). A name is its prefix and suffix (`put_name`). Shown by runs: what no contract can follow into the system.
 ghost use mathlib.Core.Path.{_≡_};
-ghost use mathlib.Core.Bool.{true};
-ghost use Prim.Native.Nat.{_+_, _≤_};
+ghost use mathlib.Core.Bool.{Bool, true};
+ghost use Prim.Native.Nat.{_+_, _%_, _≤_};
 ghost use lib.ListN.{length};
+ghost use Rattle.rules.specs.Tests.{_=?_};
 ghost use Rattle.rules.specs.Settings.{settingOk, readerOk};
 ghost use Rattle.rules.specs.Calls.{setUpReader};
 ghost use Rattle.unpack_text.specs.Totals.{noTally};
-ghost use Rattle.unpack_text.specs.Lines.{Wrote};
+ghost use Rattle.unpack_text.specs.Lines.{Wrote, title, totalsText};
 ghost use Rattle.unpacking.specs.Names.{suffix};
-ghost use Rattle.unpacking.specs.Stages.{Reached, Took, Room, Turned, Finished};
+ghost use Rattle.unpacking.specs.Stages.{Took, Room, Handed, Handled, Turned, Finished, firstTurn, endingOf, haltedTurn, outputOf, wellGone, goesOn};
+use rules::Answer;
 use rules::Reader;
 use rules::Setting;
 use rules::Verdict;
-use unpack_text::ChannelTally;
-use unpack_text::LaneTally;
 use unpack_text::Tally;
 
 // What came of a frame: how many octets, and whether the system failed.
@@ -29,23 +29,31 @@ struct Came {
     failed: bool,
 }
 
-// A frame taken: state and totals after it, whose it is, how much it gave, and where its line ends.
+// How a turn went with the system: well, or what failed: reading the recording, printing, or writing an output.
+enum Went {
+    Well,
+    NotRead,
+    NotPrinted,
+    NotWritten(usize),
+}
+
+// A frame taken: state and totals after it, whose it is, its answer, and where its line ends.
 struct Step {
     state: Reader,
     totals: Tally,
     verdict: Verdict,
-    units: usize,
-    octets: usize,
+    answer: Answer,
     end: usize,
 }
 
-// A turn: state and totals after it, how many frames there were, whether there may be more, whether all went well.
+// A turn: state and totals after it, how many frames there were, what came, how it went, and whether there may be more.
 struct Turn {
     state: Reader,
     totals: Tally,
     count: u64,
+    came: Came,
+    went: Went,
     more: bool,
-    good: bool,
 }
 
 // ---- names of files
@@ -110,7 +118,7 @@ fn take_frame(
     area: &mut [u8],
 ) -> Step
     requires { ⌜ (readerOk r ≡ true) × (176 ≤ length (now area)) ⌝ }
-    ensures { λ p. ⌜ Took k (record { reader = r; held = now (held .entry); units = now (units .entry); records = now (records .entry); totals = t }) (now (frame .entry)) (now (area .entry)) (record { reader = p .state; held = now (held .exit); units = now (units .exit); records = now (records .exit); totals = p .totals }) (now (area .exit)) (p .verdict) (p .units) (p .octets) (p .end) ⌝ }
+    ensures { λ p. ⌜ Took k (record { reader = r; held = now (held .entry); units = now (units .entry); records = now (records .entry); totals = t }) (now (frame .entry)) (now (area .entry)) (record { reader = p .state; held = now (held .exit); units = now (units .exit); records = now (records .exit); totals = p .totals }) (now (area .exit)) (p .verdict) (p .answer) (p .end) ⌝ }
 {
     let g = reader::read(r, frame, held, units, records);
     let a = g.answer;
@@ -124,28 +132,20 @@ fn take_frame(
         state: after,
         totals: totals,
         verdict: v,
-        units: a.units,
-        octets: a.octets,
+        answer: a,
         end: end,
     }
 }
 
 // ---- writing
 
-// Writes octets to an output, and says so where that fails.
-fn write_to(fds: [i32; 9], i: usize, octets: &[u8], name: &mut [u8], n: usize, lanes: usize) -> bool
-    requires { ⌜ n + 30 ≤ length (now name) ⌝ }
-{
+// Writes octets to an output.
+fn write_to(fds: [i32; 9], i: usize, octets: &[u8]) -> bool {
     if 8 < i {
         return false;
     }
     let fd = fds[i];
-    let good = io::write_all(fd, octets);
-    if good {
-        return true;
-    }
-    say_output(name, n, lanes, i);
-    false
+    io::write_all(fd, octets)
 }
 
 // Writes text to standard output, and says so where that fails.
@@ -159,7 +159,9 @@ fn print(octets: &[u8]) -> bool {
 }
 
 // The output that a frame's units go to: its lane's, or none.
-fn output_of(v: Verdict) -> usize {
+fn output_of(v: Verdict) -> usize
+    ensures { λ r. ⌜ r ≡ outputOf v ⌝ }
+{
     match v {
         Verdict::Refused(_) => 9,
         Verdict::Idle => 9,
@@ -168,153 +170,205 @@ fn output_of(v: Verdict) -> usize {
     }
 }
 
-// Prints a frame's line, and writes the units and the records that it gave.
+// Writes units to output i and records to the output after the lanes', if there are any.
+fn put_units(fds: [i32; 9], i: usize, lanes: usize, units: &[u8], records: &[u8]) -> Went {
+    if units.len() == 0 {
+        return Went::Well;
+    }
+    let given = write_to(fds, i, units);
+    if !given {
+        return Went::NotWritten(i);
+    }
+    let told = write_to(fds, lanes, records);
+    if !told {
+        return Went::NotWritten(lanes);
+    }
+    Went::Well
+}
+
+// Prints the line of frame k, and writes the units and the records that it gave.
 fn put_out(
-    line: &[u8],
+    k: u64,
+    v: Verdict,
+    a: Answer,
+    lanes: usize,
     fds: [i32; 9],
-    i: usize,
+    line: &[u8],
     units: &[u8],
     records: &[u8],
-    name: &mut [u8],
-    n: usize,
-    lanes: usize,
-) -> bool
-    requires { ⌜ n + 30 ≤ length (now name) ⌝ }
+) -> Went
+    requires { ⌜ Handed k v a (now line) (now units) (now records) ⌝ }
 {
-    let printed = print(line);
-    if printed {
-        if units.len() == 0 {
-            return true;
-        }
-        let good = write_to(fds, i, units, name, n, lanes);
-        if good {
-            return write_to(fds, lanes, records, name, n, lanes);
-        }
+    let printed = io::write_all(1, line);
+    if !printed {
+        return Went::NotPrinted;
+    }
+    let i = output_of(v);
+    put_units(fds, i, lanes, units, records)
+}
+
+// Whether all went well.
+fn well(went: Went) -> bool
+    ensures { λ r. ⌜ r ≡ wellGone went ⌝ }
+{
+    match went {
+        Went::Well => true,
+        Went::NotRead => false,
+        Went::NotPrinted => false,
+        Went::NotWritten(_) => false,
+    }
+}
+
+// Whether there may be more after a frame that is whole or not.
+fn goes_on(whole: bool, went: Went) -> bool
+    ensures { λ r. ⌜ r ≡ goesOn whole went ⌝ }
+{
+    if whole {
+        return well(went);
     }
     false
 }
 
-// Says how far the program is, every 65,536 frames.
-fn say_progress(count: u64) {
-    if count % 65536 == 0 {
-        console::say_count(b"unpack", b"", count, b" frames");
+// Whether the program says how far it is: every 65,536 frames.
+fn due(count: u64) -> bool
+    ensures { λ r. ⌜ r ≡ (count % 65536) =? 0 ⌝ }
+{
+    count % 65536 == 0
+}
+
+// Says how far the program is, where that is due and all went well.
+fn say_progress(went: Went, count: u64) {
+    let good = well(went);
+    if good {
+        let now = due(count);
+        if now {
+            console::say_count(b"unpack", b"", count, b" frames");
+        }
     }
 }
 
 // ---- frame by frame
 
-// Takes frame k, prints its line, and writes what it gave.
+// Takes the frame that came, prints its line, and writes what it gave.
 fn handle(
-    s: Setting,
-    k: u64,
-    r: Reader,
-    t: Tally,
+    u: Turn,
+    came: Came,
+    fds: [i32; 9],
     frame: &[u8],
-    whole: bool,
     held: &mut [u8],
     units: &mut [u8],
     records: &mut [u8],
-    area: &mut [u8],
-    fds: [i32; 9],
-    name: &mut [u8],
-    n: usize,
 ) -> Turn
-    requires { ⌜ Reached s k (record { reader = r; held = now held; units = now units; records = now records; totals = t }) × Room k (now units) (now records) (now area) (now name) n ⌝ }
-    ensures { λ u. ⌜ Turned s k (u .count) (u .more) (record { reader = u .state; held = now (held .exit); units = now (units .exit); records = now (records .exit); totals = u .totals }) ⌝ }
+    requires { ⌜ (readerOk (u .state) ≡ true) × Room (u .count) (now units) (now records) ⌝ }
+    ensures { λ v. ⌜ Handled u came (record { reader = u .state; held = now (held .entry); units = now (units .entry); records = now (records .entry); totals = u .totals }) (now (frame .entry)) v (record { reader = v .state; held = now (held .exit); units = now (units .exit); records = now (records .exit); totals = v .totals }) ⌝ }
 {
-    let p = take_frame(k, r, t, frame, held, units, records, area);
+    let r = u.state;
+    let t = u.totals;
+    let s = r.setting;
+    let k = u.count;
+    let mut area = [0u8; 176];
+    let p = take_frame(k, r, t, frame, held, units, records, &mut area);
     let v = p.verdict;
-    let i = output_of(v);
+    let a = p.answer;
     let end = p.end;
-    let o = p.octets;
-    let c = 16 * p.units;
-    let good = put_out(
-        &area[..end],
+    let o = a.octets;
+    let c = 16 * a.units;
+    let went = put_out(
+        k,
+        v,
+        a,
+        s.numbered,
         fds,
-        i,
+        &area[..end],
         &units[..o],
         &records[..c],
-        name,
-        n,
-        s.numbered,
     );
+    say_progress(went, k + 1);
+    let more = goes_on(came.octets == s.length, went);
     let after = p.state;
     let totals = p.totals;
-    if good {
-        say_progress(k + 1);
-    }
     Turn {
         state: after,
         totals: totals,
         count: k + 1,
-        more: whole && good,
-        good: good,
+        came: came,
+        went: went,
+        more: more,
     }
 }
 
-// Reads, takes, prints and writes frame k, if there is one.
+// How reading went.
+fn ending(failed: bool) -> Went
+    ensures { λ r. ⌜ r ≡ endingOf failed ⌝ }
+{
+    if failed {
+        return Went::NotRead;
+    }
+    Went::Well
+}
+
+// No frame came.
+fn halted(u: Turn, came: Came) -> Turn
+    ensures { λ v. ⌜ v ≡ haltedTurn u came ⌝ }
+{
+    let state = u.state;
+    let totals = u.totals;
+    let went = ending(came.failed);
+    Turn {
+        state: state,
+        totals: totals,
+        count: u.count,
+        came: came,
+        went: went,
+        more: false,
+    }
+}
+
+// Takes what came into the front of the frame area, if that is a frame.
+fn take_came(
+    u: Turn,
+    came: Came,
+    fds: [i32; 9],
+    frame: &[u8],
+    held: &mut [u8],
+    units: &mut [u8],
+    records: &mut [u8],
+) -> Turn
+    requires { ⌜ (readerOk (u .state) ≡ true) × Room (u .count) (now units) (now records) × (came .octets ≤ length (now frame)) ⌝ }
+    ensures { λ v. ⌜ Turned u came (record { reader = u .state; held = now (held .entry); units = now (units .entry); records = now (records .entry); totals = u .totals }) (now (frame .entry)) v (record { reader = v .state; held = now (held .exit); units = now (units .exit); records = now (records .exit); totals = v .totals }) ⌝ }
+{
+    if came.failed {
+        return halted(u, came);
+    }
+    let m = came.octets;
+    if m == 0 {
+        return halted(u, came);
+    }
+    handle(u, came, fds, &frame[..m], held, units, records)
+}
+
+// Reads, takes, prints and writes the next frame, if there is one.
 fn turn_frame(
-    s: Setting,
-    k: u64,
-    r: Reader,
-    t: Tally,
+    u: Turn,
     fd: i32,
-    recording: &[u8],
+    fds: [i32; 9],
     frame: &mut [u8],
     held: &mut [u8],
     units: &mut [u8],
     records: &mut [u8],
-    area: &mut [u8],
-    fds: [i32; 9],
-    name: &mut [u8],
-    n: usize,
 ) -> Turn
-    requires { ⌜ Reached s k (record { reader = r; held = now held; units = now units; records = now records; totals = t }) × Room k (now units) (now records) (now area) (now name) n × (s .length ≤ length (now frame)) ⌝ }
-    ensures { λ u. ⌜ Turned s k (u .count) (u .more) (record { reader = u .state; held = now (held .exit); units = now (units .exit); records = now (records .exit); totals = u .totals }) ⌝ }
+    requires { ⌜ (readerOk (u .state) ≡ true) × Room (u .count) (now units) (now records) × (4096 ≤ length (now frame)) ⌝ }
+    ensures { λ v. ⌜ Turned u (v .came) (record { reader = u .state; held = now (held .entry); units = now (units .entry); records = now (records .entry); totals = u .totals }) (now (frame .exit)) v (record { reader = v .state; held = now (held .exit); units = now (units .exit); records = now (records .exit); totals = v .totals }) ⌝ }
 {
-    let size = s.length;
-    let came = read_frame(fd, frame, size);
-    if came.failed {
-        console::say_failed(b"unpack", recording);
-        return Turn {
-            state: r,
-            totals: t,
-            count: k,
-            more: false,
-            good: false,
-        };
-    }
-    let m = came.octets;
-    if m == 0 {
-        return Turn {
-            state: r,
-            totals: t,
-            count: k,
-            more: false,
-            good: true,
-        };
-    }
-    let whole = m == size;
-    handle(
-        s,
-        k,
-        r,
-        t,
-        &frame[..m],
-        whole,
-        held,
-        units,
-        records,
-        area,
-        fds,
-        name,
-        n,
-    )
+    let r = u.state;
+    let s = r.setting;
+    let came = read_frame(fd, frame, s.length);
+    take_came(u, came, fds, frame, held, units, records)
 }
 
 // Before the first frame.
 fn first_turn(s: Setting) -> Turn
-    ensures { λ u. ⌜ u ≡ record { state = (setUpReader s) .state; totals = noTally; count = 0; more = true; good = true } ⌝ }
+    ensures { λ u. ⌜ u ≡ firstTurn s ⌝ }
 {
     let l = reader::set_up(s);
     let state = l.state;
@@ -323,43 +377,29 @@ fn first_turn(s: Setting) -> Turn
         state: state,
         totals: totals,
         count: 0,
+        came: Came {
+            octets: 0,
+            failed: false,
+        },
+        went: Went::Well,
         more: true,
-        good: true,
     }
 }
 
-// Takes the recording's frames to its end, or to the first failure, which it says. A proved loop has to end: this one counts
-// its frames, to a number that no run reaches.
-fn take_all(s: Setting, fd: i32, recording: &[u8], fds: [i32; 9], name: &mut [u8], n: usize) -> Turn
-    requires { ⌜ (settingOk s ≡ true) × (n + 30 ≤ length (now name)) ⌝ }
+// Takes the recording's frames to its end, or to the first failure. A proved loop has to end: this one counts its frames, to a number that
+// no run reaches.
+fn take_all(s: Setting, fd: i32, fds: [i32; 9]) -> Turn
+    requires { ⌜ settingOk s ≡ true ⌝ }
     ensures { λ u. ⌜ Finished s (u .count) (u .state) (u .totals) ⌝ }
 {
     let mut held = [0u8; 65536];
     let mut units = [0u8; 12288];
     let mut records = [0u8; 9600];
     let mut frame = [0u8; 4096];
-    let mut area = [0u8; 176];
     let mut u = first_turn(s);
     let mut k: u64 = 0;
     while k < 18446744073709551615 {
-        let r = u.state;
-        let t = u.totals;
-        u = turn_frame(
-            s,
-            k,
-            r,
-            t,
-            fd,
-            recording,
-            &mut frame,
-            &mut held,
-            &mut units,
-            &mut records,
-            &mut area,
-            fds,
-            name,
-            n,
-        );
+        u = turn_frame(u, fd, fds, &mut frame, &mut held, &mut units, &mut records);
         k = u.count;
         if u.more {} else {
             break;
@@ -368,72 +408,36 @@ fn take_all(s: Setting, fd: i32, recording: &[u8], fds: [i32; 9], name: &mut [u8
     u
 }
 
-// ---- totals
+// ---- title and totals
 
-// Prints the lanes' totals.
-fn print_lanes(lanes: usize, ts: [LaneTally; 8], area: &mut [u8]) -> bool
-    requires { ⌜ (lanes ≤ 8) × (306 ≤ length (now area)) ⌝ }
+// Prints the title.
+fn hand_title(text: &[u8]) -> bool
+    requires { ⌜ now text ≡ title ⌝ }
 {
-    let mut i: usize = 0;
-    while i < lanes {
-        let t = ts[i];
-        let end = unpack_text::put_lane(area, 0, i as u64, t);
-        let good = print(&area[..end]);
-        if good {
-            i += 1;
-        } else {
-            return false;
-        }
-    }
-    true
+    print(text)
 }
 
-// Prints the channels' totals.
-fn print_channels(s: Setting, ts: [ChannelTally; 8], area: &mut [u8]) -> bool
-    requires { ⌜ (s .listed ≤ 8) × (306 ≤ length (now area)) ⌝ }
+// Prints the totals of a recording, after which the reader has this state.
+fn hand_totals(r: Reader, t: Tally, text: &[u8]) -> bool
+    requires { ⌜ now text ≡ totalsText r t ⌝ }
 {
-    let listed = s.listed;
-    let mut i: usize = 0;
-    while i < listed {
-        let c = s.channels[i];
-        let t = ts[i];
-        let end = unpack_text::put_channel(area, 0, c.vc, c.service, t);
-        let good = print(&area[..end]);
-        if good {
-            i += 1;
-        } else {
-            return false;
-        }
-    }
-    true
+    print(text)
 }
 
-// Prints the last line.
-fn print_total(r: Reader, t: Tally, lanes: usize, area: &mut [u8]) -> bool
-    requires { ⌜ 306 ≤ length (now area) ⌝ }
-{
-    let h = r.held;
-    let held = unpack_text::held_in(h, lanes);
-    let end = unpack_text::put_total(area, 0, t, held);
-    print(&area[..end])
+// Puts the title, and prints it.
+fn print_title() -> bool {
+    let mut area = [0u8; 57];
+    let end = unpack_text::put_title(&mut area, 0);
+    hand_title(&area[..end])
 }
 
-// Prints all totals.
+// Puts all totals, and prints them.
 fn print_totals(r: Reader, t: Tally) -> bool
     requires { ⌜ readerOk r ≡ true ⌝ }
 {
-    let mut area = [0u8; 306];
-    let s = r.setting;
-    let ls = t.lanes;
-    let first = print_lanes(s.numbered, ls, &mut area);
-    if first {
-        let cs = t.channels;
-        let second = print_channels(s, cs, &mut area);
-        if second {
-            return print_total(r, t, s.numbered, &mut area);
-        }
-    }
-    false
+    let mut area = [0u8; 2098];
+    let end = unpack_text::put_totals(&mut area, 0, r, t);
+    hand_totals(r, t, &area[..end])
 }
 
 // ---- files
@@ -522,11 +526,16 @@ fn finish(r: Reader, t: Tally, count: u64, fds: [i32; 9], name: &mut [u8], n: us
     }
 }
 
-// Prints the title.
-fn print_title() -> bool {
-    let mut area = [0u8; 57];
-    let end = unpack_text::put_title(&mut area, 0);
-    print(&area[..end])
+// Says what failed in a turn, if anything did.
+fn say_went(went: Went, recording: &[u8], name: &mut [u8], n: usize, lanes: usize)
+    requires { ⌜ n + 30 ≤ length (now name) ⌝ }
+{
+    match went {
+        Went::Well => {}
+        Went::NotRead => console::say_failed(b"unpack", recording),
+        Went::NotPrinted => console::say_failed(b"unpack", b"standard output"),
+        Went::NotWritten(i) => say_output(name, n, lanes, i),
+    }
 }
 
 // Unpacks into outputs that are open.
@@ -535,11 +544,15 @@ fn unpack_all(s: Setting, fd: i32, recording: &[u8], fds: [i32; 9], name: &mut [
 {
     let titled = print_title();
     if titled {
-        let u = take_all(s, fd, recording, fds, name, n);
-        if u.good {
+        let u = take_all(s, fd, fds);
+        let went = u.went;
+        let good = well(went);
+        if good {
             let r = u.state;
             let t = u.totals;
             finish(r, t, u.count, fds, name, n);
+        } else {
+            say_went(went, recording, name, n, s.numbered);
         }
     }
 }
@@ -594,9 +607,11 @@ pub fn run() {
         console::say_failed(b"unpack", b"SETTING");
         return;
     }
-    let l = setting_file::load(b"unpack", &path[..n]);
-    if l.good {
-        let s = l.setting;
+    let mut area = [0u8; 65537];
+    let l = setting_file::load(b"unpack", &path[..n], &mut area);
+    let j = l.judged;
+    if j.good {
+        let s = j.setting;
         with_setting(s);
     }
 }

@@ -1,71 +1,83 @@
--- `calling::run` is safe and ends: its lines are counted.
-use Prim.Native.Nat.{_-_}
+use Prim.Native.Nat.{ℕ, _-_}
 use lib.ListN.{length}
+use mathlib.Core.List.{List}
 use mathlib.Core.Path.{_≡_}
-use native.Mathlib.Omega.{arith}
 use borrow.Author.Needs.{needs}
 use Rattle.calling.proofs.run.Statement.{statement}
 use Rattle.calling.proofs.run.Tie as tie
+use Rattle.calling.proofs.run.Reads as reads
+use Rattle.calling.proofs.run.Lts as lts
+use Rattle.calling.proofs.next.Reads as next-reads
+use Rattle.calling.proofs.turn.Reads as turn-reads
+
+-- The areas keep their lengths.
+abbrev Kept : List ℕ → List ℕ → List ℕ → List ℕ → List ℕ → Type 0
+Kept q desk held units records =
+    (length q ≡ 65536) × (length desk ≡ 6440) × (length held ≡ 65552) × (length units ≡ 12304) × (length records ≡ 9632)
 
 abbrev Inv-loop : tie.InvT-loop
-Inv-loop window₀ line₀ area₀ held₀ units₀ records₀ out₀ input₀ e₀ k₀ window line area held units records out input e k =
-    (length window ≡ 65536) × (length line ≡ 72000) × (length area ≡ 4200) × (length held ≡ 65552) × (length units ≡ 12304) × (length records ≡ 9632) × (length out ≡ 33000)
+Inv-loop q₀ desk₀ held₀ units₀ records₀ k₀ q desk held units records k = Kept q desk held units records
 
 abbrev μ-loop : tie.MeasureT-loop
-μ-loop window₀ line₀ area₀ held₀ units₀ records₀ out₀ input₀ e₀ k₀ window line area held units records out input e k =
-    18446744073709551615 - k
+μ-loop q₀ desk₀ held₀ units₀ records₀ k₀ q desk held units records k = 18446744073709551615 - k
 
-nothing-requires : tie.Need-nothing-requires Inv-loop μ-loop
-nothing-requires c κs = search needs
-
+-- src/lib.rt:70:5
 loop-holds : tie.Need-loop-holds Inv-loop μ-loop
 loop-holds c = search needs
 
-slice-aggregate-next-line : tie.Need-slice-aggregate-next-line Inv-loop μ-loop
-slice-aggregate-next-line c = search needs
+-- src/lib.rt:71:22
+slice-aggregate-next : tie.Need-slice-aggregate-next Inv-loop μ-loop
+slice-aggregate-next c = search needs
 
-slice-aggregate-next-line-2 : tie.Need-slice-aggregate-next-line-2 Inv-loop μ-loop
-slice-aggregate-next-line-2 c = search needs
+-- src/lib.rt:71:13
+next-requires : tie.Need-next-requires Inv-loop μ-loop
+next-requires c κs = search needs
 
-next-line-requires : tie.Need-next-line-requires Inv-loop μ-loop
-next-line-requires c κs = search needs
+-- src/lib.rt:76:13
+array-share-prefix-q : tie.Need-array-share-prefix-q Inv-loop μ-loop
+array-share-prefix-q c = search needs
 
-came-requires : tie.Need-came-requires Inv-loop μ-loop
-came-requires c κs = search needs
+-- src/lib.rt:76:13
+slice-aggregate-turn : tie.Need-slice-aggregate-turn Inv-loop μ-loop
+slice-aggregate-turn c = search needs
 
+-- src/lib.rt:77:13
+slice-aggregate-turn-2 : tie.Need-slice-aggregate-turn-2 Inv-loop μ-loop
+slice-aggregate-turn-2 c = search needs
+
+-- src/lib.rt:78:13
+slice-aggregate-turn-3 : tie.Need-slice-aggregate-turn-3 Inv-loop μ-loop
+slice-aggregate-turn-3 c = search needs
+
+-- src/lib.rt:79:13
+slice-aggregate-turn-4 : tie.Need-slice-aggregate-turn-4 Inv-loop μ-loop
+slice-aggregate-turn-4 c = search needs
+
+-- src/lib.rt:80:13
+slice-aggregate-turn-5 : tie.Need-slice-aggregate-turn-5 Inv-loop μ-loop
+slice-aggregate-turn-5 c = search needs
+
+-- src/lib.rt:75:9
+turn-requires : tie.Need-turn-requires Inv-loop μ-loop
+turn-requires c κs = search needs
+
+-- src/lib.rt:82:9
 add-k : tie.Need-add-k Inv-loop μ-loop
 add-k c = search needs
 
-slice-aggregate-obey-first : tie.Need-slice-aggregate-obey-first Inv-loop μ-loop
-slice-aggregate-obey-first c = search needs
-
-slice-aggregate-obey-first-2 : tie.Need-slice-aggregate-obey-first-2 Inv-loop μ-loop
-slice-aggregate-obey-first-2 c = search needs
-
-slice-aggregate-obey-first-3 : tie.Need-slice-aggregate-obey-first-3 Inv-loop μ-loop
-slice-aggregate-obey-first-3 c = search needs
-
-slice-aggregate-obey-first-4 : tie.Need-slice-aggregate-obey-first-4 Inv-loop μ-loop
-slice-aggregate-obey-first-4 c = search needs
-
-slice-aggregate-obey-first-5 : tie.Need-slice-aggregate-obey-first-5 Inv-loop μ-loop
-slice-aggregate-obey-first-5 c = search needs
-
-slice-aggregate-obey-first-6 : tie.Need-slice-aggregate-obey-first-6 Inv-loop μ-loop
-slice-aggregate-obey-first-6 c = search needs
-
-obey-first-requires : tie.Need-obey-first-requires Inv-loop μ-loop
-obey-first-requires c κs = search needs
-
+-- src/lib.rt:70:5
 loop-less : tie.Need-loop-less Inv-loop μ-loop
-loop-less c = omega (arith, c .before .before .before .before .before .before .before .before .before .before .before .before .before .before .before .before .before .before .before .loop-test .taken)
+loop-less c = search needs
 
+-- src/lib.rt:70:5
 loop-again : tie.Need-loop-again Inv-loop μ-loop
-loop-again c = (search needs, search needs, search needs, search needs, search needs, search needs, search needs)
+loop-again c = search needs
 
+-- src/lib.rt:63:1
 returns : tie.Need-returns Inv-loop μ-loop
 returns c = search needs
 
+-- src/lib.rt:63:1
 returns-2 : tie.Need-returns-2 Inv-loop μ-loop
 returns-2 c = search needs
 
@@ -75,20 +87,17 @@ run-spec =
     (tie.spec
     Inv-loop
     μ-loop
-    nothing-requires
     loop-holds
-    slice-aggregate-next-line
-    slice-aggregate-next-line-2
-    next-line-requires
-    came-requires
+    slice-aggregate-next
+    next-requires
+    array-share-prefix-q
+    slice-aggregate-turn
+    slice-aggregate-turn-2
+    slice-aggregate-turn-3
+    slice-aggregate-turn-4
+    slice-aggregate-turn-5
+    turn-requires
     add-k
-    slice-aggregate-obey-first
-    slice-aggregate-obey-first-2
-    slice-aggregate-obey-first-3
-    slice-aggregate-obey-first-4
-    slice-aggregate-obey-first-5
-    slice-aggregate-obey-first-6
-    obey-first-requires
     loop-less
     loop-again
     returns

@@ -1,17 +1,13 @@
--- A frame that was read is not empty, its text has room, and after a whole one the listing goes on.
-use native.Mathlib.Omega.{arith}
+-- A frame that was read is not empty, its text has room and is what is handed over, and after a whole one the listing goes on.
 use mathlib.Core.Path.{sym, _∙_}
-use borrow.Author.Tests.{eqb-true}
-use Rattle.listing.proofs.Carried.{carried, goes-if, goes-none}
+use native.Mathlib.Omega.{arith}
 use lib.Seq.{length-take-le}
+use borrow.Author.Tests.{eqb-true}
+use Rattle.listing.proofs.Carried.{carried, goes-none, goes-if}
+use Rattle.listing.proofs.Texts.{cut}
 use borrow.Author.Needs.{needs}
 use Rattle.listing.proofs.list_next.Statement.{statement}
 use Rattle.listing.proofs.list_next.Tie as tie
-use Rattle.listing.proofs.list_next.Reads as reads
-use Rattle.listing.proofs.list_next.Lts as lts
-use Rattle.io.proofs.read_full.Reads as read-full-reads
-use Rattle.io.proofs.write_all.Reads as write-all-reads
-use Rattle.listing.proofs.list_frame.Reads as list-frame-reads
 
 slice-aggregate-read-full : tie.Need-slice-aggregate-read-full
 slice-aggregate-read-full c = search needs
@@ -35,13 +31,14 @@ list-frame-requires : tie.Need-list-frame-requires
 list-frame-requires c κs = search needs
 
 array-share-prefix-area : tie.Need-array-share-prefix-area
-array-share-prefix-area c = omega (arith, c .before .before .before .before .before .before .before .list-frame .ensures .short)
+array-share-prefix-area c = omega (arith, c .before .before .before .before .before .before .before .before .list-frame .ensures .short)
 
-slice-aggregate-write-all : tie.Need-slice-aggregate-write-all
-slice-aggregate-write-all c = sym (length-take-le _ _ (omega (arith, c .before .before .before .before .before .before .before .before .list-frame .ensures .short)))
+slice-aggregate-print : tie.Need-slice-aggregate-print
+slice-aggregate-print c =
+    sym (length-take-le _ _ (omega (arith, c .before .before .before .before .before .before .before .before .before .list-frame .ensures .short)))
 
-write-all-requires : tie.Need-write-all-requires
-write-all-requires c κs = search needs
+print-requires : tie.Need-print-requires
+print-requires c κs = cut (c .before .before .before .before .before .before .before .before .before .list-frame .ensures .text)
 
 same-length : tie.Need-same-length
 same-length c = search needs
@@ -54,12 +51,14 @@ same-length-3 c = search needs
 
 returns-2 : tie.Need-returns-2
 returns-2 c =
-    let c₈ = c .before .before .before .before .before .before .before .before in
-    let c₁₆ = c₈ .before .before .before .before .before .before .before .before in
-    let a = c₁₆ .before .before .before .before .before .before .before .args in
-    goes-if _ _ (λ e. carried (a .k) (a .r) (a .held .now) (a .units .now) (a .records .now) _ _ _ _ _ _ _ _
-    (c₁₆ .before .before .before .before .before .before .before .pre) (sym (c₁₆ .before .before .read-full .ensures .1) ∙ eqb-true _ _ e)
-    (c₈ .before .before .list-frame .ensures))
+    let s = c .before .before .before .before .before .before .before .before .before .before .before .before .before .before .before .before .before
+    .before .before .before .before .before .before .before in
+    let a = s .args in
+    goes-if _ _
+    (λ e. carried (a .k) (a .r) (a .held .now) (a .units .now) (a .records .now) _ _ _ _ _ _ _ _ _ (s .pre)
+    (sym (c .before .before .before .before .before .before .before .before .before .before .before .before .before .before .before .before .before .before
+    .before .read-full .ensures .1) ∙ eqb-true _ _ e)
+    (c .before .before .before .before .before .before .before .before .before .before .before .list-frame .ensures))
 
 pub list-next-spec : {M : Type 1} → statement M
 list-next-spec =
@@ -73,8 +72,8 @@ list-next-spec =
     slice-aggregate-list-frame-2
     list-frame-requires
     array-share-prefix-area
-    slice-aggregate-write-all
-    write-all-requires
+    slice-aggregate-print
+    print-requires
     same-length
     same-length-2
     same-length-3

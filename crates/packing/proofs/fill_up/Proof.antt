@@ -1,19 +1,22 @@
--- The invariant: no more octets are filled than the area has.
-use mathlib.Core.Path.{_≡_}
-use Prim.Native.Nat.{_-_, _≤_}
+-- The invariant: what was read stands behind what the area held, which is as it was.
+use Prim.Native.Nat.{_-_}
+use mathlib.Core.Path.{_≡_, refl}
 use lib.ListN.{length}
+use native.Mathlib.Omega.{arith}
+use Rattle.packing.specs.Courses.{Refilled}
+use Rattle.packing.proofs.Courses.{refilled-none, refilled-then}
 use borrow.Author.Needs.{needs}
 use Rattle.packing.proofs.fill_up.Statement.{statement}
 use Rattle.packing.proofs.fill_up.Tie as tie
 
 abbrev Inv-loop : tie.InvT-loop
-Inv-loop fd area₀ from have₀ area have = (have ≤ length area₀) × (length area ≡ length area₀)
+Inv-loop fd area₀ window₀ area window = Refilled window₀ area₀ window area × (length area ≡ length area₀)
 
 abbrev μ-loop : tie.MeasureT-loop
-μ-loop fd area₀ from have₀ area have = length area₀ - have
+μ-loop fd area₀ window₀ area window = length area₀ - window .have
 
 loop-holds : tie.Need-loop-holds Inv-loop μ-loop
-loop-holds c = search needs
+loop-holds c = (refilled-none _ _ (search needs), refl)
 
 read-on-requires : tie.Need-read-on-requires Inv-loop μ-loop
 read-on-requires c κs = search needs
@@ -22,19 +25,33 @@ same-length : tie.Need-same-length Inv-loop μ-loop
 same-length c = search needs
 
 returns : tie.Need-returns Inv-loop μ-loop
-returns c = search needs
+returns c =
+    refilled-then (c .before .before .before .before .before .before .before .before .loop .inv .0) (c .before .before .before .before .read-on .ensures)
+    (c .before .before .before .before .before .before .before .before .loop .inv .1)
 
 loop-less : tie.Need-loop-less Inv-loop μ-loop
-loop-less c = search needs
+loop-less c =
+    omega (
+      arith,
+      c .before .before .before .before .read-on .ensures .more,
+      c .before .before .before .before .read-on .ensures .fits,
+      c .if2 .left,
+      c
+          .before .before .before .before .before .before .before .before .loop .inv .1,
+    )
 
 loop-again : tie.Need-loop-again Inv-loop μ-loop
-loop-again c = search needs
+loop-again c = (
+  refilled-then (c .before .before .before .before .before .before .before .before .loop .inv .0) (c .before .before .before .before .read-on .ensures)
+      (c .before .before .before .before .before .before .before .before .loop .inv .1),
+  search needs,
+)
 
 same-length-2 : tie.Need-same-length-2 Inv-loop μ-loop
 same-length-2 c = search needs
 
 returns-2 : tie.Need-returns-2 Inv-loop μ-loop
-returns-2 c = search needs
+returns-2 c = c .before .before .loop .inv .0
 
 pub fill-up-spec : {M : Type 1} → statement M
 fill-up-spec =

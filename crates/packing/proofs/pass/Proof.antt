@@ -19,6 +19,9 @@ loop-holds c = search needs
 argument-on-requires : tie.Need-argument-on-requires Inv-loop μ-loop
 argument-on-requires c κs = search needs
 
+is-sound-requires : tie.Need-is-sound-requires Inv-loop μ-loop
+is-sound-requires c κs = search needs
+
 add-i : tie.Need-add-i Inv-loop μ-loop
 add-i c = search needs
 
@@ -43,6 +46,7 @@ pass-spec =
     set-up-requires
     loop-holds
     argument-on-requires
+    is-sound-requires
     add-i
     loop-less
     loop-again

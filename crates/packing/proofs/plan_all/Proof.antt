@@ -16,6 +16,9 @@ loop-holds c = search needs
 plan-next-requires : tie.Need-plan-next-requires Inv-loop μ-loop
 plan-next-requires c κs = search needs
 
+is-fine-requires : tie.Need-is-fine-requires Inv-loop μ-loop
+is-fine-requires c κs = search needs
+
 add-i : tie.Need-add-i Inv-loop μ-loop
 add-i c = search needs
 
@@ -39,6 +42,7 @@ plan-all-spec =
     μ-loop
     loop-holds
     plan-next-requires
+    is-fine-requires
     add-i
     loop-less
     loop-again

@@ -1,4 +1,5 @@
 -- No more than the area has.
+use Rattle.packing.proofs.Courses.{take-least}
 use mathlib.Core.Path.{sym}
 use lib.Seq.{length-take-le}
 use borrow.Author.Needs.{needs}
@@ -9,7 +10,7 @@ least-requires : tie.Need-least-requires
 least-requires c κs = search needs
 
 returns : tie.Need-returns
-returns c = (search needs, sym (length-take-le _ _ (search needs)))
+returns c = ((search needs, sym (length-take-le _ _ (search needs))), take-least _ _ (c .least .ensures))
 
 pub within-spec : {M : Type 1} → statement M
 within-spec = tie.close (tie.spec least-requires returns)

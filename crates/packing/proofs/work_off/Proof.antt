@@ -1,22 +1,23 @@
--- The frames are counted, and the frame area keeps its length.
-use mathlib.Core.Path.{_≡_}
-use Prim.Native.Nat.{_-_}
+-- The invariant: what is left to do from here comes to what was to do at first.
+use Prim.Native.Nat.{ℕ, suc, _+_, _-_, _≤_}
+use mathlib.Core.Path.{_≡_, refl, sym, ap, _∙_}
 use lib.ListN.{length}
+use native.Mathlib.Omega.{arith}
+use Rattle.packing.specs.Courses.{workedOff, areaBefore}
+use Rattle.packing.proofs.Courses.{work-on, work-ends, work-done}
 use borrow.Author.Needs.{needs}
 use Rattle.packing.proofs.work_off.Statement.{statement}
 use Rattle.packing.proofs.work_off.Tie as tie
 
 abbrev Inv-loop : tie.InvT-loop
-Inv-loop l path batch insert ocf area₀ course₀ k₀ area course k = length area ≡ 4096
+Inv-loop l batch insert ocf area₀ course₀ k₀ area course k = (k ≤ 32768) × (length area ≡ 4096)
+    × (workedOff 32768 course₀ l batch insert ocf area₀ ≡ workedOff (32768 - k) course l batch insert ocf area)
 
 abbrev μ-loop : tie.MeasureT-loop
-μ-loop l path batch insert ocf area₀ course₀ k₀ area course k = 32768 - k
-
-buffer-requires : tie.Need-buffer-requires Inv-loop μ-loop
-buffer-requires c κs = search needs
+μ-loop l batch insert ocf area₀ course₀ k₀ area course k = 32768 - k
 
 loop-holds : tie.Need-loop-holds Inv-loop μ-loop
-loop-holds c = search needs
+loop-holds c = (search needs, search needs, refl)
 
 slice-aggregate-send-next : tie.Need-slice-aggregate-send-next Inv-loop μ-loop
 slice-aggregate-send-next c = search needs
@@ -27,23 +28,28 @@ send-next-requires c κs = search needs
 add-k : tie.Need-add-k Inv-loop μ-loop
 add-k c = search needs
 
-next-number-requires : tie.Need-next-number-requires Inv-loop μ-loop
-next-number-requires c κs = search needs
+goes-on-requires : tie.Need-goes-on-requires Inv-loop μ-loop
+goes-on-requires c κs = search needs
 
 loop-less : tie.Need-loop-less Inv-loop μ-loop
 loop-less c = search needs
 
 loop-again : tie.Need-loop-again Inv-loop μ-loop
-loop-again c = search needs
+loop-again c = let l = c .before .before .before .before .before .before .loop in
+    let f : 32768 - l .k ≡ suc (32768 - (l .k + 1)) = omega arith in
+    (search needs, search needs, l .inv .2 ∙ work-on (c .before .before .before .send-next .ensures) f (sym (c .before .goes-on .ensures) ∙ c .if1 .taken))
 
 returns : tie.Need-returns Inv-loop μ-loop
-returns c = search needs
+unfolding areaBefore
+returns c = let l = c .before .loop in
+    let f : 32768 - l .k ≡ 0 = omega arith in
+    λ _. sym (l .inv .2 ∙ work-done (l .course) _ _ _ _ (l .area) f)
 
 returns-2 : tie.Need-returns-2 Inv-loop μ-loop
-returns-2 c = search needs
-
-returns-3 : tie.Need-returns-3 Inv-loop μ-loop
-returns-3 c = search needs
+unfolding areaBefore
+returns-2 c = let l = c .before .before .before .before .before .before .loop in
+    let f : 32768 - l .k ≡ suc (32768 - (l .k + 1)) = omega arith in
+    λ h. work-ends (c .before .before .before .send-next .ensures) f (sym (c .before .goes-on .ensures) ∙ c .if1 .left) h ∙ sym (l .inv .2)
 
 pub work-off-spec : {M : Type 1} → statement M
 work-off-spec =
@@ -51,14 +57,12 @@ work-off-spec =
     (tie.spec
     Inv-loop
     μ-loop
-    buffer-requires
     loop-holds
     slice-aggregate-send-next
     send-next-requires
     add-k
-    next-number-requires
+    goes-on-requires
     loop-less
     loop-again
     returns
-    returns-2
-    returns-3)
+    returns-2)

@@ -1,11 +1,9 @@
 -- A fresh state, and no totals.
+use Rattle.unpacking.specs.Stages.{firstTurn}
+use Rattle.rules.proofs.Promises.{reader-starts-is}
 use borrow.Author.Needs.{needs}
 use Rattle.unpacking.proofs.first_turn.Statement.{statement}
 use Rattle.unpacking.proofs.first_turn.Tie as tie
-use Rattle.unpacking.proofs.first_turn.Reads as reads
-use Rattle.unpacking.proofs.first_turn.Lts as lts
-use Rattle.reader.proofs.set_up.Reads as set-up-reads
-use Rattle.unpack_text.proofs.no_tally.Reads as no-tally-reads
 
 set-up-requires : tie.Need-set-up-requires
 set-up-requires c κs = search needs
@@ -14,7 +12,8 @@ no-tally-requires : tie.Need-no-tally-requires
 no-tally-requires c κs = search needs
 
 returns : tie.Need-returns
-returns c = rw (c .before .before .set-up .ensures, c .no-tally .ensures)
+unfolding firstTurn
+returns c = rw (reader-starts-is _ _ (c .before .before .set-up .ensures), c .no-tally .ensures)
 
 pub first-turn-spec : {M : Type 1} → statement M
 first-turn-spec = tie.close (tie.spec set-up-requires no-tally-requires returns)

@@ -1,12 +1,8 @@
--- The title fits.
-use Rattle.unpacking.proofs.Cuts.{wrote-cut}
+-- The title is what was put.
+use Rattle.unpacking.proofs.Cuts.{wrote-cut, wrote-front}
 use borrow.Author.Needs.{needs}
 use Rattle.unpacking.proofs.print_title.Statement.{statement}
 use Rattle.unpacking.proofs.print_title.Tie as tie
-use Rattle.unpacking.proofs.print_title.Reads as reads
-use Rattle.unpacking.proofs.print_title.Lts as lts
-use Rattle.unpack_text.proofs.put_title.Reads as put-title-reads
-use Rattle.unpacking.proofs.print.Reads as print-reads
 
 slice-aggregate-put-title : tie.Need-slice-aggregate-put-title
 slice-aggregate-put-title c = search needs
@@ -17,11 +13,11 @@ put-title-requires c κs = search needs
 array-share-prefix-area : tie.Need-array-share-prefix-area
 array-share-prefix-area c = search needs
 
-slice-aggregate-print : tie.Need-slice-aggregate-print
-slice-aggregate-print c = wrote-cut (c .before .before .put-title .ensures) (search needs)
+slice-aggregate-hand-title : tie.Need-slice-aggregate-hand-title
+slice-aggregate-hand-title c = wrote-cut (c .before .before .put-title .ensures) (search needs)
 
-print-requires : tie.Need-print-requires
-print-requires c κs = search needs
+hand-title-requires : tie.Need-hand-title-requires
+hand-title-requires c κs = wrote-front (c .before .before .put-title .ensures)
 
 returns : tie.Need-returns
 returns c = search needs
@@ -33,6 +29,6 @@ print-title-spec =
     slice-aggregate-put-title
     put-title-requires
     array-share-prefix-area
-    slice-aggregate-print
-    print-requires
+    slice-aggregate-hand-title
+    hand-title-requires
     returns)

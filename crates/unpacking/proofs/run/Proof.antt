@@ -1,17 +1,11 @@
--- A setting that was loaded is valid.
+use mathlib.Core.Path.{sym, ap, _∙_}
+use Rattle.rules.specs.Settings.{settingOk}
+use Rattle.setting_file.specs.declared.Judged.{Judged}
+-- A setting that is called good is valid.
+use Rattle.setting_file.proofs.Files.{judged-good}
 use borrow.Author.Needs.{needs}
 use Rattle.unpacking.proofs.run.Statement.{statement}
 use Rattle.unpacking.proofs.run.Tie as tie
-use Rattle.unpacking.proofs.run.Reads as reads
-use Rattle.unpacking.proofs.run.Lts as lts
-use Rattle.console.proofs.say.Reads as say-reads
-use Rattle.console.proofs.say_failed.Reads as say-failed-reads
-use Rattle.io.proofs.buffer.Reads as buffer-reads
-use Rattle.os.proofs.arg.Reads as arg-reads
-use Rattle.os.proofs.arg_count.Reads as arg-count-reads
-use Rattle.os.proofs.errno.Reads as errno-reads
-use Rattle.setting_file.proofs.load.Reads as load-reads
-use Rattle.unpacking.proofs.with_setting.Reads as with-setting-reads
 
 arg-count-requires : tie.Need-arg-count-requires
 arg-count-requires c κs = search needs
@@ -64,11 +58,16 @@ array-share-prefix-path c = search needs
 slice-aggregate-load-2 : tie.Need-slice-aggregate-load-2
 slice-aggregate-load-2 c = search needs
 
+slice-aggregate-load-3 : tie.Need-slice-aggregate-load-3
+slice-aggregate-load-3 c = search needs
+
 load-requires : tie.Need-load-requires
 load-requires c κs = search needs
 
 with-setting-requires : tie.Need-with-setting-requires
-with-setting-requires c κs = c .before .before .load .ensures (c .before .if3 .taken)
+with-setting-requires c κs = let l = c .before .before .before .before .load in
+    let e = l .ensures in
+    ap (λ (j : Judged). settingOk (j .setting)) e ∙ judged-good (l .result .filled) _ (ap (λ (j : Judged). j .good) (sym e) ∙ c .before .if3 .taken)
 
 returns-3 : tie.Need-returns-3
 returns-3 c = search needs
@@ -97,6 +96,7 @@ run-spec =
     slice-aggregate-load
     array-share-prefix-path
     slice-aggregate-load-2
+    slice-aggregate-load-3
     load-requires
     with-setting-requires
     returns-3

@@ -1,6 +1,7 @@
 -- The read, whose the frame is, the totals, and the line.
 use Rattle.rules.proofs.Valid.{good-reader}
 use Rattle.unpacking.proofs.Carried.{took}
+use Rattle.rules.proofs.Promises.{read-is}
 use borrow.Author.Needs.{needs}
 use Rattle.unpacking.proofs.take_frame.Statement.{statement}
 use Rattle.unpacking.proofs.take_frame.Tie as tie
@@ -40,7 +41,7 @@ same-length-4 c = search needs
 returns : tie.Need-returns
 returns c =
     let a = c .before .before .before .before .before .before .before .before .before .before .before .before .before .before .before .before .before .before .before .before .before .before .before .before .args in
-    took (a .k) (a .r) (a .t) (a .frame .now) (a .held .now) (a .units .now) (a .records .now) (a .area .now) (c .before .before .before .before .before .before .before .before .before .before .before .before .before .before .before .read .result) _ _ _ _ _ _ _ (c .before .before .before .before .before .before .before .before .before .before .before .before .before .before .before .read .ensures) (c .before .before .before .before .before .place-of .ensures) (c .before .before .before .before .count-frame .ensures) (c .before .before .put-line .ensures)
+    took (a .k) (a .r) (a .t) (a .frame .now) (a .held .now) (a .units .now) (a .records .now) (a .area .now) (c .before .before .before .before .before .before .before .before .before .before .before .before .before .before .before .read .result) _ _ _ _ _ _ _ (read-is _ _ _ _ _ _ (c .before .before .before .before .before .before .before .before .before .before .before .before .before .before .before .read .ensures)) (c .before .before .before .before .before .place-of .ensures) (c .before .before .before .before .count-frame .ensures) (c .before .before .put-line .ensures)
 
 pub take-frame-spec : {M : Type 1} → statement M
 take-frame-spec =

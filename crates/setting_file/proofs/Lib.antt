@@ -1,0 +1,2 @@
+-- Laws that the callers' proofs cite.
+pub mod Files

@@ -1,0 +1,63 @@
+-- The lines of the lanes passed stand one after another, and each has at most 109 octets.
+use Prim.Native.Nat.{ℕ, _-_, _*_, _+_, _≤_}
+use mathlib.Core.Path.{_≡_, refl}
+use native.Mathlib.Omega.{arith}
+use lib.ListN.{length, getD}
+use Rattle.unpack_text.specs.Totals.{noLaneTally}
+use Rattle.unpack_text.specs.Lines.{Wrote, firsts, laneLine, laneLines}
+use Rattle.unpack_text.proofs.Writes.{wrote-none, wrote-next, wrote-all}
+use borrow.Author.Needs.{needs}
+use Rattle.unpack_text.proofs.put_lanes.Statement.{statement}
+use Rattle.unpack_text.proofs.put_lanes.Tie as tie
+
+abbrev Inv-loop : tie.InvT-loop
+Inv-loop area₀ from lanes ts at₀ i₀ area at i = (i ≤ lanes) × (length area ≡ length area₀) × Wrote (109 * i) (firsts (λ (j : ℕ). laneLine j
+    (getD ts j noLaneTally)) i) area₀ from area at
+
+abbrev μ-loop : tie.MeasureT-loop
+μ-loop area₀ from lanes ts at₀ i₀ area at i = lanes - i
+
+loop-holds : tie.Need-loop-holds Inv-loop μ-loop
+loop-holds c = (search needs, refl, wrote-none _ _ _)
+
+mul-t : tie.Need-mul-t Inv-loop μ-loop
+mul-t c = search needs
+
+array-copy-out-t : tie.Need-array-copy-out-t Inv-loop μ-loop
+array-copy-out-t c = search needs
+
+put-lane-requires : tie.Need-put-lane-requires Inv-loop μ-loop
+put-lane-requires c κs = let l = c .before .before .before .loop .inv .2 in omega (arith, l .most, l .put .ends)
+
+add-i : tie.Need-add-i Inv-loop μ-loop
+add-i c = search needs
+
+loop-less : tie.Need-loop-less Inv-loop μ-loop
+loop-less c = search needs
+
+loop-again : tie.Need-loop-again Inv-loop μ-loop
+loop-again c = let l = c .before .before .before .before .before .before .loop in
+    (search needs, search needs, wrote-next _ (l .i) (109 * (l .i + 1)) (l .inv .2) (c .before .before .put-lane .ensures) (omega arith) (omega arith))
+
+same-length : tie.Need-same-length Inv-loop μ-loop
+same-length c = c .before .loop .inv .1
+
+returns : tie.Need-returns Inv-loop μ-loop
+unfolding laneLines
+returns c = wrote-all _ 872 (c .before .loop .inv .2) (omega arith) (omega arith)
+
+pub put-lanes-spec : {M : Type 1} → statement M
+put-lanes-spec =
+    tie.close
+    (tie.spec
+    Inv-loop
+    μ-loop
+    loop-holds
+    mul-t
+    array-copy-out-t
+    put-lane-requires
+    add-i
+    loop-less
+    loop-again
+    same-length
+    returns)
