@@ -58,62 +58,6 @@ pub struct Tally {
     pub channels: [ChannelTally; 8],
 }
 
-// ---- whose a frame is
-
-// The refusal number of a class, 0 where none is refused.
-fn refusal_of(class: Class) -> u8
-    ensures { λ r. ⌜ r ≡ classRefusal class ⌝ }
-{
-    match class {
-        Class::Idle => 0,
-        Class::Counted => 0,
-        Class::Read => 0,
-        Class::Refused(n) => n,
-    }
-}
-
-// What a frame of channel c with this header is, where none refuses it.
-fn on_channel(s: Setting, c: usize, h: Head, frame: &[u8]) -> Verdict
-    requires { ⌜ (s .numbered ≤ 8) × (h ≡ headOf (now frame)) ⌝ }
-    ensures { λ r. ⌜ r ≡ onChannel (now (frame .entry)) c (laneAt s c (map (now (frame .entry)))) ⌝ }
-{
-    let p = setting::lane_at(s, c, h.map);
-    match p {
-        Place::Nowhere => Verdict::Counted(c),
-        Place::At(l) => {
-            if h.command == 1 {
-                return Verdict::Counted(c);
-            }
-            Verdict::Read(l)
-        }
-    }
-}
-
-// What a frame is where none refuses it: idle, counted on a channel, or read by a lane.
-fn passed_of(s: Setting, frame: &[u8]) -> Verdict
-    requires { ⌜ (s .listed ≤ 8) × (s .numbered ≤ 8) ⌝ }
-    ensures { λ r. ⌜ r ≡ passed s (now (frame .entry)) (channelAt s (vc (now (frame .entry))) (bypass (now (frame .entry)))) ⌝ }
-{
-    let h = header::head_of(frame);
-    let p = setting::channel_at(s, h.vc, h.bypass);
-    match p {
-        Place::Nowhere => Verdict::Idle,
-        Place::At(c) => on_channel(s, c, h, frame),
-    }
-}
-
-// Whose a frame with an answer of this class is: the verdict that gave the class.
-pub fn place_of(s: Setting, class: Class, frame: &[u8]) -> Verdict
-    requires { ⌜ (s .listed ≤ 8) × (s .numbered ≤ 8) ⌝ }
-    ensures { λ r. ⌜ r ≡ judged s (now (frame .entry)) (classRefusal class) ⌝ }
-{
-    let n = refusal_of(class);
-    if n == 0 {
-        return passed_of(s, frame);
-    }
-    Verdict::Refused(n)
-}
-
 // ---- totals
 
 // The sum, and the largest number where that does not hold it.

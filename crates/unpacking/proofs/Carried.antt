@@ -21,7 +21,6 @@ use Rattle.rules.proofs.Calls.{setup-accepted, read-valid, Small, read-fits}
 use Rattle.unpack_text.specs.declared.Tally.{Tally}
 use Rattle.unpack_text.specs.Totals.{tallied, noTally}
 use Rattle.unpack_text.specs.Lines.{Wrote, frameLine}
-use Rattle.unpack_text.proofs.Placed.{placed-is}
 use Rattle.unpacking.specs.declared.Came.{Came}
 use Rattle.unpacking.specs.declared.Turn.{Turn}
 use Rattle.unpacking.proofs.Cuts.{wrote-front}
@@ -137,16 +136,13 @@ module _ (k : ℕ) (r : Reader) (t : Tally) (f h u c area : List ℕ) where
   -- The read, whose the frame is, the totals, and the line.
   pub took : (n : Taken) (h′ u′ c′ : List ℕ) (v : Verdict) (t′ : Tally) (area′ : List ℕ) (end : ℕ)
       → record { taken = n; heldArea = h′; unitArea = u′; recordArea = c′ } ≡ read r f h u c
-      → v ≡ judged (r .setting) f (classRefusal (n .answer .class)) → t′ ≡ tallied (r .setting) t v (n .answer)
+      → v ≡ verdict r f h u c → t′ ≡ tallied (r .setting) t v (n .answer)
       → Wrote 176 (frameLine k v (n .answer)) area 0 area′ end
       → Took k (record { reader = r; held = h; units = u; records = c; totals = t }) f area
       (record { reader = n .state; held = h′; units = u′; records = c′; totals = t′ }) area′ v (n .answer) end
   unfolding advanced got ruled told
-  took n h′ u′ c′ v t′ area′ end e w q l =
+  took n h′ u′ c′ v t′ area′ end e y q l =
       let a : n .answer ≡ (read r f h u c) .taken .answer = ap (λ (x : Got). x .taken .answer) e in
-      let y : v ≡ verdict r f h u c =
-      w ∙ ap (λ (x : Answer). judged (r .setting) f (classRefusal (x .class))) a ∙ placed-is r f h u c
-      in
       record {
         stage =
             ap₂ (λ (x : Got) (w : Tally). record { reader = x .taken .state; held = x .heldArea; units = x .unitArea; records = x .recordArea; totals = w }) e

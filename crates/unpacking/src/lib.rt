@@ -120,12 +120,12 @@ fn take_frame(
     requires { ⌜ (readerOk r ≡ true) × (176 ≤ length (now area)) ⌝ }
     ensures { λ p. ⌜ Took k (record { reader = r; held = now (held .entry); units = now (units .entry); records = now (records .entry); totals = t }) (now (frame .entry)) (now (area .entry)) (record { reader = p .state; held = now (held .exit); units = now (units .exit); records = now (records .exit); totals = p .totals }) (now (area .exit)) (p .verdict) (p .answer) (p .end) ⌝ }
 {
-    let g = reader::read(r, frame, held, units, records);
+    let w = reader::read_whose(r, frame, held, units, records);
+    let g = w.taken;
+    let v = w.verdict;
     let a = g.answer;
     let after = g.state;
-    let class = a.class;
     let s = r.setting;
-    let v = unpack_text::place_of(s, class, frame);
     let totals = unpack_text::count_frame(s, t, v, a);
     let end = unpack_text::put_line(area, 0, k, v, a);
     Step {
