@@ -93,7 +93,7 @@ impl Line {
 }
 
 /// A setting as the script says it: numbers in eight slots of each kind, not judged.
-#[derive(Clone, Default)]
+#[derive(Clone, Default, PartialEq, Eq)]
 pub struct Said {
     /// F, spacecraft, bit, I, check, listed channels, numbered lanes.
     pub front: [u64; 7],

@@ -216,40 +216,113 @@ fn answer_on(desk: &[u8]) -> Result<Answer, String> {
     Ok(Answer { class, units, octets, missing, idle, fill, dropped, channel: None, lane: None })
 }
 
-/// What a line of the script prints, from the answer to it.
-fn printed(line: &Line, answers: &mut impl Read) -> Result<String, String> {
-    match line {
-        Line::Begin => {
-            let [writer]: [u64; 1] = row(&area(answers, DESK)?, 0);
-            let desk = area(answers, DESK)?;
-            let [reader] = row(&desk, 0);
-            Ok(begun([writer, reader], &writer_on(&desk), &reader_on(&desk)))
+/// The settings that a script has said so far, and that both states should have.
+#[derive(Default)]
+struct Course {
+    said: Said,
+    writer: Said,
+    reader: Said,
+}
+
+/// A refused set-up leaves a state of zeros.
+fn set_up(said: &Said, refusal: u64) -> Said {
+    if refusal == 0 {
+        return said.clone();
+    }
+    Said::default()
+}
+
+impl Course {
+    /// A line that says a setting.
+    fn say(&mut self, line: &Line) {
+        match line {
+            Line::Setting(said) => *self = Course { said: said.clone(), ..Course::default() },
+            Line::Channel(slot, numbers) => put(&mut self.said.channels, *slot, *numbers),
+            Line::Lane(slot, numbers) => put(&mut self.said.lanes, *slot, *numbers),
+            Line::Take => (self.writer, self.reader) = (self.said.clone(), self.said.clone()),
+            _ => {}
         }
-        Line::Write { .. } => {
-            let desk = area(answers, DESK)?;
-            let [refusal] = row(&desk, 0);
-            Ok(written(refusal, &writer_on(&desk), &desk[ROWS..]))
+    }
+
+    /// The numbers that the text does not show whole: settings, and the numbers of rows that are 0.
+    fn hold(&self, desk: &[u8]) -> Result<(), String> {
+        if setting_on(desk, WRITER) != self.writer || setting_on(desk, READER) != self.reader {
+            return Err("a state has another setting".to_string());
         }
-        Line::Check(_) => {
-            let [check] = row(&area(answers, DESK)?, 0);
-            Ok(checked(check))
+        for state in [WRITER, READER] {
+            let behind = |first, number| column(desk, first, number).iter().any(|&number| number != 0);
+            let flags = column(desk, state + CHANNELS, KNOWN);
+            let known = if state == READER { 1 } else { 0 };
+            let [.., last]: [u64; ROW / NUMBER] = row(desk, state);
+            if last != 0
+                || flags.iter().any(|&flag| flag > known)
+                || [CHANNELS, LANES].iter().any(|first| behind(state + first, 6) || behind(state + first, 7))
+            {
+                return Err("a number is not 0 that should be".to_string());
+            }
         }
-        Line::Read { .. } | Line::Keep(_) => {
-            let desk = area(answers, DESK)?;
-            let held = area(answers, HELD_ROOM)?;
-            let units = area(answers, UNIT_ROOM)?;
-            let records = area(answers, RECORD_ROOM)?;
-            Ok(taken(&answer_on(&desk)?, &reader_on(&desk), [&units, &records, &held]))
+        Ok(())
+    }
+
+    /// The desk of an answer.
+    fn desk(&self, answers: &mut impl Read) -> Result<Vec<u8>, String> {
+        let desk = area(answers, DESK)?;
+        self.hold(&desk)?;
+        Ok(desk)
+    }
+
+    /// The number that the desk of an answer has in row 0, and no other.
+    fn number_on(desk: &[u8]) -> Result<u64, String> {
+        let [number, others @ ..]: [u64; ROW / NUMBER] = row(desk, 0);
+        if others != [0; ROW / NUMBER - 1] {
+            return Err("an answer of one number has others".to_string());
         }
-        _ => Ok(String::new()),
+        Ok(number)
+    }
+
+    /// Both set-ups, the writer's first.
+    fn begin(&mut self, answers: &mut impl Read) -> Result<String, String> {
+        let desk = area(answers, DESK)?;
+        let writer = Course::number_on(&desk)?;
+        self.writer = set_up(&self.said, writer);
+        self.hold(&desk)?;
+        let desk = area(answers, DESK)?;
+        let reader = Course::number_on(&desk)?;
+        self.reader = set_up(&self.said, reader);
+        self.hold(&desk)?;
+        Ok(begun([writer, reader], &writer_on(&desk), &reader_on(&desk)))
+    }
+
+    /// What a line of the script prints, from the answer to it.
+    fn printed(&mut self, line: &Line, answers: &mut impl Read) -> Result<String, String> {
+        match line {
+            Line::Begin => self.begin(answers),
+            Line::Write { .. } => {
+                let desk = self.desk(answers)?;
+                Ok(written(Course::number_on(&desk)?, &writer_on(&desk), &desk[ROWS..]))
+            }
+            Line::Check(_) => Ok(checked(Course::number_on(&self.desk(answers)?)?)),
+            Line::Read { .. } | Line::Keep(_) => {
+                let desk = self.desk(answers)?;
+                let held = area(answers, HELD_ROOM)?;
+                let units = area(answers, UNIT_ROOM)?;
+                let records = area(answers, RECORD_ROOM)?;
+                Ok(taken(&answer_on(&desk)?, &reader_on(&desk), [&units, &records, &held]))
+            }
+            _ => {
+                self.say(line);
+                Ok(String::new())
+            }
+        }
     }
 }
 
 /// The answers to a script's requests, as what the script prints.
 pub fn answers(script: impl BufRead, mut answers: impl Read, out: &mut impl Write) -> Result<(), String> {
+    let mut course = Course::default();
     for line in lines(script) {
         let (number, line) = line?;
-        let text = printed(&line, &mut answers).map_err(|what| format!("line {number}: {what}"))?;
+        let text = course.printed(&line, &mut answers).map_err(|what| format!("line {number}: {what}"))?;
         if !text.is_empty() {
             write!(out, "{number} {text}").map_err(|error| error.to_string())?;
         }

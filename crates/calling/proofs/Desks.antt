@@ -15,9 +15,10 @@ use borrow.Rule.Slice.PartMut.{putMid}
 use Rattle.rules.specs.Areas.{laid}
 use Rattle.octets.proofs.Turns.{lent as back, part-long}
 use Rattle.rules.specs.Calls.{refusalOf, Sent, write, Got}
-use Rattle.calling.specs.Rows.{word, spelled}
-use Rattle.calling.specs.States.{readerIn, writerIn, readerOctets, writerOctets}
-use Rattle.calling.specs.Requests.{cut, one, answered, sentOn, heardOn, answerRow, takenOn, asked, sent, written, sizesIn, readIn, whole, frameIn, readOn, Left}
+use Rattle.rows.specs.Rows.{word, spelled}
+use Rattle.rows.specs.States.{readerIn, writerIn, readerOctets, writerOctets}
+use Rattle.calling.specs.Requests.{cut, one, answered, sentOn, heardOn, answerRow, takenOn, asked, sent, written}
+use Rattle.calling.specs.Requests.{sizesIn, readIn, whole, frameIn, readOn, Left}
 use Rattle.calling.specs.declared.requests.Sizes.{Sizes}
 
 -- ---- parts
@@ -63,7 +64,8 @@ asked-is q area batch insert ocf w o l n i k e₁ e₂ e₃ e₄ e₅ e₆ e₇ 
 
 -- The frame area is the desk's last 4,200 octets; what is lent of it goes back to its place.
 pub written-is : (q desk desk′ area : List ℕ) (w : Writer) (t : Sender) (v n : ℕ) → length desk ≡ 6440 → w ≡ writerIn desk 1 → v ≡ word q 5 → n ≡ min v 4200
-    → length area ≡ length (take (2240 + n - 2240) (drop 2240 desk)) → _≡_ {A = Sent} (record { sender = t; area = area }) (asked q w (take (2240 + n - 2240) (drop 2240 desk)))
+    → length area ≡ length (take (2240 + n - 2240) (drop 2240 desk))
+    → _≡_ {A = Sent} (record { sender = t; area = area }) (asked q w (take (2240 + n - 2240) (drop 2240 desk)))
     → desk′ ≡ sentOn (putMid 2240 (2240 + n - 2240) desk area) t → desk′ ≡ written (sent q desk) desk
 unfolding written sent
 written-is q desk desk′ area w t v n long own said least kept done p =
@@ -82,12 +84,16 @@ sizes-fit q h u c z e = rw e (min-le-right (word q 4) h, min-le-right (word q 2)
 
 pub read-on : (q f desk held units records desk′ held′ units′ records′ : List ℕ) (z : Sizes) (r : Reader) (t : Taken)
     → z ≡ sizesIn q (length held) (length units) (length records) → r ≡ readerIn desk 18 → f ≡ frameIn q desk
-    → _≡_ {A = Got} (record { taken = t; heldArea = held′; unitArea = units′; recordArea = records′ }) (whole z (readIn z r f held units records) held units records)
+    → _≡_ {A = Got} (record { taken = t; heldArea = held′; unitArea = units′; recordArea = records′ })
+    (whole z (readIn z r f held units records) held units records)
     → desk′ ≡ takenOn desk t → Left (readOn q desk held units records) desk desk′ held′ units′ records′
 unfolding readOn
 read-on q f desk held units records desk′ held′ units′ records′ z r t e here frame done p =
-    let x : readIn z r f held units records ≡ readIn z (readerIn desk 18) (frameIn q desk) held units records = ap₂ (λ (y : Reader) (k : List ℕ). readIn z y k held units records) here frame in
-    let g = done ∙ ap (λ (y : Got). whole z y held units records) x ∙ ap (λ (y : Sizes). whole y (readIn y (readerIn desk 18) (frameIn q desk) held units records) held units records) e in
+    let x : readIn z r f held units records ≡ readIn z (readerIn desk 18) (frameIn q desk) held units records =
+    ap₂ (λ (y : Reader) (k : List ℕ). readIn z y k held units records) here frame in
+    let g =
+    done ∙ ap (λ (y : Got). whole z y held units records) x
+    ∙ ap (λ (y : Sizes). whole y (readIn y (readerIn desk 18) (frameIn q desk) held units records) held units records) e in
     record {
       desk = p ∙ ap (λ (x : Got). takenOn desk (x .taken)) g;
       held = ap (λ (x : Got). x .heldArea) g;

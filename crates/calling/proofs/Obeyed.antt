@@ -6,9 +6,10 @@ use lib.ListN.{length, replicate}
 use borrow.Author.Tests.{ne-eqb, eq-eqb, lt-ltb, le-ltb}
 use Rattle.rules.specs.Octets.{checkOf}
 use Rattle.rules.specs.Calls.{setUpWriter, setUpReader}
-use Rattle.calling.specs.Rows.{word}
-use Rattle.calling.specs.States.{settingIn}
-use Rattle.calling.specs.Requests.{cut, behind, laidIn, one, answered, sentOn, heardOn, sent, written, frameIn, readOn, Left, Areas, afterRead, blank, deskAfter, obeyed}
+use Rattle.rows.specs.Rows.{word}
+use Rattle.rows.specs.States.{settingIn}
+use Rattle.calling.specs.Requests.{cut, behind, laidIn, one, answered, sentOn, heardOn, sent, written, frameIn, readOn, Left}
+use Rattle.calling.specs.Requests.{Areas, afterRead, blank, deskAfter, obeyed}
 
 -- ---- the frame to be read
 

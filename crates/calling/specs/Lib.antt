@@ -1,3 +1,1 @@
-pub mod Rows
-pub mod States
 pub mod Requests

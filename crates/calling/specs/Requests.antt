@@ -16,8 +16,8 @@ use Rattle.rules.specs.Octets.{checkOf}
 use Rattle.rules.specs.Areas.{laid}
 use Rattle.rules.specs.Calls.{refusalOf, classRefusal, setUpWriter, setUpReader, Sent, write, Got, read}
 use Rattle.calling.specs.declared.requests.Sizes.{Sizes}
-use Rattle.calling.specs.Rows.{word, spelled}
-use Rattle.calling.specs.States.{settingIn, readerIn, writerIn, readerOctets, writerOctets}
+use Rattle.rows.specs.Rows.{word, spelled}
+use Rattle.rows.specs.States.{settingIn, readerIn, writerIn, readerOctets, writerOctets}
 
 -- ---- octets of a request
 

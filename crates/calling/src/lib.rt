@@ -9,11 +9,10 @@ ghost use lib.ListN.{length};
 ghost use Rattle.io.specs.Counts.{Counts};
 
 mod requests;
-mod states;
 
 use requests::least;
 use requests::obey;
-use states::word_in;
+use rows::word_in;
 
 // The next request of standard input, at the front of `q`; how many octets it has, or 0 where there is none.
 fn next(q: &mut [u8]) -> usize

@@ -1,4 +1,4 @@
-// Calls that a script on standard input says, and what each leaves (docs/CALLS.md). What it must print is what the program in `second` prints.
+// Calls that requests on standard input ask for, and all that each leaves (docs/CALLS.md). As text that is what the program in `second` prints.
 
 fn main() {
     calling::run();

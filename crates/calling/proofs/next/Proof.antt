@@ -1,75 +1,55 @@
+-- `calling::next` meets its contract. A whole row is read first, and then no more than there is room for behind it.
 use mathlib.Core.Path.{sym}
 use lib.Seq.{length-take-le}
 use borrow.Author.Needs.{needs}
 use Rattle.calling.proofs.next.Statement.{statement}
 use Rattle.calling.proofs.next.Tie as tie
-use Rattle.calling.proofs.next.Reads as reads
-use Rattle.calling.proofs.next.Lts as lts
-use Rattle.calling.proofs.requests.least.Reads as least-reads
-use Rattle.calling.proofs.states.word_in.Reads as word-in-reads
-use Rattle.io.proofs.read_full.Reads as read-full-reads
 
--- src/lib.rt:19:30
 slice-relend-prefix-read-full : tie.Need-slice-relend-prefix-read-full
 slice-relend-prefix-read-full c = search needs
 
--- src/lib.rt:19:30
 slice-aggregate-read-full : tie.Need-slice-aggregate-read-full
 slice-aggregate-read-full c = sym (length-take-le 64 (c .before .before .args .q .now) (c .before .before .pre))
 
--- src/lib.rt:19:9
 read-full-requires : tie.Need-read-full-requires
 read-full-requires c κs = search needs
 
--- src/lib.rt:21:9
 same-length : tie.Need-same-length
 same-length c = search needs
 
--- src/lib.rt:21:9
 returns : tie.Need-returns
 returns c = search needs
 
--- src/lib.rt:23:9
 word-in-requires : tie.Need-word-in-requires
 word-in-requires c κs = search needs
 
--- src/lib.rt:24:25
 sub-least : tie.Need-sub-least
 sub-least c = search needs
 
--- src/lib.rt:24:9
 least-requires : tie.Need-least-requires
 least-requires c κs = search needs
 
--- src/lib.rt:25:14
 add-to : tie.Need-add-to
 add-to c = search needs
 
--- src/lib.rt:26:30
 sub-read-full : tie.Need-sub-read-full
 sub-read-full c = search needs
 
--- src/lib.rt:26:30
 part-read-full-start : tie.Need-part-read-full-start
 part-read-full-start c = search needs
 
--- src/lib.rt:26:30
 part-read-full-end : tie.Need-part-read-full-end
 part-read-full-end c = search needs
 
--- src/lib.rt:26:9
 read-full-requires-2 : tie.Need-read-full-requires-2
 read-full-requires-2 c κs = search needs
 
--- src/lib.rt:27:5
 add-result : tie.Need-add-result
 add-result c = search needs
 
--- src/lib.rt:15:1
 same-length-2 : tie.Need-same-length-2
 same-length-2 c = search needs
 
--- src/lib.rt:15:1
 returns-2 : tie.Need-returns-2
 returns-2 c = (search needs, sym (length-take-le _ _ (search needs)))
 

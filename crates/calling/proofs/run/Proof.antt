@@ -1,3 +1,4 @@
+-- `calling::run` meets its contract. The areas keep their lengths, and the requests are counted.
 use Prim.Native.Nat.{ℕ, _-_}
 use lib.ListN.{length}
 use mathlib.Core.List.{List}
@@ -5,10 +6,6 @@ use mathlib.Core.Path.{_≡_}
 use borrow.Author.Needs.{needs}
 use Rattle.calling.proofs.run.Statement.{statement}
 use Rattle.calling.proofs.run.Tie as tie
-use Rattle.calling.proofs.run.Reads as reads
-use Rattle.calling.proofs.run.Lts as lts
-use Rattle.calling.proofs.next.Reads as next-reads
-use Rattle.calling.proofs.turn.Reads as turn-reads
 
 -- The areas keep their lengths.
 abbrev Kept : List ℕ → List ℕ → List ℕ → List ℕ → List ℕ → Type 0
@@ -21,63 +18,48 @@ Inv-loop q₀ desk₀ held₀ units₀ records₀ k₀ q desk held units records
 abbrev μ-loop : tie.MeasureT-loop
 μ-loop q₀ desk₀ held₀ units₀ records₀ k₀ q desk held units records k = 18446744073709551615 - k
 
--- src/lib.rt:70:5
 loop-holds : tie.Need-loop-holds Inv-loop μ-loop
 loop-holds c = search needs
 
--- src/lib.rt:71:22
 slice-aggregate-next : tie.Need-slice-aggregate-next Inv-loop μ-loop
 slice-aggregate-next c = search needs
 
--- src/lib.rt:71:13
 next-requires : tie.Need-next-requires Inv-loop μ-loop
 next-requires c κs = search needs
 
--- src/lib.rt:76:13
 array-share-prefix-q : tie.Need-array-share-prefix-q Inv-loop μ-loop
 array-share-prefix-q c = search needs
 
--- src/lib.rt:76:13
 slice-aggregate-turn : tie.Need-slice-aggregate-turn Inv-loop μ-loop
 slice-aggregate-turn c = search needs
 
--- src/lib.rt:77:13
 slice-aggregate-turn-2 : tie.Need-slice-aggregate-turn-2 Inv-loop μ-loop
 slice-aggregate-turn-2 c = search needs
 
--- src/lib.rt:78:13
 slice-aggregate-turn-3 : tie.Need-slice-aggregate-turn-3 Inv-loop μ-loop
 slice-aggregate-turn-3 c = search needs
 
--- src/lib.rt:79:13
 slice-aggregate-turn-4 : tie.Need-slice-aggregate-turn-4 Inv-loop μ-loop
 slice-aggregate-turn-4 c = search needs
 
--- src/lib.rt:80:13
 slice-aggregate-turn-5 : tie.Need-slice-aggregate-turn-5 Inv-loop μ-loop
 slice-aggregate-turn-5 c = search needs
 
--- src/lib.rt:75:9
 turn-requires : tie.Need-turn-requires Inv-loop μ-loop
 turn-requires c κs = search needs
 
--- src/lib.rt:82:9
 add-k : tie.Need-add-k Inv-loop μ-loop
 add-k c = search needs
 
--- src/lib.rt:70:5
 loop-less : tie.Need-loop-less Inv-loop μ-loop
 loop-less c = search needs
 
--- src/lib.rt:70:5
 loop-again : tie.Need-loop-again Inv-loop μ-loop
 loop-again c = search needs
 
--- src/lib.rt:63:1
 returns : tie.Need-returns Inv-loop μ-loop
 returns c = search needs
 
--- src/lib.rt:63:1
 returns-2 : tie.Need-returns-2 Inv-loop μ-loop
 returns-2 c = search needs
 

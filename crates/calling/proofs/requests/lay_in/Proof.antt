@@ -1,3 +1,4 @@
+-- `calling::requests::lay_in` meets its contract. Octets are laid where they have room, and only there.
 use Prim.Native.Nat.{_+_, _≤_, _<_}
 use lib.ListN.{length}
 use borrow.Author.Tests.{le-leb, lt-leb}
@@ -6,31 +7,24 @@ use Rattle.calling.specs.Requests.{laidIn}
 use borrow.Author.Needs.{needs}
 use Rattle.calling.proofs.requests.lay_in.Statement.{statement}
 use Rattle.calling.proofs.requests.lay_in.Tie as tie
-use Rattle.calling.proofs.requests.lay_in.Reads as reads
-use Rattle.calling.proofs.requests.lay_in.Lts as lts
-use Rattle.octets.proofs.lay.Reads as lay-reads
 
--- src/requests.rt:69:25
 sub-if2 : tie.Need-sub-if2
 sub-if2 c = search needs
 
--- src/requests.rt:70:13
 lay-requires : tie.Need-lay-requires
 lay-requires c κs = search needs
 
--- src/requests.rt:65:1
 same-length : tie.Need-same-length
 same-length c = search needs
 
--- src/requests.rt:65:1
 returns : tie.Need-returns
 unfolding laidIn
 returns c =
-    let a = c .before .before .before .before .before .before .before .before .args in
+    let c₅ = c .before .before .before .before .before in
+    let a = c₅ .before .before .before .args in
     let h : a .from + length (a .src .now) ≤ length (a .area .now) = omega arith in
     rw (le-leb _ _ h) (c .before .before .lay .ensures)
 
--- src/requests.rt:65:1
 returns-2 : tie.Need-returns-2
 unfolding laidIn
 returns-2 c =
@@ -38,7 +32,6 @@ returns-2 c =
     let h : length (a .area .now) < a .from + length (a .src .now) = omega arith in
     rw (lt-leb _ _ h)
 
--- src/requests.rt:65:1
 returns-3 : tie.Need-returns-3
 unfolding laidIn
 returns-3 c =

@@ -1,0 +1,35 @@
+-- `rows::reader_in` meets its contract. The state is its setting, its expected counts and what is held.
+use Rattle.rows.specs.States.{readerIn}
+use borrow.Author.Needs.{needs}
+use Rattle.rows.proofs.reader_in.Statement.{statement}
+use Rattle.rows.proofs.reader_in.Tie as tie
+
+setting-in-requires : tie.Need-setting-in-requires
+setting-in-requires c κs = search needs
+
+add-expects-in : tie.Need-add-expects-in
+add-expects-in c = search needs
+
+expects-in-requires : tie.Need-expects-in-requires
+expects-in-requires c κs = search needs
+
+add-held-in : tie.Need-add-held-in
+add-held-in c = search needs
+
+held-in-requires : tie.Need-held-in-requires
+held-in-requires c κs = search needs
+
+returns : tie.Need-returns
+unfolding readerIn
+returns c = cc
+
+pub reader-in-spec : {M : Type 1} → statement M
+reader-in-spec =
+    tie.close
+    (tie.spec
+    setting-in-requires
+    add-expects-in
+    expects-in-requires
+    add-held-in
+    held-in-requires
+    returns)

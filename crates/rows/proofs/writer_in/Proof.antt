@@ -1,0 +1,39 @@
+-- `rows::writer_in` meets its contract. The state is its setting, its counts and its next frame numbers.
+use Rattle.rows.specs.States.{writerIn}
+use borrow.Author.Needs.{needs}
+use Rattle.rows.proofs.writer_in.Statement.{statement}
+use Rattle.rows.proofs.writer_in.Tie as tie
+
+setting-in-requires : tie.Need-setting-in-requires
+setting-in-requires c κs = search needs
+
+add-expects-in : tie.Need-add-expects-in
+add-expects-in c = search needs
+
+expects-in-requires : tie.Need-expects-in-requires
+expects-in-requires c κs = search needs
+
+counts-of-requires : tie.Need-counts-of-requires
+counts-of-requires c κs = search needs
+
+add-held-in : tie.Need-add-held-in
+add-held-in c = search needs
+
+held-in-requires : tie.Need-held-in-requires
+held-in-requires c κs = search needs
+
+returns : tie.Need-returns
+unfolding writerIn
+returns c = cc
+
+pub writer-in-spec : {M : Type 1} → statement M
+writer-in-spec =
+    tie.close
+    (tie.spec
+    setting-in-requires
+    add-expects-in
+    expects-in-requires
+    counts-of-requires
+    add-held-in
+    held-in-requires
+    returns)

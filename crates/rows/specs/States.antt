@@ -1,0 +1,126 @@
+-- Settings and states in rows. A state has 17 rows: the setting's first numbers, then each channel slot, then each lane slot.
+use Prim.Native.Nat.{ℕ, zero, suc, _+_, _*_, _%_}
+use mathlib.Core.Bool.{Bool, false, cond}
+use mathlib.Core.List.{List, [], _∷_, _++_}
+use lib.ListN.{getD, set, replicate}
+use Rattle.rules.specs.declared.Kind.{Kind}
+use Rattle.rules.specs.declared.Kind.the-variants.{Packets, Access}
+use Rattle.rules.specs.declared.Channel.{Channel}
+use Rattle.rules.specs.declared.Lane.{Lane}
+use Rattle.rules.specs.declared.Setting.{Setting}
+use Rattle.rules.specs.declared.Expect.{Expect}
+use Rattle.rules.specs.declared.Reader.{Reader}
+use Rattle.rules.specs.declared.Writer.{Writer}
+use Rattle.rules.specs.Tests.{_=?_}
+use Rattle.rules.specs.Octets.{flag}
+use Rattle.rules.specs.Settings.{noChannel, noLane, noExpect}
+use Rattle.rows.specs.Rows.{word, spelled}
+
+-- ---- out of octets: i is the number with which a row begins
+
+unfoldable pub channelIn : List ℕ → ℕ → Channel
+channelIn xs i = record { vc = word xs i % 256; service = word xs (i + 1) % 256; octets = word xs (i + 2); ocf = word xs (i + 3) =? 1 }
+
+-- The expected count, behind the channel's numbers.
+unfoldable pub expectIn : List ℕ → ℕ → Expect
+expectIn xs i = record { known = word xs (i + 4) =? 1; count = word xs (i + 5) }
+
+-- 0 is packets.
+abbrev pub kindIn : ℕ → Kind
+kindIn n = cond (n =? 0) Packets Access
+
+unfoldable pub laneIn : List ℕ → ℕ → Lane
+laneIn xs i =
+    record { channel = word xs i; map = word xs (i + 1) % 256; kind = kindIn (word xs (i + 2)); longest = word xs (i + 3); upid = word xs (i + 4) % 256 }
+
+-- Eight slots: what f says in the first n of them, z in the others.
+unfoldable pub slots : {A : Type 0} → A → (ℕ → A) → ℕ → List A
+slots z f zero = replicate 8 z
+slots z f (suc n) = set (slots z f n) n (f n)
+
+unfoldable pub channelsIn : List ℕ → ℕ → List Channel
+channelsIn xs k = slots noChannel (λ (i : ℕ). channelIn xs (8 * (k + i))) 8
+
+unfoldable pub expectsIn : List ℕ → ℕ → List Expect
+expectsIn xs k = slots noExpect (λ (i : ℕ). expectIn xs (8 * (k + i))) 8
+
+unfoldable pub lanesIn : List ℕ → ℕ → List Lane
+lanesIn xs k = slots noLane (λ (i : ℕ). laneIn xs (8 * (k + i))) 8
+
+-- What lanes hold, behind their numbers.
+unfoldable pub heldIn : List ℕ → ℕ → List ℕ
+heldIn xs k = slots 0 (λ (i : ℕ). word xs (8 * (k + i) + 5)) 8
+
+-- The setting from row k on.
+unfoldable pub settingIn : List ℕ → ℕ → Setting
+settingIn xs k =
+    record {
+      length = word xs (8 * k);
+      craft = word xs (8 * k + 1) % 65536;
+      bit = word xs (8 * k + 2) % 256;
+      insert = word xs (8 * k + 3);
+      check = word xs (8 * k + 4) =? 1;
+      listed = word xs (8 * k + 5);
+      channels = channelsIn xs (k + 1);
+      numbered = word xs (8 * k + 6);
+      lanes = lanesIn xs (k + 9);
+    }
+
+-- The reader's state from row k on.
+unfoldable pub readerIn : List ℕ → ℕ → Reader
+readerIn xs k = record { setting = settingIn xs k; expects = expectsIn xs (k + 1); held = heldIn xs (k + 9) }
+
+-- Eight counts of those expected, whether they are or not.
+unfoldable pub countsOf : List Expect → List ℕ
+countsOf xs =
+    (getD xs 0 noExpect) .count ∷ (getD xs 1 noExpect) .count ∷ (getD xs 2 noExpect) .count ∷ (getD xs 3 noExpect) .count
+    ∷ (getD xs 4 noExpect) .count ∷ (getD xs 5 noExpect) .count ∷ (getD xs 6 noExpect) .count ∷ (getD xs 7 noExpect) .count ∷ []
+
+-- The writer's state from row k on: counts stand for expected counts, next frame numbers for what is held.
+unfoldable pub writerIn : List ℕ → ℕ → Writer
+writerIn xs k = record { setting = settingIn xs k; counts = countsOf (expectsIn xs (k + 1)); next = heldIn xs (k + 9) }
+
+-- ---- into octets
+
+unfoldable pub frontRow : Setting → List ℕ
+frontRow s = s .length ∷ s .craft ∷ s .bit ∷ s .insert ∷ flag (s .check) ∷ s .listed ∷ s .numbered ∷ 0 ∷ []
+
+unfoldable pub channelRow : Channel → Expect → List ℕ
+channelRow c x = c .vc ∷ c .service ∷ c .octets ∷ flag (c .ocf) ∷ flag (x .known) ∷ x .count ∷ 0 ∷ 0 ∷ []
+
+abbrev pub kindNumber : Kind → ℕ
+kindNumber Packets = 0
+kindNumber Access = 1
+
+unfoldable pub laneRow : Lane → ℕ → List ℕ
+laneRow l n = l .channel ∷ l .map ∷ kindNumber (l .kind) ∷ l .longest ∷ l .upid ∷ n ∷ 0 ∷ 0 ∷ []
+
+-- The first n of the rows that f says, as octets.
+unfoldable pub rows : (ℕ → List ℕ) → ℕ → List ℕ
+rows f zero = []
+rows f (suc n) = rows f n ++ spelled (f n)
+
+unfoldable pub channelRows : List Channel → List Expect → List ℕ
+channelRows cs xs = rows (λ (i : ℕ). channelRow (getD cs i noChannel) (getD xs i noExpect)) 8
+
+unfoldable pub laneRows : List Lane → List ℕ → List ℕ
+laneRows ls ns = rows (λ (i : ℕ). laneRow (getD ls i noLane) (getD ns i 0)) 8
+
+-- A state as octets.
+unfoldable pub stateOctets : Setting → List Expect → List ℕ → List ℕ
+stateOctets s xs ns = spelled (frontRow s) ++ channelRows (s .channels) xs ++ laneRows (s .lanes) ns
+
+unfoldable pub readerOctets : Reader → List ℕ
+readerOctets r = stateOctets (r .setting) (r .expects) (r .held)
+
+-- A count that is said to be expected by nobody.
+abbrev pub plain : ℕ → Expect
+plain n = record { known = false; count = n }
+
+unfoldable pub expectsOf : List ℕ → List Expect
+expectsOf ns =
+    plain (getD ns 0 0) ∷ plain (getD ns 1 0) ∷ plain (getD ns 2 0) ∷ plain (getD ns 3 0) ∷ plain (getD ns 4 0) ∷ plain (getD ns 5 0)
+    ∷ plain (getD ns 6 0) ∷ plain (getD ns 7 0) ∷ []
+
+unfoldable pub writerOctets : Writer → List ℕ
+writerOctets w = stateOctets (w .setting) (expectsOf (w .counts)) (w .next)
