@@ -18,7 +18,7 @@ use Rattle.rules.specs.declared.Measure.{Measure}
 use Rattle.rules.specs.declared.Measure.the-variants.{Lacks, Packet, Idle, Unreadable}
 use Rattle.rules.specs.Tests.{_≤?_, _=?_, all}
 use Rattle.rules.specs.Areas.{joined}
-use Rattle.rules.specs.Packets.{measured, measure, whole, packetsUpTo, packets}
+use Rattle.rules.specs.Packets.{measure, whole, packetsUpTo, packets}
 use Rattle.rules.specs.Writing.{noneAbove, batchOk, startFrom}
 use Rattle.rules.proofs.Tests.{same}
 use Rattle.rules.proofs.Measures.{measure-cases, measure-none, packet-long}

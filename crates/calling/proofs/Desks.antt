@@ -1,9 +1,9 @@
 -- Parts of a request are cut as it says, and what a call's steps leave is what the request leaves.
-use mathlib.Core.Path.{_≡_, refl, sym, ap, ap₂, _∙_}
+use mathlib.Core.Path.{_≡_, sym, ap, ap₂, _∙_}
 use Prim.Native.Nat.{ℕ, _+_, _-_, _≤_, _<_, min}
 use native.Mathlib.Nat.{min-le-right}
 use native.Mathlib.Omega.{arith}
-use mathlib.Core.List.{List, [], _∷_, _++_}
+use mathlib.Core.List.{List, []}
 use lib.ListN.{length, take, drop, length-take, length-drop, take-append-drop, drop-of-length-le}
 use lib.Seq.{take-append-seam, take-nil}
 use Rattle.rules.specs.declared.Reader.{Reader}

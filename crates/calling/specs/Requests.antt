@@ -1,7 +1,7 @@
 -- A request is a row of eight numbers with octets behind it. What each asks for, and what it leaves in the areas.
 use Prim.Native.Nat.{ℕ, _+_, min}
 use mathlib.Core.Path.{_≡_}
-use mathlib.Core.Bool.{Bool, cond}
+use mathlib.Core.Bool.{cond}
 use mathlib.Core.List.{List, [], _∷_, _++_}
 use lib.ListN.{length, take, drop, replicate}
 use Rattle.rules.specs.declared.Reader.{Reader}

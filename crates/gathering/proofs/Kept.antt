@@ -6,14 +6,14 @@ use native.Mathlib.Omega.{arith}
 use mathlib.Core.Bool.{Bool, true, false, cond, _&&_}
 use mathlib.Core.List.{List, [], _∷_, _++_}
 use lib.ListN.{length, take, drop, length-append, length-drop}
-use lib.Seq.{length-take-le, take-all, take-add, take-at, drop-at, drop-drop, getD-take}
-use borrow.Author.Tests.{leb-true, le-leb, eq-eqb, ne-eqb, le-ltb}
+use lib.Seq.{length-take-le, take-add, take-at, drop-at, drop-drop}
+use borrow.Author.Tests.{leb-true, le-leb, eq-eqb}
 use Rattle.rules.specs.declared.Kind.the-variants.{Packets}
 use Rattle.rules.specs.declared.Measure.{Measure}
 use Rattle.rules.specs.declared.Measure.the-variants.{Lacks, Packet, Idle, Unreadable}
 use Rattle.rules.specs.Tests.{_≤?_, all}
-use Rattle.rules.specs.Areas.{joined}
-use Rattle.rules.specs.Packets.{measured, measure, whole, packetsUpTo, packets}
+use Rattle.rules.specs.Areas.{joined, batchSize}
+use Rattle.rules.specs.Packets.{measure, whole, packetsUpTo, packets}
 use Rattle.rules.specs.Writing.{noneAbove, batchOk}
 use Rattle.rules.proofs.Tests.{split, and-left, and-right}
 use Rattle.rules.proofs.Measures.{measure-take, packet-long}
@@ -126,34 +126,35 @@ fitted longest room xs = fitted-up-to (length xs) longest room xs (le-refl _)
 module _ (longest : ℕ) (xs : List ℕ) where
   pub gathered-inside : gathered longest xs ≤ length xs
   unfolding gathered
-  gathered-inside = fitted longest 32768 xs .inside
+  gathered-inside = fitted longest batchSize xs .inside
 
   -- What is gathered, if anything, keeps the rule of a packet lane's batch.
   pub gathered-ok : (gathered longest xs ≡ 0 → ⊥) → batchOk Packets longest (take (gathered longest xs) xs) ≡ true
   unfolding gathered batchOk all
   gathered-ok some =
-      let f = fitted longest 32768 xs in
+      let f = fitted longest batchSize xs in
       let l : length (take (gathered longest xs) xs) ≡ gathered longest xs = length-take-le _ xs (f .inside) in
       rw (
         l,
         f .packs,
         f .short,
         le-leb 1 (gathered longest xs) (omega arith),
-        le-leb (gathered longest xs) 32768 (f .small),
+        le-leb (gathered longest xs) batchSize (f .small),
         eq-eqb (gathered longest xs)
             (gathered longest xs) refl,
       )
 
   -- The octets left begin with no packet that would still fit.
   pub gathered-full : (n : ℕ) → measure (drop (gathered longest xs) xs) ≡ Packet n → n ≤ length (drop (gathered longest xs) xs) → n ≤ longest
-      → 32768 < gathered longest xs + n
+      → batchSize < gathered longest xs + n
   unfolding gathered
   gathered-full n e w h =
-      let f = fitted longest 32768 xs in
-      let g = length (joined (fitting longest 32768 (packets xs))) in
-      split n (32768 - g)
+      let f = fitted longest batchSize xs in
+      let g = length (joined (fitting longest batchSize (packets xs))) in
+      split n (batchSize - g)
       (λ r.
-      let z : take n (drop g xs) ∷ fitting longest (32768 - g - n) (packets (drop n (drop g xs))) ≡ [] =
-      sym (fitting-front longest (32768 - g) (drop g xs) ∙ rw (e, le-leb n (length (drop g xs)) w, le-leb n longest h, le-leb n (32768 - g) r)) ∙ f .full in
+      let z : take n (drop g xs) ∷ fitting longest (batchSize - g - n) (packets (drop n (drop g xs))) ≡ [] =
+      sym (fitting-front longest (batchSize - g) (drop g xs) ∙ rw (e, le-leb n (length (drop g xs)) w, le-leb n longest h, le-leb n (batchSize - g) r))
+      ∙ f .full in
       let o : _≡_ {A = ℕ} 0 1 = cc in omega arith)
       (λ r. omega (arith, f .small))

@@ -9,13 +9,13 @@ use lib.ListN.{length, take, drop, length-append, length-drop, drop-of-length-le
 use lib.Seq.{length-take-le}
 use borrow.Author.Tests.{le-leb, lt-leb}
 use Rattle.rules.specs.Tests.{_≤?_}
-use Rattle.rules.specs.Areas.{joined}
+use Rattle.rules.specs.Areas.{joined, batchSize}
 use Rattle.rules.specs.Packets.{packetsUpTo, packets}
 use Rattle.gathering.specs.Gathering.{fitting, gathered}
 
 -- How many octets of these fit into the room that i octets leave.
 abbrev pub more : ℕ → List ℕ → ℕ → ℕ
-more longest xs i = length (joined (fitting longest (32768 - i) (packets (drop i xs))))
+more longest xs i = length (joined (fitting longest (batchSize - i) (packets (drop i xs))))
 
 module _ (longest : ℕ) (xs : List ℕ) where
   pub from-none : gathered longest xs ≡ 0 + more longest xs 0
@@ -39,12 +39,12 @@ module _ (longest : ℕ) (xs : List ℕ) where
       unfolding fitting joined
       too-long h = rw (e, size, lt-leb n longest h) (add-zero i)
 
-      pub no-room : 32768 - i < n → i + more longest xs i ≡ i
+      pub no-room : batchSize - i < n → i + more longest xs i ≡ i
       unfolding fitting joined
-      no-room h = rw (e, size, lt-leb n (32768 - i) h, and-false (n ≤? longest)) (add-zero i)
+      no-room h = rw (e, size, lt-leb n (batchSize - i) h, and-false (n ≤? longest)) (add-zero i)
 
-      pub one-more : n ≤ longest → n ≤ 32768 - i → i + more longest xs i ≡ i + n + more longest xs (i + n)
+      pub one-more : n ≤ longest → n ≤ batchSize - i → i + more longest xs i ≡ i + n + more longest xs (i + n)
       unfolding fitting joined
       one-more h r =
-          let z : 32768 - i - n ≡ 32768 - (i + n) = omega arith in
-          rw (e, size, le-leb n longest h, le-leb n (32768 - i) r, length-append, size, z) (sym (add-assoc i n _))
+          let z : batchSize - i - n ≡ batchSize - (i + n) = omega arith in
+          rw (e, size, le-leb n longest h, le-leb n (batchSize - i) r, length-append, size, z) (sym (add-assoc i n _))

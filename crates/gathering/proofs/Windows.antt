@@ -13,7 +13,7 @@ use borrow.Author.Tests.{leb-true, ltb-false, le-leb, lt-leb, lt-ltb, le-ltb, ne
 use Rattle.rules.specs.declared.Measure.{Measure}
 use Rattle.rules.specs.declared.Measure.the-variants.{Lacks, Packet, Idle, Unreadable}
 use Rattle.rules.specs.Tests.{_≤?_, _<?_, _=?_}
-use Rattle.rules.specs.Areas.{joined}
+use Rattle.rules.specs.Areas.{joined, batchSize}
 use Rattle.rules.specs.Packets.{measure, packets}
 use Rattle.rules.proofs.Tests.{split}
 use Rattle.gathering.specs.declared.Wrong.the-variants as wrong
@@ -76,7 +76,7 @@ same-up-to (suc k) longest room w xs h big =
 
 pub gathered-window : (longest w : ℕ) (xs : List ℕ) → 32774 ≤ w → gathered longest (take w xs) ≡ gathered longest xs
 unfolding gathered
-gathered-window longest w xs h = ap (λ (us : List (List ℕ)). length (joined us)) (same-up-to (length xs) longest 32768 w xs (le-refl _) (omega arith))
+gathered-window longest w xs h = ap (λ (us : List (List ℕ)). length (joined us)) (same-up-to (length xs) longest batchSize w xs (le-refl _) (omega arith))
 
 -- ---- what is wrong
 
@@ -107,19 +107,19 @@ wrong-window longest w xs h six = ap (λ (m : Measure). wrongOf longest m (lengt
     go Unreadable = refl
 
 -- Octets that are left are a batch and more, or something is wrong with the first packet.
-pub batch-or-wrong : (longest : ℕ) (xs : List ℕ) → longest ≤ 32768 → 0 < length xs
+pub batch-or-wrong : (longest : ℕ) (xs : List ℕ) → longest ≤ batchSize → 0 < length xs
     → (gathered longest xs ≡ 0 → ⊥) ⊎ (wrongAt longest xs ≡ wrong.Nothing → ⊥)
 unfolding gathered wrongAt wrongOf joined
 batch-or-wrong longest xs h some = go (measure xs) refl
   where
     Either : Measure → Type 0
-    Either m = (length (joined (fitting longest 32768 (packets xs))) ≡ 0 → ⊥) ⊎ (wrongOf longest m (length xs) ≡ wrong.Nothing → ⊥)
+    Either m = (length (joined (fitting longest batchSize (packets xs))) ≡ 0 → ⊥) ⊎ (wrongOf longest m (length xs) ≡ wrong.Nothing → ⊥)
 
-    batch : (n : ℕ) → measure xs ≡ Packet n → n ≤ longest → n ≤ length xs → length (joined (fitting longest 32768 (packets xs))) ≡ 0 → ⊥
+    batch : (n : ℕ) → measure xs ≡ Packet n → n ≤ longest → n ≤ length xs → length (joined (fitting longest batchSize (packets xs))) ≡ 0 → ⊥
     batch n e k l z =
-        let f : fitting longest 32768 (packets xs) ≡ take n xs ∷ fitting longest (32768 - n) (packets (drop n xs)) =
-        fitting-front longest 32768 xs ∙ rw (e, le-leb n (length xs) l, le-leb n longest k, le-leb n 32768 (omega arith)) in
-        let s = length-append (take n xs) (joined (fitting longest (32768 - n) (packets (drop n xs)))) in
+        let f : fitting longest batchSize (packets xs) ≡ take n xs ∷ fitting longest (batchSize - n) (packets (drop n xs)) =
+        fitting-front longest batchSize xs ∙ rw (e, le-leb n (length xs) l, le-leb n longest k, le-leb n batchSize (omega arith)) in
+        let s = length-append (take n xs) (joined (fitting longest (batchSize - n) (packets (drop n xs)))) in
         let t = length-take-le n xs l in
         let p = packet-long xs n e in
         let q = ap (λ (us : List (List ℕ)). length (joined us)) f in

@@ -5,7 +5,7 @@ use mathlib.Core.List.{List, [], _∷_}
 use lib.ListN.{length}
 use Rattle.rules.specs.declared.Measure.{Measure}
 use Rattle.rules.specs.Tests.{_≤?_, _<?_, _=?_}
-use Rattle.rules.specs.Areas.{joined}
+use Rattle.rules.specs.Areas.{joined, batchSize}
 use Rattle.rules.specs.Packets.{measure, packets}
 use Rattle.gathering.specs.declared.Wrong.{Wrong}
 use Rattle.gathering.specs.declared.Wrong.the-variants.{Nothing, NoPacket, Idle, Long, Cut}
@@ -18,7 +18,7 @@ fitting longest room (p ∷ ps) = cond (length p ≤? longest && length p ≤? r
 -- "A packet batch is 1 to 32,768 octets of whole Space Packets back to back, none idle, none above the lane's longest": how many octets
 -- from the first on are such a batch, with as many packets as fit. 0 where there is none.
 unfoldable pub gathered : ℕ → List ℕ → ℕ
-gathered longest xs = length (joined (fitting longest 32768 (packets xs)))
+gathered longest xs = length (joined (fitting longest batchSize (packets xs)))
 
 -- What is wrong with a packet of which n octets are there, up to the file's end. One that is too long is so whether or not it is cut.
 unfoldable pub wrongOf : ℕ → Measure → ℕ → Wrong

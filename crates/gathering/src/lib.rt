@@ -3,7 +3,6 @@ ghost use mathlib.Core.Path.{_≡_};
 ghost use Prim.Native.Nat.{_≤_};
 ghost use lib.ListN.{length, drop};
 ghost use Rattle.rules.specs.Areas.{laid};
-ghost use Rattle.rules.specs.Packets.{measure};
 ghost use Rattle.gathering.specs.Gathering.{gathered, wrongOf, wrongAt};
 use rules::Measure;
 

@@ -13,7 +13,7 @@ use Rattle.rules.specs.declared.Place.{Place}
 use Rattle.rules.specs.declared.Place.the-variants.{At, Nowhere}
 use Rattle.rules.specs.declared.Verdict.{Verdict}
 use Rattle.rules.specs.declared.Verdict.the-variants.{Refused, Idle, Counted, Read}
-use Rattle.rules.specs.Tests.{_=?_, _≠?_, none, at, Refusal, refuse, given}
+use Rattle.rules.specs.Tests.{_=?_, _≠?_, none, at, Refusal, given}
 use Rattle.rules.specs.Octets.{flag}
 use Rattle.rules.specs.Settings.{channel}
 use Rattle.rules.specs.Frames.{version, craft, sourceBit, vc, map, endOfHeader, lengthField, bypass, command, spare, ocfFlag, countLength, checkHolds}

@@ -14,7 +14,7 @@ use Rattle.rules.specs.declared.Fate.{Fate}
 use Rattle.rules.specs.declared.Info.{Info}
 use Rattle.rules.specs.Areas.{laid}
 use Rattle.rules.specs.Packets.{measure}
-use Rattle.rules.specs.Reading.{Made, nothing, drops, both, become, leadFate, lead, unitFate, followFate, portion, laneStep}
+use Rattle.rules.specs.Reading.{Made, drops, both, become, leadFate, lead, unitFate, followFate, portion, laneStep}
 use Rattle.rules.proofs.Areas.{laid-nil}
 use Rattle.rules.proofs.Lanes.{lead-cases, total, lane-total, lane-below, lane-few}
 use Rattle.handing.specs.declared.Tally.{Tally}

@@ -23,6 +23,7 @@ use Rattle.link.proofs.Run.{sender}
 use Rattle.link.proofs.Views.{due-not, due-gone}
 use Rattle.link.proofs.Later.{Reached, reached, all-due, all-units}
 use Rattle.link.proofs.Theorem.{fresh, fresh-ready, fresh-ends, demand}
+use Rattle.rules.specs.Areas.{heldSize}
 
 -- ---- frames that are all kept, or all gone
 
@@ -88,7 +89,7 @@ zeros : (n l : ℕ) → _≡_ {A = ℕ} (getD (replicate n 0) l 0) 0
 zeros n l = split n l (λ b. List·getD-eq-default (replicate n 0) 0 (rw length-replicate b)) (λ b. getD-replicate {A = ℕ} n l 0 0 b)
 
 -- The state between xs and ys.
-module _ (s : Setting) (ok : settingOk s ≡ true) (held : List ℕ) (full : length held ≡ 65536) (xs ys : List Call)
+module _ (s : Setting) (ok : settingOk s ≡ true) (held : List ℕ) (full : length held ≡ heldSize) (xs ys : List Call)
     (o : InOrder (sender s (fresh held)) (λ (l : ℕ). []) (xs ++ ys)) where
   between : Reached s (fresh held) xs ys
   unfolding fresh

@@ -19,7 +19,7 @@ use Rattle.rules.specs.declared.Fate.{Fate}
 use Rattle.rules.specs.declared.Fate.the-variants.{Hand, Hold}
 use Rattle.rules.specs.Tests.{_≤?_}
 use Rattle.rules.specs.Areas.{joined}
-use Rattle.rules.specs.Packets.{measured, measure}
+use Rattle.rules.specs.Packets.{measure}
 use Rattle.rules.specs.Writing.{startFrom, inside}
 use Rattle.rules.specs.Reading.{Made, hands, both, become, endFate, joinedFate, leadFate, lead, sizedNext, nextOf, front, walk, packetLane}
 use Rattle.rules.proofs.Tests.{split}

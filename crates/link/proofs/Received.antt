@@ -2,7 +2,7 @@
 -- lanes' octets where they are.
 use mathlib.Core.Path.{_≡_, refl, sym, ap, ap₂, _∙_, subst}
 use mathlib.Core.Logic.{_≢_}
-use Prim.Native.Nat.{ℕ, zero, suc, _+_, _-_, _*_, _≤_, _<_}
+use Prim.Native.Nat.{ℕ, zero, suc, _+_, _*_, _≤_, _<_}
 use native.Mathlib.Nat.{not-suc-le-zero, le-of-suc-le-suc, suc-ne-zero}
 use native.Mathlib.Omega.{arith}
 use mathlib.Core.Bool.{Bool, true, false, cond, not}
@@ -17,13 +17,13 @@ use Rattle.rules.specs.declared.Reader.{Reader}
 use Rattle.rules.specs.declared.Gap.{Gap}
 use Rattle.rules.specs.declared.Verdict.{Verdict}
 use Rattle.rules.specs.Tests.{_≤?_, _=?_, given}
-use Rattle.rules.specs.Areas.{laid, joined, part}
-use Rattle.rules.specs.Settings.{noLane, noExpect, channel, lane, channelOf, zone, readerOk}
+use Rattle.rules.specs.Areas.{laid, joined, part, heldSize, partSize, recordsSize, unitsSize}
+use Rattle.rules.specs.Settings.{noLane, noExpect, lane, channelOf, zone, readerOk}
 use Rattle.rules.specs.Frames.{ruleIn, pointerIn, zoneIn, pointsTo}
 use Rattle.rules.specs.Writing.{zoneOf, ruleOf, pointerOf}
 use Rattle.rules.specs.Reading.{missing, expected, emptied, lanesOf, gapBy, gap, Made, laneStep}
 use Rattle.rules.specs.Refusals.{refusals, judged, judge}
-use Rattle.rules.specs.Calls.{Got, areasShort, laidOut, madeBy, readOn, onVerdict, verdict, read}
+use Rattle.rules.specs.Calls.{Got, areasShort, laidOut, madeBy, readOn, onVerdict, read}
 use Rattle.rules.proofs.Tests.{split, and-left, and-right}
 use Rattle.rules.proofs.Areas.{length-laid, laid-at, laid-before, laid-after}
 use Rattle.rules.specs.Valid.{Good, GoodReader, least}
@@ -134,32 +134,32 @@ module _ (s : Setting) (g : Good s) (l : ℕ) (lh : l < s .numbered) where
 
 -- ---- octets laid into a lane's part of the held area
 
-module _ (hs h xs : List ℕ) (i : ℕ) (ih : i < 8) (slots : length hs ≡ 8) (area : length h ≡ 65536) (small : length xs ≤ 8192) where
-  room : 8192 * i + length xs ≤ length h
+module _ (hs h xs : List ℕ) (i : ℕ) (ih : i < 8) (slots : length hs ≡ 8) (area : length h ≡ heldSize) (small : length xs ≤ 8192) where
+  room : partSize * i + length xs ≤ length h
   room = omega arith
 
-  pub stored-length : length (laid h (8192 * i) xs) ≡ 65536
-  stored-length = length-laid h (8192 * i) xs room ∙ area
+  pub stored-length : length (laid h (partSize * i) xs) ≡ 65536
+  stored-length = length-laid h (partSize * i) xs room ∙ area
 
-  pub stored-here : holds (set hs i (length xs)) (laid h (8192 * i) xs) i ≡ xs
+  pub stored-here : holds (set hs i (length xs)) (laid h (partSize * i) xs) i ≡ xs
   stored-here =
-      ap (λ (n : ℕ). take n (part i (laid h (8192 * i) xs))) (getD-set-same hs i (length xs) 0 (omega arith))
-      ∙ take-take (length xs) 8192 (drop (8192 * i) (laid h (8192 * i) xs)) small ∙ laid-at h (8192 * i) xs room
+      ap (λ (n : ℕ). take n (part i (laid h (partSize * i) xs))) (getD-set-same hs i (length xs) 0 (omega arith))
+      ∙ take-take (length xs) 8192 (drop (partSize * i) (laid h (partSize * i) xs)) small ∙ laid-at h (partSize * i) xs room
 
-  pub stored-other : (l : ℕ) → (l ≡ i → ⊥) → holds (set hs i (length xs)) (laid h (8192 * i) xs) l ≡ holds hs h l
+  pub stored-other : (l : ℕ) → (l ≡ i → ⊥) → holds (set hs i (length xs)) (laid h (partSize * i) xs) l ≡ holds hs h l
   stored-other l e =
       ap₂ (λ (n : ℕ) (y : List ℕ). take n y) (getD-set-other hs i l (length xs) 0 e)
       (split i l
-      (λ q. ap (take 8192) (laid-after h (8192 * i) xs room (8192 * l) (omega arith)))
-      (λ q. laid-before h (8192 * i) xs room (8192 * l) 8192 (omega arith)))
+      (λ q. ap (take 8192) (laid-after h (partSize * i) xs room (partSize * l) (omega arith)))
+      (λ q. laid-before h (partSize * i) xs room (partSize * l) 8192 (omega arith)))
 
 -- ---- a frame that is read
 
-pub enough-areas : (h : List ℕ) (a : Lent) → length h ≡ 65536 → enough a ≡ true → areasShort h (a .units) (a .records) ≡ false
+pub enough-areas : (h : List ℕ) (a : Lent) → length h ≡ heldSize → enough a ≡ true → areasShort h (a .units) (a .records) ≡ false
 unfolding areasShort enough
 enough-areas h a e q =
-    let u : 12288 ≤ length (a .units) = leb-true _ _ (and-left _ _ q) in
-    let c : 9600 ≤ length (a .records) = leb-true _ _ (and-right (12288 ≤? length (a .units)) _ q) in
+    let u : unitsSize ≤ length (a .units) = leb-true _ _ (and-left _ _ q) in
+    let c : recordsSize ≤ length (a .records) = leb-true _ _ (and-right (unitsSize ≤? length (a .units)) _ q) in
     rw (eq-eqb (length h) 65536 e, le-ltb _ _ u, le-ltb _ _ c)
 
 -- What the lanes hold once the count v of a frame of lane i is taken.
@@ -176,7 +176,7 @@ makes s es hs h i v b k =
 pub record Taken (s : Setting) (es : List Expect) (hs h : List ℕ) (i v : ℕ) (m : Made) (o : Got) : Type 0 where
   pub state : o .taken .state
       ≡ reader s (set es (placeOf s i) (expected ((channelOf s i) .octets) v)) (set (gapped s es hs i v) i (length (m .held)))
-  pub area : o .heldArea ≡ laid h (8192 * i) (m .held)
+  pub area : o .heldArea ≡ laid h (partSize * i) (m .held)
   pub units : (l : ℕ) → handed l o ≡ cond (i =? l) (m .units) []
   pub small : length (m .held) ≤ 8192
 
@@ -203,7 +203,7 @@ module _ (s : Setting) (es : List Expect) (hs h : List ℕ) (a : Lent) (i v : �
       go (suc m) = unfold gapBy in rw (ne-eqb (suc m) 0 (suc-ne-zero m))
 
   module _ (b ins oc : List ℕ) (k : ℕ) (f : List ℕ) (back : FrameBack s i v b ins oc k f) (ok : readerOk (reader s es hs) ≡ true)
-      (ih : i < s .numbered) (full : length h ≡ 65536) (lent : enough a ≡ true) where
+      (ih : i < s .numbered) (full : length h ≡ heldSize) (lent : enough a ≡ true) where
     abbrev g : Gap
     g = gap (reader s es hs) c v
 
@@ -237,9 +237,9 @@ module _ (s : Setting) (es : List Expect) (hs h : List ℕ) (a : Lent) (i v : �
         gr : GoodReader (reader s es hs)
         gr = good-reader (reader s es hs) ok
 
-        fits : length (joined ((made b k) .units)) ≤ 12288
+        fits : length (joined ((made b k) .units)) ≤ unitsSize
         fits =
-            subst (λ (o : Got). o .taken .answer .octets ≤ 12288)
+            subst (λ (o : Got). o .taken .answer .octets ≤ unitsSize)
             (read-is ∙ ap (λ (m : Made). laidOut g i v m h (a .units) (a .records)) made-is)
             (read-fits (reader s es hs) f h (a .units) (a .records) .octets)
 

@@ -1,6 +1,6 @@
 -- What a lane's units and records, laid into areas, read back by the records: the lane's units, and for another lane none.
 use mathlib.Core.Path.{_≡_, refl, sym, ap, ap₂, _∙_}
-use Prim.Native.Nat.{ℕ, _+_, _-_, _^_, _≤_, _<_}
+use Prim.Native.Nat.{ℕ, _+_, _^_, _≤_, _<_}
 use native.Mathlib.Omega.{arith}
 use mathlib.Core.Bool.{Bool, true, false, cond}
 use mathlib.Core.List.{List, [], _∷_, _++_, append-assoc}
@@ -10,7 +10,7 @@ use Rattle.rules.specs.declared.Info.{Info}
 use Rattle.rules.specs.declared.Gap.{Gap}
 use Rattle.rules.specs.Tests.{_=?_}
 use Rattle.rules.specs.Octets.{be}
-use Rattle.rules.specs.Areas.{laid, joined}
+use Rattle.rules.specs.Areas.{laid, joined, unitsSize}
 use Rattle.rules.specs.Reading.{Made, recordOf, recordsFrom, infoOf}
 use Rattle.rules.specs.Calls.{laidOut}
 use Rattle.rules.proofs.Octets.{num-be-below}
@@ -48,7 +48,7 @@ module _ (i : Info) (l : ℕ) where
       ∙ pick-append (i .lane =? l) (u ∷ []) us
 
 -- What a read that lays a lane's units and records out hands out on lane l.
-pub handed-laid : (l : ℕ) (g : Gap) (ours count : ℕ) (m : Made) (h u c : List ℕ) → length (joined (m .units)) ≤ 12288
+pub handed-laid : (l : ℕ) (g : Gap) (ours count : ℕ) (m : Made) (h u c : List ℕ) → length (joined (m .units)) ≤ unitsSize
     → handed l (laidOut g ours count m h u c) ≡ cond (ours =? l) (m .units) []
 unfolding handed laidOut laid infoOf
 handed-laid l g ours count m h u c b =

@@ -1,7 +1,7 @@
 -- Which octets a run refuses. A read of a valid reader with areas of the size asked for ends as refusals 3 to 12 say of its octets, and leaves
 -- such a reader; so do all reads of a run, whatever arrives. Frames that were written are refused by none.
 use mathlib.Core.Path.{_≡_, refl, sym, ap, ap₂, _∙_, subst}
-use Prim.Native.Nat.{ℕ, zero, suc, _+_, _*_}
+use Prim.Native.Nat.{ℕ, zero, suc, _*_}
 use native.Mathlib.Omega.{arith}
 use mathlib.Core.Bool.{Bool, true, false, cond, not, _&&_, false≢true}
 use mathlib.Core.List.{List, [], _∷_, _++_}
@@ -16,7 +16,7 @@ use Rattle.rules.specs.declared.Outcome.{Outcome}
 use Rattle.rules.specs.declared.Outcome.the-variants.{Done, Refused}
 use Rattle.rules.specs.declared.Verdict.{Verdict}
 use Rattle.rules.specs.Tests.{_=?_, _≠?_, given}
-use Rattle.rules.specs.Settings.{channel, lane, channelOf, readerOk}
+use Rattle.rules.specs.Settings.{lane, channelOf, readerOk}
 use Rattle.rules.specs.Frames.{vc, map, bypass, command, countIn}
 use Rattle.rules.specs.Refusals.{channelAt, laneAt, refusals, onChannel, passed, judged, judge}
 use Rattle.rules.specs.Calls.{Got, laidOut, readOn, onVerdict, verdict, read}
@@ -30,6 +30,7 @@ use Rattle.link.specs.Corollaries.{endOf, ends, refusedBy, applying, Ref
 use Rattle.link.proofs.Received.{enough-areas}
 use Rattle.link.proofs.Run.{State, sender, hearer, frame, afterGone, Ready, ready-gone, Onward, onward}
 use Rattle.link.proofs.Theorem.{fresh, fresh-ready, fresh-ends}
+use Rattle.rules.specs.Areas.{heldSize, partSize}
 
 -- ---- one read
 
@@ -56,7 +57,7 @@ judged-is s f zero = by-channel (channelAt s (vc f) (bypass f))
     by-channel (At c) = by-lane c (laneAt s c (map f))
 judged-is s f (suc n) = refl
 
-module _ (r : Reader) (f h : List ℕ) (a : Lent) (ok : readerOk r ≡ true) (full : length h ≡ 65536) (lent : enough a ≡ true) where
+module _ (r : Reader) (f h : List ℕ) (a : Lent) (ok : readerOk r ≡ true) (full : length h ≡ heldSize) (lent : enough a ≡ true) where
   abbrev answer : Got
   answer = read r f h (a .units) (a .records)
 
@@ -84,11 +85,11 @@ module _ (r : Reader) (f h : List ℕ) (a : Lent) (ok : readerOk r ≡ true) (fu
       go (Verdict.Counted c) = unfold onVerdict in gap-setting r c _
       go (Verdict.Read l) = unfold onVerdict readOn laidOut in gap-setting r _ _
 
-  area-stays : length (answer .heldArea) ≡ 65536
+  area-stays : length (answer .heldArea) ≡ heldSize
   unfolding read
   area-stays = go (verdict r f h (a .units) (a .records)) (verdict-facts r f h (a .units) (a .records))
     where
-      go : (v : Verdict) → Ruled r f h (a .units) (a .records) v → length ((onVerdict v r f h (a .units) (a .records)) .heldArea) ≡ 65536
+      go : (v : Verdict) → Ruled r f h (a .units) (a .records) v → length ((onVerdict v r f h (a .units) (a .records)) .heldArea) ≡ heldSize
       go (Verdict.Refused n) o = unfold onVerdict in full
       go Verdict.Idle o = unfold onVerdict in full
       go (Verdict.Counted c) o = unfold onVerdict in full
@@ -98,7 +99,7 @@ module _ (r : Reader) (f h : List ℕ) (a : Lent) (ok : readerOk r ≡ true) (fu
           let few = made-below r f h l (o .good) (o .judged .numbered) k (channelOf (r .setting) l) in
           let most = o .good .setting .lanes l (o .judged .numbered) .kind .most in
           let same = ap (λ (y : Setting). (lane y l) .longest) (gap-setting r ((lane (r .setting) l) .channel) k) in
-          length-laid h (8192 * l) _ (omega (arith, few, most, same, o .judged .numbered, o .good .setting .numbered)) ∙ full
+          length-laid h (partSize * l) _ (omega (arith, few, most, same, o .judged .numbered, o .good .setting .numbered)) ∙ full
 
 -- ---- all reads
 
@@ -107,7 +108,7 @@ abbrev Sized : List Arrival → Type 0
 Sized [] = Unit {0}
 Sized (a ∷ more) = (enough (a .lent) ≡ true) × Sized more
 
-reads-end : (s : Setting) (xs : List Arrival) (r : Reader) (h : List ℕ) → r .setting ≡ s → readerOk r ≡ true → length h ≡ 65536 → Sized xs
+reads-end : (s : Setting) (xs : List Arrival) (r : Reader) (h : List ℕ) → r .setting ≡ s → readerOk r ≡ true → length h ≡ heldSize → Sized xs
     → ends (reads r h xs) ≡ applying s xs
 unfolding reads ends applying
 reads-end s [] r h e ok full z = refl

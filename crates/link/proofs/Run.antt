@@ -1,7 +1,7 @@
 -- A run, call by call: what an accepted call leaves, what each frame's passage leaves at the reader, and the induction over the calls.
 use mathlib.Core.Path.{_≡_, refl, sym, ap, ap₂, _∙_, subst}
 use mathlib.Core.Logic.{_⊎_, _≢_}
-use Prim.Native.Nat.{ℕ, _+_, _*_, _≤_, _<_}
+use Prim.Native.Nat.{ℕ, _*_, _≤_, _<_}
 use native.Mathlib.Omega.{arith}
 use mathlib.Core.Bool.{true, false, cond, not, _&&_, false≢true}
 use mathlib.Core.List.{List, [], _∷_, _++_}
@@ -13,8 +13,8 @@ use Rattle.rules.specs.declared.Reader.{Reader}
 use Rattle.rules.specs.declared.Writer.{Writer}
 use Rattle.rules.specs.declared.Outcome.the-variants.{Done}
 use Rattle.rules.specs.Tests.{_=?_, _≠?_, given}
-use Rattle.rules.specs.Areas.{laid}
-use Rattle.rules.specs.Settings.{lane, channelOf, zone, readerOk}
+use Rattle.rules.specs.Areas.{laid, heldSize, partSize}
+use Rattle.rules.specs.Settings.{channelOf, zone, readerOk}
 use Rattle.rules.specs.Writing.{frames, numberAfter, countAfter, writerAfter}
 use Rattle.rules.specs.Reading.{expected, Made}
 use Rattle.rules.specs.Refusals.{refusals}
@@ -80,7 +80,7 @@ module _ (s : Setting) where
         next = (afterGone st x) .next;
         expects = set (st .expects) (placeOf s (x .lane)) (expected ((channelOf s (x .lane)) .octets) (countOf st x));
         held = set (gapped s (st .expects) (st .held) (x .lane) (countOf st x)) (x .lane) (length ((madeOf st x) .held));
-        area = laid (st .area) (8192 * x .lane) ((madeOf st x) .held);
+        area = laid (st .area) (partSize * x .lane) ((madeOf st x) .held);
         last = (afterGone st x) .last;
         past = (afterGone st x) .past;
       }
@@ -91,7 +91,7 @@ module _ (s : Setting) where
     pub next-8 : length (st .next) ≡ 8
     pub expects-8 : length (st .expects) ≡ 8
     pub held-8 : length (st .held) ≡ 8
-    pub full : length (st .area) ≡ 65536
+    pub full : length (st .area) ≡ heldSize
     pub valid : readerOk (reader s (st .expects) (st .held)) ≡ true
 
   -- ---- an accepted call

@@ -1,6 +1,5 @@
 -- Demand 3. For a lane, what both ends know of it is its invariant; for a number that is no lane there is nothing to know.
 use mathlib.Core.Path.{_≡_, refl, sym, ap, _∙_, subst}
-use mathlib.Core.Logic.{_≢_}
 use Prim.Native.Nat.{ℕ, _*_, _^_, _<_}
 use native.Mathlib.Nat.{not-suc-le-zero, zero-add}
 use native.Mathlib.Omega.{arith}
@@ -14,7 +13,7 @@ use Rattle.rules.specs.declared.Writer.{Writer}
 use Rattle.rules.specs.declared.Listener.{Listener}
 use Rattle.rules.specs.declared.Sender.{Sender}
 use Rattle.rules.specs.declared.Outcome.the-variants.{Done, Refused}
-use Rattle.rules.specs.Areas.{part}
+use Rattle.rules.specs.Areas.{part, heldSize}
 use Rattle.rules.specs.Settings.{noExpect, channel, lane, channelOf, zone, settingOk, freshReader, freshWriter, noWriter}
 use Rattle.rules.specs.Writing.{unitsOf}
 use Rattle.rules.specs.Calls.{setUpReader, setUpWriter}
@@ -46,7 +45,7 @@ fresh h =
       past = [];
     }
 
-module _ (s : Setting) (ok : settingOk s ≡ true) (h : List ℕ) (full : length h ≡ 65536) where
+module _ (s : Setting) (ok : settingOk s ≡ true) (h : List ℕ) (full : length h ≡ heldSize) where
   pub fresh-ready : Ready s (fresh h)
   unfolding fresh freshReader
   fresh-ready =
@@ -103,7 +102,7 @@ DemandOf s h xs l w r =
     → ((c : ℕ) → c < s .listed → fewGone (256 ^ (channel s c) .octets) false 0 (keptOn s c (sent w xs)) ≡ true)
     → handedOut l (reads r h (arrivals (sent w xs))) ≡ due s l [] (sent w xs)
 
-from-fresh : (s : Setting) (h : List ℕ) (xs : List Call) → settingOk s ≡ true → length h ≡ 65536 → (l : ℕ)
+from-fresh : (s : Setting) (h : List ℕ) (xs : List Call) → settingOk s ≡ true → length h ≡ heldSize → (l : ℕ)
     → DemandOf s h xs l (sender s (fresh h)) (hearer s (fresh h))
 unfolding fresh frameBy
 from-fresh s h xs ok full l order pass near =

@@ -7,7 +7,7 @@ use lib.ListN.{length, getD, set}
 use lib.Seq.{getD-set-same, getD-set-other}
 use borrow.Author.Tests.{ne-eqb, eq-eqb}
 use Rattle.rules.specs.declared.Setting.{Setting}
-use Rattle.rules.specs.Settings.{noExpect, channel, lane, channelOf}
+use Rattle.rules.specs.Settings.{noExpect, channel, channelOf}
 use Rattle.rules.specs.Writing.{countAfter}
 use Rattle.rules.proofs.Tests.{same}
 use Rattle.link.specs.Link.{Call, Frame}

@@ -15,6 +15,7 @@ use Rattle.rules.specs.Refusals.{refusals}
 use Rattle.rules.specs.Calls.{setUpReader, setUpWriter, Got}
 use Rattle.link.specs.Link.{Lent, Arrival, Passage, Kept, Gone, Call, called, Frame, sent, arrivals, reads, handedOut}
 use Rattle.link.specs.Due.{kept, placeOf, due}
+use Rattle.rules.specs.Areas.{heldSize, recordsSize, unitsSize}
 
 -- ---- the writer's calls
 
@@ -35,7 +36,7 @@ InOrder w last (x ∷ xs) =
 
 -- "Areas of the size asked for."
 unfoldable pub enough : Lent → Bool
-enough a = 12288 ≤? length (a .units) && 9600 ≤? length (a .records)
+enough a = unitsSize ≤? length (a .units) && recordsSize ≤? length (a .records)
 
 -- "Refused octet strings": one of refusals 3 to 12 applies, which look at the octets and the setting alone.
 unfoldable pub allRefused : Setting → List Arrival → Bool
@@ -77,7 +78,7 @@ pub record Run (s : Setting) (held : List ℕ) (xs : List Call) : Type 0 where
   pub writer : (setUpWriter s) .outcome ≡ Done
   pub reader : (setUpReader s) .outcome ≡ Done
   pub calls : InOrder ((setUpWriter s) .state) (λ (l : ℕ). []) xs
-  pub area : length held ≡ 65536
+  pub area : length held ≡ heldSize
   pub link : allPass s (framesOf s xs) ≡ true
 
 -- "Between two kept frames of one channel and service fewer gone than 256^n."

@@ -11,6 +11,7 @@ use Rattle.rules.specs.Calls.{Got}
 use Rattle.link.specs.Link.{Lent, Arrival, Passage, Kept, Gone, Call, Frame, handedOut}
 use Rattle.link.specs.Due.{due}
 use Rattle.link.specs.Demand.{framesOf, readsOf}
+use Rattle.rules.specs.Areas.{heldSize, recordsSize, unitsSize}
 
 -- A packet of n octets, of which all after the header are x.
 unfoldable pub packet : ℕ → ℕ → List ℕ
@@ -18,7 +19,7 @@ packet n x = 0x00 ∷ 0x01 ∷ 0xC0 ∷ 0x00 ∷ 0x00 ∷ (n - 7) ∷ replicate 
 
 -- Areas full of x.
 unfoldable pub full : ℕ → Lent
-full x = record { units = replicate 12288 x; records = replicate 9600 x }
+full x = record { units = replicate unitsSize x; records = replicate recordsSize x }
 
 -- Areas longer than asked for.
 unfoldable pub roomy : Lent
@@ -199,7 +200,7 @@ gapOf n = (keep 0 a₀ ∷ lose 0 a₀ [] ∷ []) ++ gone n 2 ++ (lose 0 b₀ []
 
 -- A held area with anything in it.
 abbrev pub held : List ℕ
-held = replicate 65536 0x66
+held = replicate heldSize 0x66
 
 -- What reads hand out on some lanes, and what is due there.
 unfoldable pub onEach : List ℕ → List Got → List (List (List ℕ))

@@ -9,6 +9,7 @@ use Rattle.rules.specs.Tests.{_=?_}
 use Rattle.rules.specs.Octets.{num}
 use Rattle.rules.specs.Settings.{number}
 use Rattle.rules.specs.Calls.{Sent, write, Got, read}
+use Rattle.rules.specs.Areas.{recordSize}
 
 -- ---- the writer's end
 
@@ -92,7 +93,7 @@ unitBy records units = take (num (take 4 (drop 8 records))) (drop (num (take 4 (
 unfoldable pub unitsBy : ℕ → ℕ → List ℕ → List ℕ → List (List ℕ)
 unitsBy l zero records units = []
 unitsBy l (suc n) records units =
-    cond (getD records 0 0 =? l) (unitBy records units ∷ []) [] ++ unitsBy l n (drop 16 records) units
+    cond (getD records 0 0 =? l) (unitBy records units ∷ []) [] ++ unitsBy l n (drop recordSize records) units
 
 -- What a read hands out on lane l.
 unfoldable pub handed : ℕ → Got → List (List ℕ)

@@ -1,10 +1,10 @@
 -- From frame to frame: the listing of what follows goes on from the state and the areas that a read leaves.
-use Prim.Native.Nat.{ℕ, zero, suc, _+_, _*_, _≤_, _<_}
+use Prim.Native.Nat.{ℕ, suc, _+_}
 use mathlib.Core.Path.{_≡_, refl, sym, ap, subst, _∙_}
-use mathlib.Core.Bool.{Bool, true, false, cond, false≢true}
-use mathlib.Core.List.{List, [], _∷_, _++_, append-assoc}
-use lib.ListN.{length, take, drop, replicate, length-append}
-use native.Mathlib.Nat.{zero-add, add-assoc}
+use mathlib.Core.Bool.{Bool, true, false, false≢true}
+use mathlib.Core.List.{List, [], _++_, append-assoc}
+use lib.ListN.{length, replicate, length-append}
+use native.Mathlib.Nat.{zero-add}
 use native.Mathlib.Omega.{arith}
 use borrow.Author.Tests.{ne-eqb}
 use Rattle.rules.specs.declared.Listener.{Listener}
@@ -18,7 +18,7 @@ use Rattle.rules.proofs.Promises.{reader-starts-is}
 use Rattle.rules.specs.Listing.{line, lines}
 use Rattle.rules.specs.Worked.{worked, packetLane}
 use Rattle.rules.specs.Settings.{settingOk, rangesOk, channelsOk, channelOk, channelsAgree, lanesOk, laneOk, lanesDiffer, kindOk, zone, freshReader, noReader, noSetting}
-use Rattle.rules.specs.Tests.{_=?_, every, all}
+use Rattle.rules.specs.Tests.{every, all}
 use lib.Seq.{take-at, drop-at}
 use Rattle.rules.proofs.States.{gap-setting}
 use Rattle.listing.specs.Runs.{linesOf, Reached, GoesOn, Listed}

@@ -1,7 +1,7 @@
 -- What a function that puts octets into an area leaves there, and where the next ones go.
 use Prim.Native.Nat.{ℕ, _+_}
 use mathlib.Core.Path.{_≡_}
-use mathlib.Core.List.{List, [], _∷_, _++_}
+use mathlib.Core.List.{List, _++_}
 use lib.ListN.{length}
 use Rattle.rules.specs.declared.Class.{Class}
 use Rattle.rules.specs.Areas.{laid}

@@ -144,9 +144,9 @@ fn worth(a: Answer) -> u64 {
 
 // A read of each frame.
 fn read(size: usize, area: &mut [u8]) {
-    let mut held = [0u8; 65536];
-    let mut units = [0u8; 12288];
-    let mut records = [0u8; 9600];
+    let mut held = [0u8; rules::HELD_SIZE];
+    let mut units = [0u8; rules::UNITS_SIZE];
+    let mut records = [0u8; rules::RECORDS_SIZE];
     let s = setting_of(size);
     let l = reader::set_up(s);
     let mut state = l.state;

@@ -5,7 +5,7 @@ use native.Mathlib.Nat.{zero-lt-suc, zero-add, le-of-eq, add-sub-of-le, le-antis
 use native.Mathlib.Numerals.{add-one}
 use native.Mathlib.Omega.{arith}
 use mathlib.Core.List.{List, [], _∷_, _++_, append-assoc, append-nil}
-use lib.ListN.{length, getD, take, drop, set, replicate, length-append, length-drop, length-set, length-replicate, drop-of-length-le}
+use lib.ListN.{length, getD, take, drop, set, replicate, length-append, length-drop, length-replicate, drop-of-length-le}
 use lib.Seq.{paste, paste-suc, length-take-le, take-all, take-suc, take-length, drop-cons, drop-drop, set-at}
 use lib.Pow.{pow-add}
 use borrow.Rule.Slice.PartMut.{putMid}

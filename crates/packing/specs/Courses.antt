@@ -23,6 +23,7 @@ use Rattle.packing.specs.declared.Window.{Window}
 use Rattle.packing.specs.declared.Course.{Course}
 use Rattle.packing.specs.declared.Job.{Job}
 use Rattle.packing.specs.declared.Step.{Step}
+use Rattle.rules.specs.Areas.{batchSize}
 
 -- ---- faults
 
@@ -101,7 +102,7 @@ Unless c d = (c .fault ≡ faults.NotSent → ⊥) → c ≡ d
 
 -- "Every argument and every file is looked through before the first frame is written." A batch has no more frames than octets.
 unfoldable pub batchOn : Job → Course → List ℕ → List ℕ → List ℕ → Course
-batchOn j c batch insert ocf = cond (j .writing) (workedOff 32768 c (j .lane) batch insert ocf areaBefore) c
+batchOn j c batch insert ocf = cond (j .writing) (workedOff batchSize c (j .lane) batch insert ocf areaBefore) c
 
 -- How many of the octets in a window are the next batch.
 unfoldable pub nextBatch : Job → Window → List ℕ → ℕ

@@ -12,11 +12,11 @@ ghost use Rattle.io.specs.Counts.{Counts};
 ghost use Rattle.rules.specs.Settings.{lane, channel, ocfOctets, number};
 ghost use Rattle.packing.specs.Words.{begins as beginsWith, lane as laneNamed, nameOf, badPlan, planOn, fine};
 ghost use Rattle.packing.specs.Courses.{sound, wrongFault, Refilled, ended, oneMore, sentFault, SentNext, goesOn, Unless, workedOff, areaBefore, batchOn, noBatch, nextBatch, Stepped, Passed, unitCourse, UnitPassed, LanePassed};
+ghost use Rattle.rules.specs.Areas.{batchSize};
 use gathering::Wrong;
 use rules::Kind;
 use rules::Lane;
 use rules::Outcome;
-use rules::Sender;
 use rules::Setting;
 use rules::Writer;
 
@@ -353,7 +353,7 @@ fn goes_on(c: Course, l: usize) -> bool
 
 // Works a batch off. It has no more frames than octets.
 fn work_off(c: Course, l: usize, batch: &[u8], insert: &[u8], ocf: &[u8]) -> Course
-    ensures { λ r. ⌜ Unless r (workedOff 32768 c l (now (batch .entry)) (now (insert .entry)) (now (ocf .entry)) areaBefore) ⌝ }
+    ensures { λ r. ⌜ Unless r (workedOff batchSize c l (now (batch .entry)) (now (insert .entry)) (now (ocf .entry)) areaBefore) ⌝ }
 {
     let mut area = [0u8; 4096];
     let mut course = c;

@@ -1,25 +1,23 @@
 -- A lane's step on a data field, and what it leaves in the areas.
-use mathlib.Core.Path.{_≡_, refl, sym, ap, ap₂, _∙_}
-use Prim.Native.Nat.{ℕ, _+_, _-_, _*_, _≤_, _<_}
+use mathlib.Core.Path.{_≡_, sym, ap, _∙_}
+use Prim.Native.Nat.{ℕ, _+_, _*_, _≤_, _<_}
 use native.Mathlib.Nat.{add-zero}
 use native.Mathlib.Omega.{arith}
 use mathlib.Core.List.{List, _++_}
 use lib.ListN.{length, take, drop, length-take, length-drop}
-use lib.Seq.{length-take-le, take-all}
-use Rattle.rules.specs.declared.Kind.{Kind}
-use Rattle.rules.specs.declared.Place.{Place}
+use lib.Seq.{length-take-le}
 use Rattle.rules.specs.declared.Info.{Info}
 use Rattle.rules.specs.declared.Channel.{Channel}
 use Rattle.rules.specs.declared.Gap.{Gap}
 use Rattle.rules.specs.declared.Setting.{Setting}
 use Rattle.rules.specs.declared.Taken.{Taken}
-use Rattle.rules.specs.Areas.{laid, joined, part, partSize, unitsSize}
-use Rattle.rules.specs.Reading.{Made, laneStep, recordsFrom, infoOf}
+use Rattle.rules.specs.Areas.{laid, part, partSize, unitsSize}
+use Rattle.rules.specs.Reading.{Made, laneStep, infoOf}
 use Rattle.rules.specs.Settings.{channel, lane, channelOf, heldBy, zoneAt, zone}
-use Rattle.rules.specs.Frames.{pointsTo, pointerIn, ruleIn, zoneIn, countIn}
-use Rattle.rules.specs.Calls.{Got, laidOut, madeBy, readOn}
+use Rattle.rules.specs.Frames.{zoneIn, countIn}
+use Rattle.rules.specs.Calls.{laidOut, madeBy, readOn}
 use Rattle.rules.proofs.Areas.{laid-part}
-use Rattle.rules.specs.Valid.{GoodKind, Inside}
+use Rattle.rules.specs.Valid.{GoodKind}
 use Rattle.rules.proofs.Lanes.{lane-total, lane-below, total}
 use Rattle.handing.specs.declared.Led.{Led}
 use Rattle.lanes.specs.Steps.{Lent, Stepped}

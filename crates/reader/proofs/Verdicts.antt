@@ -2,7 +2,6 @@
 use mathlib.Core.Path.{_≡_, refl, sym, ap, _∙_}
 use mathlib.Core.Bool.{true, false}
 use Prim.Native.Nat.{ℕ, _^_, _≤_, _<_}
-use native.Mathlib.Omega.{arith}
 use mathlib.Core.List.{List}
 use lib.ListN.{length}
 use borrow.Author.Tests.{eqb-true, ltb-false}
@@ -18,7 +17,6 @@ use Rattle.rules.specs.Calls.{Got, areasShort, readOn, onVerdict, verdict, read
 use borrow.Author.Tests.{not-false}
 use Rattle.rules.proofs.Tests.{or-none}
 use Rattle.rules.proofs.States.{reader-ok, gap-setting, good-gap}
-use Rattle.rules.specs.Valid.{Reads}
 use Rattle.rules.specs.Promises.{ReadGives}
 use Rattle.rules.proofs.Promises.{Keeps, read-by}
 use Rattle.rules.proofs.Calls.{Ordered, Ruled, verdict-cond, verdict-facts}

@@ -1,6 +1,6 @@
 -- Slot after slot is all eight.
 use mathlib.Core.Path.{_≡_, sym, ap, ap₂, _∙_}
-use Prim.Native.Nat.{ℕ, suc, _+_}
+use Prim.Native.Nat.{ℕ, _+_}
 use native.Mathlib.Numerals.{add-one}
 use mathlib.Core.List.{List}
 use lib.ListN.{set}

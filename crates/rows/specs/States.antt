@@ -1,6 +1,6 @@
 -- Settings and states in rows. A state has 17 rows: the setting's first numbers, then each channel slot, then each lane slot.
 use Prim.Native.Nat.{ℕ, zero, suc, _+_, _*_, _%_}
-use mathlib.Core.Bool.{Bool, false, cond}
+use mathlib.Core.Bool.{false, cond}
 use mathlib.Core.List.{List, [], _∷_, _++_}
 use lib.ListN.{getD, set, replicate}
 use Rattle.rules.specs.declared.Kind.{Kind}

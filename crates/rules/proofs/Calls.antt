@@ -1,11 +1,10 @@
 -- The calls: a refusal changes nothing; a valid state stays valid; units and records of any frame fit their areas.
-use mathlib.Core.Path.{_≡_, refl, sym, ap, _∙_, subst}
-use mathlib.Core.Logic.{_≢_}
-use Prim.Native.Nat.{ℕ, zero, suc, _+_, _-_, _*_, _≤_, _<_}
+use mathlib.Core.Path.{_≡_, refl, ap}
+use Prim.Native.Nat.{ℕ, zero, suc, _*_, _≤_, _<_}
 use native.Mathlib.Nat.{zero-lt-suc, le-trans}
 use native.Mathlib.Omega.{arith}
-use mathlib.Core.Bool.{Bool, true, false, cond, not, _||_}
-use mathlib.Core.List.{List, [], _∷_}
+use mathlib.Core.Bool.{Bool, true, false, cond, not}
+use mathlib.Core.List.{List}
 use lib.ListN.{length, take, drop, length-take}
 use borrow.Author.Tests.{leb-false, ltb-false, eqb-true, not-false}
 use Rattle.rules.specs.declared.Channel.{Channel}
@@ -16,8 +15,6 @@ use Rattle.rules.specs.declared.Outcome.{Outcome}
 use Rattle.rules.specs.declared.Outcome.the-variants.{Done, Refused}
 use Rattle.rules.specs.declared.Class.{Class}
 use Rattle.rules.specs.declared.Answer.{Answer}
-use Rattle.rules.specs.declared.Listener.{Listener}
-use Rattle.rules.specs.declared.Sender.{Sender}
 use Rattle.rules.specs.declared.Verdict.{Verdict}
 use Rattle.rules.specs.declared.Gap.{Gap}
 use Rattle.rules.specs.Tests.{given}
@@ -25,15 +22,15 @@ use Rattle.rules.specs.Areas.{joined, part, recordSize, recordsSize, uni
 use Rattle.rules.specs.Settings.{channel, lane, channelOf, heldBy, number, zoneAt, zoneFor, zone, ocfOctets, settingOk, readerOk, writerOk, freshReader, freshWriter, noReader, noWriter}
 use Rattle.rules.specs.Frames.{countIn, ruleIn, pointerIn, zoneIn, pointsTo}
 use Rattle.rules.specs.Writing.{batchOk, frames}
-use Rattle.rules.specs.Reading.{gap, Made, laneStep}
+use Rattle.rules.specs.Reading.{gap, Made}
 use Rattle.rules.specs.Refusals.{refusals, judged, judge}
-use Rattle.rules.specs.Calls.{setUpReader, setUpWriter, Sent, writeRefusals, written, write, Got, areasShort, bare, laidOut, madeBy, readOn, onVerdict, readRefusals, verdict, read}
+use Rattle.rules.specs.Calls.{setUpReader, setUpWriter, writeRefusals, written, write, areasShort, bare, laidOut, madeBy, readOn, onVerdict, readRefusals, verdict, read}
 use Rattle.rules.proofs.Tests.{or-none, given-zero}
-use Rattle.rules.specs.Valid.{Good, GoodChannel, GoodKind, GoodReader, GoodWriter, Reads}
+use Rattle.rules.specs.Valid.{GoodKind, GoodReader, GoodWriter}
 use Rattle.rules.proofs.Valid.{good-reader, good-writer, good-channelOf}
 use Rattle.rules.proofs.Lanes.{total, lane-total, lane-below, lane-few}
 use Rattle.rules.proofs.Judged.{Judged, judge-facts}
-use Rattle.rules.proofs.States.{reader-ok, writer-ok, fresh-reader, fresh-writer, no-reader, no-writer, gap-setting, good-gap, good-held, frames-few, GoodBatch, good-batch, good-after}
+use Rattle.rules.proofs.States.{reader-ok, writer-ok, fresh-reader, fresh-writer, no-reader, no-writer, gap-setting, good-gap, good-held, frames-few, good-batch, good-after}
 
 -- ---- set-up
 

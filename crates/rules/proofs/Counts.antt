@@ -1,6 +1,6 @@
 -- Facts about counts, once over n: counts are taken modulo 256^n.
 use mathlib.Core.Path.{_≡_, refl, sym, ap, _∙_}
-use Prim.Native.Nat.{ℕ, zero, suc, _+_, _-_, _*_, _%_, _^_, _≤_, _<_}
+use Prim.Native.Nat.{ℕ, suc, _+_, _-_, _%_, _^_, _<_}
 use native.Mathlib.Nat.{add-zero, mod-lt, mod-eq-of-lt, mod-self, mod-mod, mod-add-mod, add-mod-right}
 use native.Mathlib.Omega.{arith}
 use mathlib.Core.Bool.{Bool, true, false, cond}

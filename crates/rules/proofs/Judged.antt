@@ -1,10 +1,10 @@
 -- What is known of a frame when none of refusals 3 to 12 applies, and of what it then is.
-use mathlib.Core.Path.{_≡_, refl, sym, ap, _∙_, subst}
-use Prim.Native.Nat.{ℕ, zero, suc, _+_, _-_, _*_, _/_, _%_, _^_, _≤_, _<_}
+use mathlib.Core.Path.{_≡_, refl, _∙_}
+use Prim.Native.Nat.{ℕ, zero, suc, _+_, _-_, _*_, _/_, _%_, _^_, _<_}
 use native.Mathlib.Nat.{zero-lt-suc, mod-lt}
 use native.Mathlib.Omega.{arith}
-use mathlib.Core.Bool.{Bool, true, false, cond, not, _&&_, _||_, true≢false, false≢true}
-use mathlib.Core.List.{List, [], _∷_}
+use mathlib.Core.Bool.{Bool, true, false, cond, not, _&&_, _||_, false≢true}
+use mathlib.Core.List.{List}
 use lib.ListN.{length, take}
 use borrow.Author.Tests.{ltb-true, eqb-true, eqb-false, not-false}
 use Rattle.rules.specs.declared.Setting.{Setting}
@@ -12,13 +12,13 @@ use Rattle.rules.specs.declared.Place.{Place}
 use Rattle.rules.specs.declared.Place.the-variants.{At, Nowhere}
 use Rattle.rules.specs.declared.Verdict.{Verdict}
 use Rattle.rules.specs.declared.Verdict.the-variants.{Refused, Idle, Counted, Read}
-use Rattle.rules.specs.Tests.{_<?_, _=?_, _≠?_, first, none, at, Refusal, refuse, given}
+use Rattle.rules.specs.Tests.{_<?_, _=?_, _≠?_, none, at, given}
 use Rattle.rules.specs.Octets.{num, bits, flag}
-use Rattle.rules.specs.Settings.{channel, lane, channelOf, zone}
-use Rattle.rules.specs.Frames.{version, craft, sourceBit, vc, map, endOfHeader, lengthField, bypass, command, spare, ocfFlag, countLength, ruleIn, upidIn, pointerIn, checkHolds, pointsTo}
-use Rattle.rules.specs.Refusals.{channelAt, laneAt, ruleFits, dataWrong, refusalsAt, refusals, onChannel, passed, judged, judge}
+use Rattle.rules.specs.Settings.{channel, lane, zone}
+use Rattle.rules.specs.Frames.{version, craft, sourceBit, vc, map, endOfHeader, lengthField, bypass, command, spare, ocfFlag, countLength, pointerIn, checkHolds, pointsTo}
+use Rattle.rules.specs.Refusals.{channelAt, laneAt, dataWrong, refusalsAt, refusals, onChannel, passed, judged, judge}
 use Rattle.rules.specs.Valid.{Inside, Reads}
-use Rattle.rules.proofs.Tests.{and-left, and-right, or-none, Found, first-found, given-skip, given-none, given-zero}
+use Rattle.rules.proofs.Tests.{and-left, or-none, Found, first-found, given-skip, given-none, given-zero}
 
 -- ---- the rows of the table, none of which applies
 

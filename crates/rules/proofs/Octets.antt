@@ -1,13 +1,13 @@
 -- Numbers and octets, once over n; fields, once over their place and width; the frame check has sixteen bits.
 use mathlib.Core.Path.{_≡_, refl, sym, ap, ap₂, _∙_}
 use Prim.Native.Nat.{ℕ, zero, suc, _+_, _-_, _*_, _/_, _%_, _^_, _≤_, _<_}
-use native.Mathlib.Nat.{zero-lt-suc, one-le-pow, pow-zero, pow-succ', pow-suc, mod-one, mod-lt, mod-eq-of-lt, mul-add-div-right, mul-add-mod-self-right, mul-assoc, mul-comm, add-assoc, zero-add, not-suc-le-zero, le-of-suc-le-suc, div-lt-iff-lt-mul}
+use native.Mathlib.Nat.{zero-lt-suc, one-le-pow, pow-zero, pow-succ', mod-one, mod-lt, mod-eq-of-lt, mul-add-div-right, mul-add-mod-self-right, mul-assoc, add-assoc, zero-add}
 use native.Mathlib.Omega.{arith}
-use mathlib.Core.Bool.{Bool, true, false, cond}
+use mathlib.Core.Bool.{Bool, true, false}
 use mathlib.Core.List.{List, [], _∷_, _++_}
-use lib.ListN.{length, getD, take, drop, length-append}
+use lib.ListN.{length, getD, take, drop}
 use lib.Seq.{take-at, split-at, drop-cons}
-use lib.Pow.{pow-pos, pow-add, high, low}
+use lib.Pow.{pow-add, high, low}
 use lib.Arith.{mod-mul, digits-lt}
 use lib.Bits.{bitXor, xor-lt}
 use lib.Dec.{lit<}

@@ -2,7 +2,7 @@
 -- what the rule gives, and its refusals are the paper's numbers.
 use mathlib.Core.Path.{_≡_, refl, sym, ap, ap₂, _∙_}
 use mathlib.Core.Logic.{_⊎_, inl, inr}
-use Prim.Native.Nat.{ℕ, zero, suc, _*_, _<_}
+use Prim.Native.Nat.{ℕ, zero, suc}
 use native.Mathlib.Nat.{zero-lt-suc}
 use native.Mathlib.Omega.{arith}
 use mathlib.Core.Bool.{Bool, true, false, cond, not, _&&_, _||_, true≢false}
@@ -21,17 +21,14 @@ use Rattle.rules.specs.declared.Sender.{Sender}
 use Rattle.rules.specs.declared.Verdict.{Verdict}
 use Rattle.rules.specs.declared.Place.{Place}
 use Rattle.rules.specs.declared.Place.the-variants.{At, Nowhere}
-use Rattle.rules.specs.declared.Gap.{Gap}
 use Rattle.rules.specs.Tests.{_=?_, none, Refusal, given}
-use Rattle.rules.specs.Areas.{laid, joined}
-use Rattle.rules.specs.Settings.{channel, lane, channelOf, settingOk, readerOk, freshReader, freshWriter, noReader, noWriter}
+use Rattle.rules.specs.Settings.{channel, lane, settingOk, freshReader, freshWriter, noReader, noWriter}
 use Rattle.rules.specs.Frames.{vc, map, bypass, command, countIn}
-use Rattle.rules.specs.Reading.{gap, Made, recordsFrom, infoOf}
 use Rattle.rules.specs.Refusals.{channelAt, laneAt, refusalsAt, refusals, onChannel, passed, judged}
-use Rattle.rules.specs.Calls.{refusalOf, classRefusal, setUpReader, setUpWriter, Sent, writeRefusals, written, write, Got, areasShort, laidOut, madeBy, readOn, onVerdict, readRefusals, verdict, read}
+use Rattle.rules.specs.Calls.{refusalOf, classRefusal, setUpReader, setUpWriter, Sent, writeRefusals, written, write, Got, laidOut, readOn, onVerdict, readRefusals, verdict, read}
 use Rattle.rules.specs.Promises.{readerNumbers, writerNumbers, setUpNumbers, among, Told, outcomeLeaves, setUpRefusals, ReaderStarts, WriterStarts, WriteGives, placed, channelIn, laneIn, classIn, countOf, gapIn, madeIn, Values, valuesIn, classValues, classState, classArea, ReadGives}
-use Rattle.rules.proofs.Tests.{and-left, and-right, given-zero, first-found, Found}
-use Rattle.rules.specs.Valid.{Good, GoodReader}
+use Rattle.rules.proofs.Tests.{and-left, given-zero, first-found, Found}
+use Rattle.rules.specs.Valid.{GoodReader}
 use Rattle.rules.proofs.Valid.{good-reader}
 use Rattle.rules.proofs.Judged.{Clear, clear}
 use Rattle.rules.proofs.States.{gap-setting}

@@ -1,23 +1,22 @@
 -- "Ruled out by name". For each wrong reader and writer one input, or two, at which what it gives is not what the promise allows: what is
 -- allowed there is computed from the worked frames.
-use mathlib.Core.Path.{_≡_, refl, sym, ap, _∙_}
-use Prim.Native.Nat.{ℕ, zero, suc}
+use mathlib.Core.Path.{_≡_, refl, ap, _∙_}
+use Prim.Native.Nat.{ℕ, suc}
 use native.Mathlib.Omega.{arith}
 use mathlib.Core.Bool.{false}
-use mathlib.Core.List.{List, [], _∷_, _++_}
+use mathlib.Core.List.{List, [], _++_}
 use lib.ListN.{getD, replicate}
 use Rattle.rules.specs.declared.Reader.{Reader}
 use Rattle.rules.specs.declared.Writer.{Writer}
 use Rattle.rules.specs.declared.Outcome.{Outcome}
-use Rattle.rules.specs.declared.Outcome.the-variants.{Done, Refused}
 use Rattle.rules.specs.declared.Class.{Class}
 use Rattle.rules.specs.declared.Answer.{Answer}
 use Rattle.rules.specs.Tests.{given}
 use Rattle.rules.specs.Areas.{laid, joined, heldSize, recordsSize, unitsSize}
 use Rattle.rules.specs.Settings.{lane, count, number}
 use Rattle.rules.specs.Writing.{frameOf}
-use Rattle.rules.specs.Calls.{refusalOf, classRefusal, setUpReader, setUpWriter, Sent, writeRefusals, Got, readRefusals, read}
-use Rattle.rules.specs.Promises.{outcomeLeaves, WriteGives, channelIn, laneIn, classIn, countOf, gapIn, madeIn, Values, valuesIn, classValues, classArea, ReadGives}
+use Rattle.rules.specs.Calls.{setUpReader, setUpWriter, Sent, writeRefusals, Got, readRefusals, read}
+use Rattle.rules.specs.Promises.{outcomeLeaves, channelIn, laneIn, classIn, countOf, gapIn, madeIn, Values, valuesIn, classValues, classArea}
 use Rattle.rules.specs.Worked.{worked, packetLane, packet₀, packet₁, frame₀, frame₁}
 use Rattle.rules.specs.RuledOut.{OfRead, OfWrite, ReaderAllowed, WriterAllowed, readerAsFound, writerAsFound, readerRefusing, writerRefusing, readerFixed, writerFixed, untried, readerOnce, invented, readerAnswering, inventsMissing, inventsIdle, inventsFill, inventsDropped}
 use Rattle.rules.proofs.Worked.{rules}

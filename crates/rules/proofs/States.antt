@@ -1,13 +1,13 @@
 -- States: fresh ones are valid, those of zeros are not, and a valid one stays valid when a count is taken, lanes drop what they hold,
 -- a lane holds something else, or a frame is written.
-use mathlib.Core.Path.{_≡_, refl, sym, ap, _∙_, subst}
+use mathlib.Core.Path.{_≡_, refl, ap}
 use mathlib.Core.Logic.{_≢_}
-use Prim.Native.Nat.{ℕ, zero, suc, _+_, _-_, _*_, _/_, _%_, _^_, _≤_, _<_}
-use native.Mathlib.Nat.{le-refl, le-trans, mod-lt, not-suc-le-zero, div-le-of-le-mul}
+use Prim.Native.Nat.{ℕ, zero, suc, _+_, _-_, _*_, _^_, _≤_, _<_}
+use native.Mathlib.Nat.{le-refl, mod-lt, not-suc-le-zero, div-le-of-le-mul}
 use native.Mathlib.Omega.{arith}
 use mathlib.Core.Bool.{Bool, true, false, cond}
 use mathlib.Core.List.{List, [], _∷_}
-use lib.ListN.{length, getD, take, set, replicate, getD-replicate}
+use lib.ListN.{length, getD, set, replicate, getD-replicate}
 use borrow.Author.Tests.{lt-ltb, le-leb, leb-true, eqb-false}
 use Rattle.rules.specs.declared.Kind.{Kind}
 use Rattle.rules.specs.declared.Kind.the-variants.{Packets, Access}
@@ -16,16 +16,15 @@ use Rattle.rules.specs.declared.Setting.{Setting}
 use Rattle.rules.specs.declared.Expect.{Expect}
 use Rattle.rules.specs.declared.Reader.{Reader}
 use Rattle.rules.specs.declared.Writer.{Writer}
-use Rattle.rules.specs.declared.Gap.{Gap}
-use Rattle.rules.specs.Tests.{_=?_, all, every}
+use Rattle.rules.specs.Tests.{_=?_, all}
 use Rattle.rules.specs.Settings
-use Rattle.rules.specs.Settings.{channel, lane, channelOf, expect, heldBy, count, number, zone, settingOk, readerOk, writerOk, freshReader, freshWriter, noReader, noWriter, noExpect}
+use Rattle.rules.specs.Settings.{channel, lane, channelOf, expect, number, zone, settingOk, readerOk, writerOk, freshReader, freshWriter, noReader, noWriter, noExpect}
 use Rattle.rules.specs.Writing.{batchOk, frames, numberAfter, countAfter, writerAfter}
-use Rattle.rules.specs.Reading.{missing, expected, emptied, lost, lanesOf, gapBy, gap}
+use Rattle.rules.specs.Reading.{missing, expected, emptied, lanesOf, gapBy, gap}
 use Rattle.rules.proofs.Tests.{all-at, all-cons, all-nil, at-every}
 use Rattle.rules.proofs.Octets.{pow256-pos}
 use Rattle.rules.proofs.Counts.{expected-below}
-use Rattle.rules.specs.Valid.{Good, GoodKind, GoodReader, GoodWriter}
+use Rattle.rules.specs.Valid.{GoodReader, GoodWriter}
 use Rattle.rules.proofs.Valid.{good, some-longest}
 use Rattle.rules.specs.Areas.{batchSize}
 

@@ -1,11 +1,9 @@
 -- The rules of a valid setting and a valid state give each fact that they are made of.
-use mathlib.Core.Path.{_≡_, refl, sym, ap, ap₂, _∙_}
-use Prim.Native.Nat.{ℕ, zero, suc, _+_, _-_, _^_, _≤_, _<_}
+use mathlib.Core.Path.{_≡_, refl, ap₂}
+use Prim.Native.Nat.{ℕ, _≤_, _<_}
 use native.Mathlib.Omega.{arith}
-use mathlib.Core.Bool.{Bool, true, false, cond, not, _&&_, Bool·beq, true≢false, false≢true}
-use mathlib.Core.List.{List, [], _∷_}
-use lib.Dec.{eqb}
-use borrow.Author.Tests.{ltb-true, leb-true, eqb-true, eq-eqb, ne-eqb}
+use mathlib.Core.Bool.{Bool, true, false, cond, not, _&&_, Bool·beq, false≢true}
+use borrow.Author.Tests.{ltb-true, leb-true, eqb-true, eq-eqb}
 use Rattle.rules.specs.declared.Kind.{Kind}
 use Rattle.rules.specs.declared.Kind.the-variants.{Packets, Access}
 use Rattle.rules.specs.declared.Channel.{Channel}
@@ -13,12 +11,11 @@ use Rattle.rules.specs.declared.Lane.{Lane}
 use Rattle.rules.specs.declared.Setting.{Setting}
 use Rattle.rules.specs.declared.Reader.{Reader}
 use Rattle.rules.specs.declared.Writer.{Writer}
-use Rattle.rules.specs.declared.Place.the-variants.{At, Nowhere}
-use Rattle.rules.specs.Tests.{all, every, _=?_, _≠?_}
-use Rattle.rules.specs.Settings.{channel, lane, channelOf, expect, heldBy, count, number, zone, rangesOk, channelOk, channelsAgree, channelsOk, kindOk, laneOk, lanesDiffer, lanesOk, settingOk, readerOk, writerOk}
+use Rattle.rules.specs.Tests.{_=?_}
+use Rattle.rules.specs.Settings.{channel, lane, rangesOk, channelOk, channelsAgree, channelsOk, kindOk, laneOk, lanesDiffer, lanesOk, settingOk, readerOk, writerOk}
 use Rattle.rules.specs.Refusals.{channelAt, laneAt}
-use Rattle.rules.specs.Valid.{least, GoodKind, GoodChannel, GoodLane, Good, GoodReader, GoodWriter}
-use Rattle.rules.proofs.Tests.{and-left, and-right, all-at, every-at, first-at}
+use Rattle.rules.specs.Valid.{GoodKind, GoodChannel, GoodLane, Good, GoodReader, GoodWriter}
+use Rattle.rules.proofs.Tests.{all-at, every-at, first-at}
 
 -- ---- a lane's kind
 

@@ -1,7 +1,7 @@
 -- Tables that compute: cases 1 to 10, the listing, the errors that look right, and edges of lanes, frames and calls. Both columns of each come to the same.
 use mathlib.Core.Path.{_≡_, refl}
 use Prim.Native.Nat.{ℕ, zero}
-use mathlib.Core.List.{List, [], _∷_, _++_, map}
+use mathlib.Core.List.{[], _∷_, _++_, map}
 use Rattle.rules.specs.Tests
 use Rattle.rules.specs.Octets
 use Rattle.rules.specs.Areas

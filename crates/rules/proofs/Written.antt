@@ -1,13 +1,12 @@
 -- Every frame that the write rule makes is refused by nothing under the same setting, and its fields read back.
-use mathlib.Core.Path.{_≡_, refl, sym, ap, ap₂, _∙_, subst}
-use Prim.Native.Nat.{ℕ, zero, suc, _+_, _-_, _*_, _/_, _%_, _^_, _≤_, _<_}
-use native.Mathlib.Nat.{zero-add, add-assoc}
+use mathlib.Core.Path.{_≡_, refl, sym, ap, _∙_, subst}
+use Prim.Native.Nat.{ℕ, _+_, _-_, _*_, _^_, _≤_, _<_}
 use native.Mathlib.Omega.{arith}
-use mathlib.Core.Bool.{Bool, true, false, cond, not, _&&_, _||_, and-false, or-true}
-use mathlib.Core.List.{List, [], _∷_, _++_, append-assoc, append-nil}
+use mathlib.Core.Bool.{Bool, true, false, cond, not, _||_, and-false, or-true}
+use mathlib.Core.List.{List, [], _∷_, _++_, append-assoc}
 use lib.ListN.{length, getD, take, drop, replicate, length-append, length-take, length-replicate}
 use lib.Seq.{take-at, drop-at, drop-drop}
-use borrow.Author.Tests.{eq-eqb, ne-eqb, lt-ltb, le-ltb, ltb-true}
+use borrow.Author.Tests.{eq-eqb, ne-eqb, ltb-true}
 use Rattle.rules.specs.declared.Kind.{Kind}
 use Rattle.rules.specs.declared.Kind.the-variants.{Packets, Access}
 use Rattle.rules.specs.declared.Channel.{Channel}
@@ -18,18 +17,18 @@ use Rattle.rules.specs.declared.Outcome.the-variants.{Done}
 use Rattle.rules.specs.declared.Place.{Place}
 use Rattle.rules.specs.declared.Place.the-variants.{At, Nowhere}
 use Rattle.rules.specs.declared.Verdict.the-variants.{Counted, Read}
-use Rattle.rules.specs.Tests.{_<?_, _=?_, _≠?_, none, at, given}
+use Rattle.rules.specs.Tests.{_<?_, _=?_, _≠?_, given}
 use Rattle.rules.specs.Octets.{be, num, Field, field, widths, packed, bits, flag, checkOf}
 use Rattle.rules.specs.Areas.{laid}
-use Rattle.rules.specs.Settings.{channel, lane, channelOf, count, number, ocfOctets, checkOctets, fieldAt, zoneAt, zoneFor, ocfAt, checkAt, zone, settingOk}
-use Rattle.rules.specs.Frames.{header, primary, dataHeader, body, checked, version, craft, sourceBit, vc, map, endOfHeader, lengthField, bypass, command, spare, ocfFlag, countLength, countIn, insertIn, dataField, ruleIn, upidIn, pointerIn, zoneIn, ocfIn, checkHolds, pointerTo, pointsTo}
+use Rattle.rules.specs.Settings.{lane, channelOf, count, number, ocfOctets, checkOctets, fieldAt, zoneAt, zoneFor, ocfAt, checkAt, zone}
+use Rattle.rules.specs.Frames.{header, primary, dataHeader, body, checked, version, craft, sourceBit, vc, map, endOfHeader, lengthField, bypass, command, spare, ocfFlag, countLength, countIn, insertIn, dataField, ruleIn, upidIn, pointerIn, zoneIn, ocfIn, checkHolds, pointerTo}
 use Rattle.rules.specs.Writing.{piece, fill, zoneOf, ruleOf, offsetOf, inside, pointerOf, frameOf}
 use Rattle.rules.specs.Refusals.{channelAt, laneAt, ruleFits, dataWrong, refusalsAt, refusals, onChannel, passed, judged, judge}
 use Rattle.rules.specs.Calls.{writeRefusals, written, write}
 use Rattle.rules.proofs.Areas.{laid-front, laid-behind}
 use Rattle.rules.proofs.Octets.{flag-small, length-be, num-be-below, Fit, bits-back, check-below}
 use Rattle.rules.specs.Valid.{Good, GoodChannel, GoodLane}
-use Rattle.rules.proofs.Valid.{good, good-channelOf}
+use Rattle.rules.proofs.Valid.{good-channelOf}
 use Rattle.rules.proofs.Judged.{Clear, none-given}
 use Rattle.rules.proofs.Calls.{Accepted, none-refused, accepted}
 

@@ -1,6 +1,6 @@
 -- "The frame, octet by octet", in both directions.
-use Prim.Native.Nat.{ℕ, zero, suc, _+_, _-_, _*_, _/_, _%_, _^_}
-use mathlib.Core.Bool.{Bool, true, false, cond}
+use Prim.Native.Nat.{ℕ, _-_}
+use mathlib.Core.Bool.{Bool, true, cond}
 use mathlib.Core.List.{List, [], _∷_, _++_}
 use lib.ListN.{length, take, drop}
 use Rattle.rules.specs.declared.Channel.{Channel}
@@ -8,8 +8,8 @@ use Rattle.rules.specs.declared.Lane.{Lane}
 use Rattle.rules.specs.declared.Setting.{Setting}
 use Rattle.rules.specs.declared.Place.{Place}
 use Rattle.rules.specs.declared.Place.the-variants.{At, Nowhere}
-use Rattle.rules.specs.Tests.{_=?_, _<?_}
-use Rattle.rules.specs.Octets.{be, num, Field, field, packed, bits, flag, checkOf, fieldsOf, fieldIn}
+use Rattle.rules.specs.Tests.{_=?_}
+use Rattle.rules.specs.Octets.{be, num, Field, packed, flag, checkOf, fieldsOf, fieldIn}
 use Rattle.rules.specs.Settings.{ocfOctets, countAt, insertAt, fieldAt, zoneAt, zoneFor, ocfAt, checkAt}
 
 -- ---- fields in printed order

@@ -1,8 +1,8 @@
 -- "Worked frames", its end: what the listing program prints.
 use Prim.Native.Nat.{ℕ, zero, suc, _+_, _/_, _%_}
 use Prim.Native.String.{String}
-use Prim.Native.Char.{Char, code}
-use mathlib.Core.Bool.{Bool, true, false, cond}
+use Prim.Native.Char.{code}
+use mathlib.Core.Bool.{cond}
 use mathlib.Core.List.{List, [], _∷_, _++_}
 use lib.ListN.{length, take, drop, replicate}
 use Rattle.rules.specs.declared.Reader.{Reader}

@@ -9,7 +9,6 @@ use Rattle.rules.specs.declared.Outcome.{Outcome}
 use Rattle.rules.specs.declared.Outcome.the-variants.{Refused}
 use Rattle.rules.specs.declared.Class.{Class}
 use Rattle.rules.specs.declared.Answer.{Answer}
-use Rattle.rules.specs.declared.Taken.{Taken}
 use Rattle.rules.specs.Tests.{every}
 use Rattle.rules.specs.Settings.{expect}
 use Rattle.rules.specs.Calls.{Sent, Got, bare, read}

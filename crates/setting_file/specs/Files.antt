@@ -1,6 +1,6 @@
 -- What a file with a setting is.
 use Prim.Native.Nat.{ℕ}
-use mathlib.Core.Bool.{Bool, true, false, cond}
+use mathlib.Core.Bool.{false, cond}
 use mathlib.Core.List.{List}
 use lib.ListN.{length, take}
 use Rattle.rules.specs.Tests.{_≤?_}

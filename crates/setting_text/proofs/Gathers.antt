@@ -183,7 +183,8 @@ module _ (t : List ℕ) (d : Draft) (n at : ℕ) (h : Taking t d n at) where
     here : d′ ≡ takeLine d (take size (drop at t))
     here = e ∙ ap (λ (x : List ℕ). takeLine d (take size x)) rest-is
 
-    one : gather n d (lines (drop at t)) ≡ cond (d′ .fits) (gather (n + 1) d′ (pieces (stops stop.Feed) (drop size (drop at t)))) (record { draft = d′; line = n })
+    one : gather n d (lines (drop at t)) ≡ cond (d′ .fits) (gather (n + 1) d′ (pieces (stops stop.Feed) (drop size (drop at t))))
+        (record { draft = d′; line = n })
     unfolding gather
     one = rw (next, sym here)
 

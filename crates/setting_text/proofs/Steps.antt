@@ -93,7 +93,8 @@ number-most low high s = go (s .fits) (numeral low high w) (numeral-most low hig
     w = first (s .rest)
 
     go : (b ok : Bool) → (ok ≡ true → value 0 w ≤ high)
-        → (cond b (cond ok (record { rest = others (s .rest); number = value 0 w; fits = true; wanted = want.Nothing }) (missed (want.Number low high) s)) (missed (s .wanted) s)) .number ≤ high
+        → (cond b (cond ok (record { rest = others (s .rest); number = value 0 w; fits = true; wanted = want.Nothing }) (missed (want.Number low high) s))
+        (missed (s .wanted) s)) .number ≤ high
     go true true e = e refl
     go true false e = omega arith
     go false ok e = omega arith

@@ -219,7 +219,8 @@ module _ (low high : ℕ) (w : List ℕ) (h : high ≤ 65535) (t : Wanted) (s : 
   unfolding numberOf numberFrom numeral
   step-number = go (isNumber w) refl
     where
-      go : (b : Bool) → isNumber w ≡ b → Alike (cond b (cond (digits w && value 0 w ≤? 65535) (value 0 w) 65536) 65536) (b && (low ≤? value 0 w && value 0 w ≤? high))
+      go : (b : Bool) → isNumber w ≡ b → Alike (cond b (cond (digits w && value 0 w ≤? 65535) (value 0 w) 65536) 65536)
+          (b && (low ≤? value 0 w && value 0 w ≤? high))
       go false e = out
       go true e =
           rw (number-digits e)

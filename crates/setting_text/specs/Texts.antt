@@ -1,9 +1,8 @@
 -- The setting as a text: lines, words and numbers, and what is read of a line word by word.
-use Prim.Native.Nat.{ℕ, suc, _+_, _-_, _*_, _≤_}
-use mathlib.Core.Path.{_≡_}
+use Prim.Native.Nat.{ℕ, suc, _+_, _-_, _*_}
 use mathlib.Core.Bool.{Bool, true, false, cond, not, _&&_, _||_}
 use mathlib.Core.List.{List, [], _∷_}
-use lib.ListN.{length, take, drop}
+use lib.ListN.{take}
 use Rattle.rules.specs.Tests.{_≤?_, _=?_}
 use Rattle.rules.specs.Listing.{text}
 use Rattle.setting_text.specs.declared.Stop.{Stop}

@@ -13,19 +13,18 @@ use Rattle.rules.specs.declared.Reader.{Reader}
 use Rattle.rules.specs.declared.Setting.{Setting}
 use Rattle.rules.specs.declared.Taken.{Taken}
 use Rattle.rules.specs.declared.Verdict.{Verdict}
-use Rattle.rules.specs.Tests.{_=?_}
 use Rattle.rules.specs.Settings.{settingOk, readerOk}
-use Rattle.rules.specs.Refusals.{judged}
-use Rattle.rules.specs.Calls.{setUpReader, Got, read, verdict, classRefusal}
+use Rattle.rules.specs.Calls.{Got, read, verdict}
 use Rattle.rules.proofs.Calls.{setup-accepted, read-valid, Small, read-fits}
 use Rattle.unpack_text.specs.declared.Tally.{Tally}
-use Rattle.unpack_text.specs.Totals.{tallied, noTally}
+use Rattle.unpack_text.specs.Totals.{tallied}
 use Rattle.unpack_text.specs.Lines.{Wrote, frameLine}
 use Rattle.unpacking.specs.declared.Came.{Came}
 use Rattle.unpacking.specs.declared.Turn.{Turn}
 use Rattle.unpacking.proofs.Cuts.{wrote-front}
 use Rattle.unpacking.specs.Stages.{Stage, got, ruled, told, advanced, through, begun, Reached}
 use Rattle.unpacking.specs.Stages.{Took, Handed, Handled, Turned, Finished, taken, takenTurn, haltedTurn, firstTurn}
+use Rattle.rules.specs.Areas.{heldSize, recordSize, recordsSize, unitsSize}
 
 -- ---- stages
 
@@ -40,7 +39,7 @@ advanced-valid g f ok = read-valid (g .reader) f (g .held) (g .units) (g .record
 
 -- The stage of a turn before which nothing was read.
 abbrev first : Turn → Stage
-first u = record { reader = u .state; held = replicate 65536 0; units = replicate 12288 0; records = replicate 9600 0; totals = u .totals }
+first u = record { reader = u .state; held = replicate heldSize 0; units = replicate unitsSize 0; records = replicate recordsSize 0; totals = u .totals }
 
 pub begins : (s : Setting) (u : Turn) → settingOk s ≡ true → u ≡ firstTurn s → (u .count ≡ 0) × Reached (first u) (u .count) (first u)
 unfolding firstTurn through
@@ -126,7 +125,7 @@ turned-came {u} {c} {g} {area} {u′} {g′} t = subst (λ (x : Came). Turned u 
 
 -- What it gave fits the areas.
 pub gave-fits : {k : ℕ} {g : Stage} {f area : List ℕ} {g′ : Stage} {area′ : List ℕ} {v : Verdict} {a : Answer} {end : ℕ}
-    → Took k g f area g′ area′ v a end → (a .octets ≤ 12288) × (16 * a .units ≤ 9600)
+    → Took k g f area g′ area′ v a end → (a .octets ≤ unitsSize) × (recordSize * a .units ≤ recordsSize)
 unfolding told got
 gave-fits {k} {g} {f} t =
     let s : Small ((read (g .reader) f (g .held) (g .units) (g .records)) .taken .answer) = read-fits (g .reader) f (g .held) (g .units) (g .records) in
@@ -154,6 +153,6 @@ module _ (k : ℕ) (r : Reader) (t : Tally) (f h u c area : List ℕ) where
 
 -- What is cut out of the areas is what is handed out.
 pub handed : {k : ℕ} {g : Stage} {f area : List ℕ} {g′ : Stage} {area′ : List ℕ} {v : Verdict} {a : Answer} {end : ℕ} (u c : List ℕ)
-    → Took k g f area g′ area′ v a end → a .octets ≤ length u → 16 * a .units ≤ length c
-    → Handed k v a (take end area′) (take (a .octets) u) (take (16 * a .units) c)
+    → Took k g f area g′ area′ v a end → a .octets ≤ length u → recordSize * a .units ≤ length c
+    → Handed k v a (take end area′) (take (a .octets) u) (take (recordSize * a .units) c)
 handed u c t p q = record { line = wrote-front (t .line); units = length-take-le _ _ p; records = length-take-le _ _ q }

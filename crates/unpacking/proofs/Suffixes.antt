@@ -16,7 +16,8 @@ use Rattle.unpacking.specs.Names.{suffix}
 use Rattle.unpacking.proofs.Cuts.{wrote-cut}
 
 pub lane-suffix : (lanes i : ℕ) {name : List ℕ} {n : ℕ} {name₁ : List ℕ} {at : ℕ} {name₂ : List ℕ} {end : ℕ} → i < lanes
-    → Wrote 25 (text ".lane" ++ decimal i) name n name₁ at → Put (text ".part") name₁ at name₂ end → n + 30 ≤ length name → Wrote 30 (suffix lanes i) name n name₂ end
+    → Wrote 25 (text ".lane" ++ decimal i) name n name₁ at → Put (text ".part") name₁ at name₂ end → n + 30 ≤ length name → Wrote 30
+    (suffix lanes i) name n name₂ end
 unfolding suffix text
 lane-suffix lanes i {name} {n} {name₁} {at} {name₂} {end} h p q room =
     subst (λ (t : Bool). Wrote 30 (cond t (text ".lane" ++ decimal i ++ text ".part") (text ".records.part")) name n name₂ end) (sym (lt-ltb i lanes h))
@@ -38,5 +39,6 @@ suffix-long lanes i = by (i <? lanes)
     by true = omega (arith, length-append (text ".lane" ++ decimal i) (text ".part"))
     by false = lit≤ tt
 
-pub part-long : (lanes i : ℕ) {name : List ℕ} {n : ℕ} {name′ : List ℕ} {end : ℕ} → Wrote 30 (suffix lanes i) name n name′ end → n + 30 ≤ length name → 5 ≤ length (take end name′)
+pub part-long : (lanes i : ℕ) {name : List ℕ} {n : ℕ} {name′ : List ℕ} {end : ℕ} → Wrote 30 (suffix lanes i) name n name′ end → n + 30 ≤ length name
+    → 5 ≤ length (take end name′)
 part-long lanes i w room = omega (arith, suffix-long lanes i, w .put .ends, wrote-cut w room)

@@ -18,6 +18,7 @@ use Rattle.unpacking.specs.declared.Came.{Came}
 use Rattle.unpacking.specs.declared.Went.{Went}
 use Rattle.unpacking.specs.declared.Went.the-variants.{Well, NotRead, NotPrinted, NotWritten}
 use Rattle.unpacking.specs.declared.Turn.{Turn}
+use Rattle.rules.specs.Areas.{heldSize, recordSize, recordsSize, unitsSize}
 
 -- The reader's state, the areas, and the totals.
 pub record Stage : Type 0 where
@@ -57,9 +58,9 @@ unfoldable pub begun : Setting → Stage
 begun s =
     record {
       reader = (setUpReader s) .state;
-      held = replicate 65536 0;
-      units = replicate 12288 0;
-      records = replicate 9600 0;
+      held = replicate heldSize 0;
+      units = replicate unitsSize 0;
+      records = replicate recordsSize 0;
       totals = noTally;
     }
 
@@ -80,8 +81,8 @@ pub record Took (k : ℕ) (g : Stage) (f area : List ℕ) (g′ : Stage) (area�
 -- Areas in which a turn has room, and a frame number that another one follows.
 pub record Room (k : ℕ) (u c : List ℕ) : Type 0 where
   pub more : k < 18446744073709551615
-  pub units : 12288 ≤ length u
-  pub records : 9600 ≤ length c
+  pub units : unitsSize ≤ length u
+  pub records : recordsSize ≤ length c
 
 -- ---- what is handed to the system, and what it answers
 
@@ -96,7 +97,7 @@ outputOf (Verdict.Read l) = l
 pub record Handed (k : ℕ) (v : Verdict) (a : Answer) (l u c : List ℕ) : Type 0 where
   pub line : l ≡ frameLine k v a
   pub units : length u ≡ a .octets
-  pub records : length c ≡ 16 * a .units
+  pub records : length c ≡ recordSize * a .units
 
 unfoldable pub wellGone : Went → Bool
 wellGone Well = true

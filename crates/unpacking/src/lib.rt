@@ -7,13 +7,11 @@
 // frame's line, of the rules' verdict and answer, as many unit and record octets as it gave (`put_out`), the title, and the text of all
 // totals (`hand_totals`). A name is its prefix and suffix (`put_name`). Shown by runs: what no contract can follow into the system.
 ghost use mathlib.Core.Path.{_≡_};
-ghost use mathlib.Core.Bool.{Bool, true};
+ghost use mathlib.Core.Bool.{true};
 ghost use Prim.Native.Nat.{_+_, _%_, _≤_};
 ghost use lib.ListN.{length};
 ghost use Rattle.rules.specs.Tests.{_=?_};
 ghost use Rattle.rules.specs.Settings.{settingOk, readerOk};
-ghost use Rattle.rules.specs.Calls.{setUpReader};
-ghost use Rattle.unpack_text.specs.Totals.{noTally};
 ghost use Rattle.unpack_text.specs.Lines.{Wrote, title, totalsText};
 ghost use Rattle.unpacking.specs.Names.{suffix};
 ghost use Rattle.unpacking.specs.Stages.{Took, Room, Handed, Handled, Turned, Finished, firstTurn, endingOf, haltedTurn, outputOf, wellGone, goesOn};
@@ -272,7 +270,7 @@ fn handle(
     let a = p.answer;
     let end = p.end;
     let o = a.octets;
-    let c = 16 * a.units;
+    let c = rules::RECORD_SIZE * a.units;
     let went = put_out(
         k,
         v,
@@ -392,9 +390,9 @@ fn take_all(s: Setting, fd: i32, fds: [i32; 9]) -> Turn
     requires { ⌜ settingOk s ≡ true ⌝ }
     ensures { λ u. ⌜ Finished s (u .count) (u .state) (u .totals) ⌝ }
 {
-    let mut held = [0u8; 65536];
-    let mut units = [0u8; 12288];
-    let mut records = [0u8; 9600];
+    let mut held = [0u8; rules::HELD_SIZE];
+    let mut units = [0u8; rules::UNITS_SIZE];
+    let mut records = [0u8; rules::RECORDS_SIZE];
     let mut frame = [0u8; 4096];
     let mut u = first_turn(s);
     let mut k: u64 = 0;

@@ -1,22 +1,21 @@
 -- What a valid state and an accepted call give: slots that are there, a line whose frame can be laid, and the state after it.
-use mathlib.Core.Path.{_≡_, refl, sym, ap, _∙_}
+use mathlib.Core.Path.{_≡_, refl, ap, _∙_}
 use Prim.Native.Nat.{ℕ, zero, suc, _+_, _-_, _*_, _/_, _%_, _^_, _≤_, _<_}
 use native.Mathlib.Nat.{le-div-iff-mul-le, pow-le-pow-right, zero-lt-suc, mod-eq-of-lt}
 use native.Mathlib.Omega.{arith}
-use mathlib.Core.Bool.{Bool, true, false, cond}
+use mathlib.Core.Bool.{true}
 use mathlib.Core.List.{List}
 use lib.ListN.{length, set}
-use Rattle.rules.specs.declared.Setting.{Setting}
 use Rattle.rules.specs.declared.Writer.{Writer}
 use Rattle.rules.specs.declared.Outcome.the-variants.{Done, Refused}
 use Rattle.rules.specs.Tests.{given}
 use Rattle.rules.specs.Areas.{laid}
-use Rattle.rules.specs.Settings.{lane, channelOf, count, number, zone, ocfOctets, checkOctets, writerOk}
+use Rattle.rules.specs.Settings.{lane, channelOf, count, number, zone, writerOk}
 use Rattle.rules.specs.Writing.{frames, frameOf, numberAfter, countAfter, writerAfter}
 use Rattle.rules.specs.Calls.{Sent, writeRefusals, written, write}
-use Rattle.rules.specs.Valid.{Good, GoodWriter}
+use Rattle.rules.specs.Valid.{Good}
 use Rattle.rules.proofs.Valid.{good-writer, good-channelOf}
-use Rattle.rules.proofs.Calls.{Accepted, none-refused}
+use Rattle.rules.proofs.Calls.{Accepted}
 use Rattle.rules.proofs.Written.{zone-small}
 use Rattle.frames.specs.declared.Line.{Line}
 use Rattle.writer.specs.Lines.{lineOf}

@@ -1,13 +1,10 @@
 -- `frames::put_data` meets its contract: the pointer fits two octets, and the piece is the batch's, cut after z octets or where it ends.
 use Prim.Native.Nat.{ℕ, _+_, _-_, _*_}
-use mathlib.Core.Path.{_≡_, sym, ap, ap₂, _∙_}
+use mathlib.Core.Path.{ap, ap₂, _∙_}
 use mathlib.Core.List.{List, _++_}
-use native.Mathlib.Omega.{arith}
 use lib.ListN.{length, take, drop, replicate}
-use Rattle.rules.specs.Octets.{be}
 use Rattle.rules.specs.Areas.{laid}
-use Rattle.rules.specs.Frames.{pointerTo}
-use Rattle.rules.specs.Writing.{ruleOf, pointerOf, inside, offsetOf}
+use Rattle.rules.specs.Writing.{pointerOf}
 use Rattle.rules.proofs.Written.{pointer-small}
 use Rattle.frames.proofs.Laying.{piece-is, data-laid}
 use borrow.Author.Needs.{needs}

@@ -1,5 +1,5 @@
 -- `frames::put_front` meets its contract: header, count and insert zone are laid one after another.
-use mathlib.Core.Path.{_≡_, ap, _∙_}
+use mathlib.Core.Path.{ap, _∙_}
 use Prim.Native.Nat.{ℕ, _+_}
 use mathlib.Core.List.{List}
 use Rattle.rules.specs.Octets.{be}

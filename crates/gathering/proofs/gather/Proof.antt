@@ -9,9 +9,10 @@ use Rattle.gathering.specs.Gathering.{gathered}
 use Rattle.gathering.proofs.Turns.{more, from-none, at-end, no-packet, too-long, no-room, one-more}
 use Rattle.gathering.proofs.gather.Statement.{statement}
 use Rattle.gathering.proofs.gather.Tie as tie
+use Rattle.rules.specs.Areas.{batchSize}
 
 abbrev Inv-loop : tie.InvT-loop
-Inv-loop s longest i₀ i = (i ≤ length s) × (i ≤ 32768) × (gathered longest s ≡ i + more longest s i)
+Inv-loop s longest i₀ i = (i ≤ length s) × (i ≤ batchSize) × (gathered longest s ≡ i + more longest s i)
 
 abbrev μ-loop : tie.MeasureT-loop
 μ-loop s longest i₀ i = length s - i

@@ -1,5 +1,4 @@
 -- `header::count_in` meets its contract: the octets behind the header are a part of the frame, and octets spell a number below 256^n.
-use Prim.Native.Nat.{_<_}
 use Rattle.header.proofs.Counts.{count-small}
 use Prim.Native.Nat.{ℕ, _+_, _-_}
 use mathlib.Core.Path.{_≡_, ap, _∙_}

@@ -1,7 +1,6 @@
 -- `header::front` meets its contract: where there are fewer octets than asked for, all of them are taken.
-use mathlib.Core.Path.{_≡_, sym, ap, _∙_}
+use mathlib.Core.Path.{sym, ap, _∙_}
 use native.Mathlib.Omega.{arith}
-use lib.ListN.{length, take}
 use lib.Seq.{take-all, length-take-le}
 use Rattle.rules.specs.Octets.{num}
 use borrow.Author.Needs.{needs}

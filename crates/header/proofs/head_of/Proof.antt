@@ -1,5 +1,4 @@
 -- `header::head_of` meets its contract: each field is the number of seven octets, less what stands behind the field, modulo its width.
-use mathlib.Core.Path.{_≡_, refl}
 use native.Mathlib.Nat.{div-one}
 use Rattle.rules.specs.Octets.{bits}
 use Rattle.header.specs.Heads.{headOf}

@@ -1,7 +1,6 @@
 -- `header::header_of` meets its contract: a sum of fields, each times the width of those behind it.
 use native.Mathlib.Omega.{arith}
-use mathlib.Core.Path.{_≡_, sym}
-use Rattle.rules.specs.Octets.{packed, widths, flag}
+use Rattle.rules.specs.Octets.{packed, widths}
 use Rattle.rules.specs.Frames.{header}
 use Rattle.rules.proofs.Octets.{flag-small}
 use borrow.Author.Needs.{needs}

@@ -1,8 +1,6 @@
 -- `judge::data_wrong` meets its contract: each test on the way is one of the rule's three.
-use mathlib.Core.Path.{_≡_, sym, ap, _∙_}
-use native.Mathlib.Omega.{arith}
+use mathlib.Core.Path.{sym, _∙_}
 use borrow.Author.Tests.{eq-eqb, ne-eqb, lt-ltb, le-ltb}
-use mathlib.Core.Bool.{Bool, true, false, not, _||_, or-true}
 use Rattle.judge.specs.Judging.{dataWrongOf}
 use borrow.Author.Needs.{needs}
 use Rattle.judge.proofs.data_wrong.Statement.{statement}

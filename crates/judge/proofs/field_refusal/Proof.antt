@@ -1,7 +1,5 @@
 -- `judge::field_refusal` meets its contract: each test on the way is one of the rule's rows.
-use mathlib.Core.Path.{_≡_, sym, ap, _∙_}
-use native.Mathlib.Omega.{arith}
-use borrow.Author.Tests.{eq-eqb, ne-eqb, lt-ltb, le-ltb}
+use borrow.Author.Tests.{eq-eqb, ne-eqb}
 use Rattle.judge.specs.Judging.{fieldRefusal}
 use borrow.Author.Needs.{needs}
 use Rattle.judge.proofs.field_refusal.Statement.{statement}

@@ -1,6 +1,6 @@
 -- `judge::judge_data` meets its contract: the data field is the frame's rest behind the insert zone, and what it says is put into the sight.
 use native.Mathlib.Omega.{arith}
-use mathlib.Core.Path.{sym, ap, _∙_}
+use mathlib.Core.Path.{sym, ap}
 use Rattle.judge.proofs.Places.{fits, lane-eight}
 use Rattle.judge.proofs.Sights.{refused-12, seen-is}
 use Rattle.judge.specs.Sights.{sightOf}

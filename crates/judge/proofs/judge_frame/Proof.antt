@@ -1,5 +1,5 @@
 -- `judge::judge_frame` meets its contract: length and check first, then the header's fields, then its channel.
-use mathlib.Core.Path.{_≡_, sym, ap, _∙_}
+use mathlib.Core.Path.{sym, ap, _∙_}
 use native.Mathlib.Omega.{arith}
 use borrow.Author.Tests.{eq-eqb, ne-eqb}
 use Rattle.rules.proofs.Valid.{good}

@@ -1,14 +1,13 @@
 -- `judge::judge_listed` meets its contract: the channel's count length and OCF are tested in this order, then the count is taken.
-use mathlib.Core.Path.{_≡_, refl, sym, ap, _∙_}
+use mathlib.Core.Path.{refl, sym, ap}
 use native.Mathlib.Omega.{arith}
 use borrow.Author.Tests.{eq-eqb, ne-eqb}
 use Rattle.rules.specs.Frames.{map}
 use Rattle.rules.specs.Refusals.{laneAt}
 use Rattle.header.specs.declared.Head.{Head}
 use Rattle.header.specs.Heads.{headOf}
-use Rattle.judge.specs.declared.Sighting.{Sighting}
 use Rattle.judge.specs.Judging.{judgeListed}
-use Rattle.judge.specs.Sights.{sightOf, Fitting}
+use Rattle.judge.specs.Sights.{sightOf}
 use Rattle.judge.proofs.Places.{fits}
 use Rattle.judge.proofs.Sights.{fitting}
 use borrow.Author.Needs.{needs}

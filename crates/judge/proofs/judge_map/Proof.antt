@@ -1,6 +1,6 @@
 -- `judge::judge_map` meets its contract: by whether a lane was found, then by the command bit.
 use mathlib.Core.Path.{_≡_, sym, ap, _∙_}
-use borrow.Author.Tests.{eq-eqb, ne-eqb, eqb-true}
+use borrow.Author.Tests.{eq-eqb, ne-eqb}
 use Rattle.rules.specs.Frames.{map}
 use Rattle.rules.specs.Refusals.{laneAt}
 use Rattle.rules.specs.declared.Verdict.{Verdict}

@@ -5,11 +5,6 @@ use Rattle.listing.proofs.Texts.{length-opening, listed}
 use borrow.Author.Needs.{needs}
 use Rattle.listing.proofs.list_frame.Statement.{statement}
 use Rattle.listing.proofs.list_frame.Tie as tie
-use Rattle.listing.proofs.list_frame.Reads as reads
-use Rattle.listing.proofs.list_frame.Lts as lts
-use Rattle.listing.proofs.put_opening.Reads as put-opening-reads
-use Rattle.listing_text.proofs.put_line.Reads as put-line-reads
-use Rattle.reader.proofs.read.Reads as read-reads
 
 read-requires : tie.Need-read-requires
 read-requires c κs = search needs

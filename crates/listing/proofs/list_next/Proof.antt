@@ -35,10 +35,13 @@ array-share-prefix-area c = omega (arith, c .before .before .before .before .bef
 
 slice-aggregate-print : tie.Need-slice-aggregate-print
 slice-aggregate-print c =
-    sym (length-take-le _ _ (omega (arith, c .before .before .before .before .before .before .before .before .before .list-frame .ensures .short)))
+    let c₈ = c .before .before .before .before .before .before .before .before in
+    sym (length-take-le _ _ (omega (arith, c₈ .before .list-frame .ensures .short)))
 
 print-requires : tie.Need-print-requires
-print-requires c κs = cut (c .before .before .before .before .before .before .before .before .before .list-frame .ensures .text)
+print-requires c κs =
+    let c₈ = c .before .before .before .before .before .before .before .before in
+    cut (c₈ .before .list-frame .ensures .text)
 
 same-length : tie.Need-same-length
 same-length c = search needs
@@ -51,14 +54,16 @@ same-length-3 c = search needs
 
 returns-2 : tie.Need-returns-2
 returns-2 c =
-    let s = c .before .before .before .before .before .before .before .before .before .before .before .before .before .before .before .before .before
+    let c₈ = c .before .before .before .before .before .before .before .before in
+    let c₁₆ = c₈ .before .before .before .before .before .before .before .before in
+    let s = c₁₆ .before
     .before .before .before .before .before .before .before in
     let a = s .args in
     goes-if _ _
     (λ e. carried (a .k) (a .r) (a .held .now) (a .units .now) (a .records .now) _ _ _ _ _ _ _ _ _ (s .pre)
-    (sym (c .before .before .before .before .before .before .before .before .before .before .before .before .before .before .before .before .before .before
+    (sym (c₁₆ .before .before
     .before .read-full .ensures .1) ∙ eqb-true _ _ e)
-    (c .before .before .before .before .before .before .before .before .before .before .before .list-frame .ensures))
+    (c₈ .before .before .before .list-frame .ensures))
 
 pub list-next-spec : {M : Type 1} → statement M
 list-next-spec =

@@ -3,9 +3,6 @@ use Rattle.listing.proofs.Texts.{put-first, put-later}
 use borrow.Author.Needs.{needs}
 use Rattle.listing.proofs.put_opening.Statement.{statement}
 use Rattle.listing.proofs.put_opening.Tie as tie
-use Rattle.listing.proofs.put_opening.Reads as reads
-use Rattle.listing.proofs.put_opening.Lts as lts
-use Rattle.listing_text.proofs.put_title.Reads as put-title-reads
 
 put-title-requires : tie.Need-put-title-requires
 put-title-requires c κs = search needs

@@ -7,11 +7,6 @@ use Rattle.listing.proofs.Carried.{begins-from, goes-then}
 use borrow.Author.Needs.{needs}
 use Rattle.listing.proofs.run.Statement.{statement}
 use Rattle.listing.proofs.run.Tie as tie
-use Rattle.listing.proofs.run.Reads as reads
-use Rattle.listing.proofs.run.Lts as lts
-use Rattle.listing.proofs.list_next.Reads as list-next-reads
-use Rattle.listing.proofs.worked_setting.Reads as worked-setting-reads
-use Rattle.reader.proofs.set_up.Reads as set-up-reads
 use Rattle.rules.specs.Areas.{heldSize, recordsSize, unitsSize}
 
 abbrev Inv-loop : tie.InvT-loop

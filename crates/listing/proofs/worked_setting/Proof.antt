@@ -4,8 +4,6 @@ use Rattle.rules.specs.Worked.{worked}
 use borrow.Author.Needs.{needs}
 use Rattle.listing.proofs.worked_setting.Statement.{statement}
 use Rattle.listing.proofs.worked_setting.Tie as tie
-use Rattle.listing.proofs.worked_setting.Reads as reads
-use Rattle.listing.proofs.worked_setting.Lts as lts
 
 array-set-from-channels : tie.Need-array-set-from-channels
 array-set-from-channels c = search needs

@@ -3,8 +3,6 @@ use borrow.Author.Needs.{needs}
 use Rattle.rules.specs.Listing.{amount}
 use Rattle.listing_text.proofs.amount_of.Statement.{statement}
 use Rattle.listing_text.proofs.amount_of.Tie as tie
-use Rattle.listing_text.proofs.amount_of.Reads as reads
-use Rattle.listing_text.proofs.amount_of.Lts as lts
 
 enum-told : tie.Need-enum-told
 enum-told c = search needs

@@ -3,9 +3,6 @@ use Rattle.listing_text.proofs.Laws.{put-decimal}
 use borrow.Author.Needs.{needs}
 use Rattle.listing_text.proofs.put_decimal.Statement.{statement}
 use Rattle.listing_text.proofs.put_decimal.Tie as tie
-use Rattle.listing_text.proofs.put_decimal.Reads as reads
-use Rattle.listing_text.proofs.put_decimal.Lts as lts
-use Rattle.listing_text.proofs.put_digits.Reads as put-digits-reads
 
 put-digits-requires : tie.Need-put-digits-requires
 put-digits-requires c κs = search needs

@@ -4,11 +4,6 @@ use Rattle.listing_text.proofs.Laws.{length-decimal, length-word, put-f
 use borrow.Author.Needs.{needs}
 use Rattle.listing_text.proofs.put_front.Statement.{statement}
 use Rattle.listing_text.proofs.put_front.Tie as tie
-use Rattle.listing_text.proofs.put_front.Reads as reads
-use Rattle.listing_text.proofs.put_front.Lts as lts
-use Rattle.listing_text.proofs.put_decimal.Reads as put-decimal-reads
-use Rattle.listing_text.proofs.put_octet.Reads as put-octet-reads
-use Rattle.listing_text.proofs.put_word.Reads as put-word-reads
 
 put-decimal-requires : tie.Need-put-decimal-requires
 put-decimal-requires c κs = search needs

@@ -4,12 +4,6 @@ use Rattle.listing_text.proofs.Laws.{length-decimal, length-front, put-
 use borrow.Author.Needs.{needs}
 use Rattle.listing_text.proofs.put_line.Statement.{statement}
 use Rattle.listing_text.proofs.put_line.Tie as tie
-use Rattle.listing_text.proofs.put_line.Reads as reads
-use Rattle.listing_text.proofs.put_line.Lts as lts
-use Rattle.listing_text.proofs.amount_of.Reads as amount-of-reads
-use Rattle.listing_text.proofs.put_decimal.Reads as put-decimal-reads
-use Rattle.listing_text.proofs.put_front.Reads as put-front-reads
-use Rattle.listing_text.proofs.put_octet.Reads as put-octet-reads
 
 put-front-requires : tie.Need-put-front-requires
 put-front-requires c κs = search needs

@@ -4,9 +4,6 @@ use Rattle.rules.specs.Listing.{text}
 use Rattle.rules.specs.Areas.{laid}
 use Rattle.listing_text.proofs.put_title.Statement.{statement}
 use Rattle.listing_text.proofs.put_title.Tie as tie
-use Rattle.listing_text.proofs.put_title.Reads as reads
-use Rattle.listing_text.proofs.put_title.Lts as lts
-use Rattle.listing_text.proofs.put_text.Reads as put-text-reads
 
 slice-aggregate-put-text : tie.Need-slice-aggregate-put-text
 slice-aggregate-put-text c = search needs

@@ -4,9 +4,6 @@ use Rattle.rules.specs.Listing.{text, word}
 use Rattle.listing_text.proofs.Laws.{put-word}
 use Rattle.listing_text.proofs.put_word.Statement.{statement}
 use Rattle.listing_text.proofs.put_word.Tie as tie
-use Rattle.listing_text.proofs.put_word.Reads as reads
-use Rattle.listing_text.proofs.put_word.Lts as lts
-use Rattle.listing_text.proofs.put_text.Reads as put-text-reads
 
 enum-told : tie.Need-enum-told
 enum-told c = search needs

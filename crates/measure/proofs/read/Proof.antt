@@ -5,9 +5,11 @@ use lib.ListN.{length}
 use borrow.Author.Needs.{needs}
 use Rattle.measure.proofs.read.Statement.{statement}
 use Rattle.measure.proofs.read.Tie as tie
+use Rattle.rules.specs.Areas.{heldSize, recordsSize, unitsSize}
 
 abbrev Inv-loop : tie.InvT-loop
-Inv-loop size area₀ held₀ units₀ records₀ state₀ k₀ sum₀ area held units records state k sum = (length area ≡ length area₀) × (length held ≡ 65536) × (length units ≡ 12288) × (length records ≡ 9600)
+Inv-loop size area₀ held₀ units₀ records₀ state₀ k₀ sum₀ area held units records state k sum = (length area ≡ length area₀) × (length held ≡ heldSize) ×
+    (length units ≡ unitsSize) × (length records ≡ recordsSize)
 
 abbrev μ-loop : tie.MeasureT-loop
 μ-loop size area₀ held₀ units₀ records₀ state₀ k₀ sum₀ area held units records state k sum = 18446744073709551615 - k

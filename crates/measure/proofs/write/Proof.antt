@@ -5,9 +5,10 @@ use lib.ListN.{length}
 use borrow.Author.Needs.{needs}
 use Rattle.measure.proofs.write.Statement.{statement}
 use Rattle.measure.proofs.write.Tie as tie
+use Rattle.rules.specs.Areas.{batchSize}
 
 abbrev Inv-loop : tie.InvT-loop
-Inv-loop size batch₀ area₀ course₀ k₀ batch area course k = (length batch ≡ 32768) × (length area ≡ 4096)
+Inv-loop size batch₀ area₀ course₀ k₀ batch area course k = (length batch ≡ batchSize) × (length area ≡ 4096)
 
 abbrev μ-loop : tie.MeasureT-loop
 μ-loop size batch₀ area₀ course₀ k₀ batch area course k = 18446744073709551615 - k

@@ -5,12 +5,13 @@ use lib.ListN.{length}
 use borrow.Author.Needs.{needs}
 use Rattle.measure.proofs.write_batch.Statement.{statement}
 use Rattle.measure.proofs.write_batch.Tie as tie
+use Rattle.rules.specs.Areas.{batchSize}
 
 abbrev Inv-loop : tie.InvT-loop
 Inv-loop size batch area₀ course₀ k₀ area course k = length area ≡ length area₀
 
 abbrev μ-loop : tie.MeasureT-loop
-μ-loop size batch area₀ course₀ k₀ area course k = 32768 - k
+μ-loop size batch area₀ course₀ k₀ area course k = batchSize - k
 
 loop-holds : tie.Need-loop-holds Inv-loop μ-loop
 loop-holds c = search needs

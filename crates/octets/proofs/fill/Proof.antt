@@ -1,10 +1,9 @@
 -- `octets::fill` meets its contract: after i turns the first i octets are x.
-use Prim.Native.Nat.{_≤_, _-_, _+_}
+use Prim.Native.Nat.{_≤_, _-_}
 use mathlib.Core.Path.{_≡_, refl}
 use mathlib.Core.List.{_++_}
 use lib.ListN.{length, drop, replicate, length-set}
 use borrow.Author.Needs.{needs}
-use native.Mathlib.Omega.{arith}
 use Rattle.octets.proofs.Turns.{fill-turn, fill-full}
 use Rattle.octets.proofs.fill.Statement.{statement}
 use Rattle.octets.proofs.fill.Tie as tie

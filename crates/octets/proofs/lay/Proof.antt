@@ -1,7 +1,6 @@
 -- `octets::lay` meets its contract: the part lent is as long as the source, so all of it becomes the source.
 use Prim.Native.Nat.{_+_, _-_}
-use mathlib.Core.Path.{_≡_, refl, ap, _∙_}
-use mathlib.Core.List.{List}
+use mathlib.Core.Path.{refl, ap, _∙_}
 use lib.ListN.{length, take, drop}
 use borrow.Rule.Slice.PartMut.{putMid}
 use Rattle.octets.proofs.Turns.{lent, part-long, copied-whole}

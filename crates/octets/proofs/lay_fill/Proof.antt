@@ -1,6 +1,6 @@
 -- `octets::lay_fill` meets its contract: all of the part lent is filled.
 use Prim.Native.Nat.{ℕ, _+_, _-_}
-use mathlib.Core.Path.{_≡_, refl, ap, _∙_}
+use mathlib.Core.Path.{ap, _∙_}
 use lib.ListN.{replicate, length-replicate}
 use borrow.Rule.Slice.PartMut.{putMid}
 use Rattle.octets.proofs.Turns.{lent, part-long}

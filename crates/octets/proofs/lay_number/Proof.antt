@@ -1,6 +1,6 @@
 -- `octets::lay_number` meets its contract: all of the part lent is spelled.
 use Prim.Native.Nat.{ℕ, _+_, _-_}
-use mathlib.Core.Path.{_≡_, refl, ap, _∙_}
+use mathlib.Core.Path.{ap, _∙_}
 use borrow.Rule.Slice.PartMut.{putMid}
 use Rattle.rules.specs.Octets.{be}
 use Rattle.rules.proofs.Octets.{length-be}

@@ -1,7 +1,6 @@
 -- `octets::spell` meets its contract: what is left of the number is spelled by the octets not written yet.
 use borrow.Author.Needs.{needs}
 use native.Mathlib.Omega.{arith}
-use lib.ListN.{length-set}
 use Rattle.octets.proofs.Turns.{Spelled, spell-none, spell-turn, spell-all, spelled-long}
 use Rattle.octets.proofs.spell.Statement.{statement}
 use Rattle.octets.proofs.spell.Tie as tie

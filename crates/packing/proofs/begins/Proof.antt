@@ -33,7 +33,8 @@ returns-2 : tie.Need-returns-2 Inv-loop μ-loop
 returns-2 c =
     let top = c .before .before .before .before .before in
     let a = top .before .args in
-    sym (top .loop .inv ∙ begins-other (a .word .now) (a .s .now) (top .loop .i) (c .before .before .before .before .loop-test .taken) (c .before .before .before .if1 .left) (c .if2 .taken))
+    sym (top .loop .inv ∙ begins-other (a .word .now) (a .s .now) (top .loop .i) (c .before .before .before .before .loop-test .taken)
+    (c .before .before .before .if1 .left) (c .if2 .taken))
 
 add-i : tie.Need-add-i Inv-loop μ-loop
 add-i c = search needs
@@ -45,7 +46,8 @@ loop-again : tie.Need-loop-again Inv-loop μ-loop
 loop-again c =
     let top = c .before .before .before .before .before in
     let a = top .before .args in
-    top .loop .inv ∙ begins-more (a .word .now) (a .s .now) (top .loop .i) (c .before .before .before .before .loop-test .taken) (c .before .before .before .if1 .left) (c .if2 .left)
+    top .loop .inv ∙ begins-more (a .word .now) (a .s .now) (top .loop .i) (c .before .before .before .before .loop-test .taken)
+    (c .before .before .before .if1 .left) (c .if2 .left)
 
 returns-3 : tie.Need-returns-3 Inv-loop μ-loop
 returns-3 c =

@@ -25,10 +25,12 @@ cast-l : tie.Need-cast-l
 cast-l c = omega (arith, c .before .shared-slice-known2 .given 0)
 
 returns-4 : tie.Need-returns-4
-returns-4 c = let a = c .before .before .before .before .before .before .args in sym (lane-is (a .numbered) (a .s .now) (c .before .before .before .if2 .left) (c .before .if3 .left) (c .if4 .taken))
+returns-4 c = let a = c .before .before .before .before .before .before .args in sym
+    (lane-is (a .numbered) (a .s .now) (c .before .before .before .if2 .left) (c .before .if3 .left) (c .if4 .taken))
 
 returns-5 : tie.Need-returns-5
-returns-5 c = let a = c .before .before .before .before .before .before .args in sym (lane-high (a .numbered) (a .s .now) (c .before .before .before .if2 .left) (c .before .if3 .left) (c .if4 .left))
+returns-5 c = let a = c .before .before .before .before .before .before .args in sym
+    (lane-high (a .numbered) (a .s .now) (c .before .before .before .if2 .left) (c .before .if3 .left) (c .if4 .left))
 
 pub lane-named-spec : {M : Type 1} → statement M
 lane-named-spec =

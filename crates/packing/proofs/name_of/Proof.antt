@@ -24,14 +24,22 @@ begins-requires-2 c κs = search needs
 
 returns-2 : tie.Need-returns-2
 unfolding nameOf text
-returns-2 c = rw (sym (c .before .before .before .before .begins .ensures) ∙ c .before .before .before .if1 .left, sym (c .before .begins2 .ensures) ∙ c .if2 .taken)
+returns-2 c = rw (
+  sym (c .before .before .before .before .begins .ensures) ∙ c .before .before .before .if1 .left,
+  sym (c .before .begins2 .ensures)
+      ∙ c .if2 .taken,
+)
 
 lane-named-requires : tie.Need-lane-named-requires
 lane-named-requires c κs = search needs
 
 returns-3 : tie.Need-returns-3
 unfolding nameOf text
-returns-3 c = c .lane-named .ensures ∙ rw (sym (c .before .before .before .before .before .begins .ensures) ∙ c .before .before .before .before .if1 .left, sym (c .before .before .begins2 .ensures) ∙ c .before .if2 .left)
+returns-3 c = c .lane-named .ensures ∙ rw (
+  sym (c .before .before .before .before .before .begins .ensures)
+      ∙ c .before .before .before .before .if1 .left,
+  sym (c .before .before .begins2 .ensures) ∙ c .before .if2 .left,
+)
 
 pub name-of-spec : {M : Type 1} → statement M
 name-of-spec =

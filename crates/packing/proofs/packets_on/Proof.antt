@@ -36,40 +36,43 @@ packets-step-requires c κs = search needs
 
 loop-less : tie.Need-loop-less Inv-loop μ-loop
 loop-less c =
+    let c₈ = c .before .before .before .before .before .before .before .before in
     omega (
       arith,
       c .before .before .before .before .before .before .before .fill-up .ensures .at,
       turned-more
           (c .before .before .before .before .packets-step .ensures) (c .if2 .taken),
-      c .before .before .before .before .before .before .before .before .before
+      c₈ .before
           .if1 .taken,
     )
 
 loop-again : tie.Need-loop-again Inv-loop μ-loop
-loop-again c = (
-  omega (
-    arith,
-    c .before .before .before .before .before .before .before .fill-up .ensures .fits,
-    c .before .before .before .before .before .before
-        .before .before .before .before .before .loop .inv .1,
-    c .before .before .before .before .packets-step .ensures .have,
-  ),
-  search needs,
-  turn
-      (c .before .before .before .before .before .before .before .before .before .before .before .loop .inv .2)
-      (c .before .before .before .before .before .before .before .fill-up .ensures .at) (still (search needs)
-      (c .before .before .before .before .before .before .before .fill-up .ensures)) (c .before .before .before .before .packets-step .ensures),
-)
+loop-again c =
+    let c₈ = c .before .before .before .before .before .before .before .before in (
+      omega (
+        arith,
+        c .before .before .before .before .before .before .before .fill-up .ensures .fits,
+        c .before .before .before .before .before .before
+            .before .before .before .before .before .loop .inv .1,
+        c .before .before .before .before .packets-step .ensures .have,
+      ),
+      search needs,
+      turn
+          (c₈ .before .before .before .loop .inv .2)
+          (c .before .before .before .before .before .before .before .fill-up .ensures .at) (still (search needs)
+          (c .before .before .before .before .before .before .before .fill-up .ensures)) (c .before .before .before .before .packets-step .ensures),
+    )
 
 returns : tie.Need-returns Inv-loop μ-loop
 returns c = record { at = _; left = _; gone = c .before .before .loop .inv .2 }
 
 returns-2 : tie.Need-returns-2 Inv-loop μ-loop
 returns-2 c =
+    let c₈ = c .before .before .before .before .before .before .before .before in
     record {
       at = _;
       left = _;
-      gone = turn (c .before .before .before .before .before .before .before .before .before .before .before .loop .inv .2)
+      gone = turn (c₈ .before .before .before .loop .inv .2)
           (c .before .before .before .before .before .before .before .fill-up .ensures .at) (still (search needs)
           (c .before .before .before .before .before .before .before .fill-up .ensures)) (c .before .before .before .before .packets-step .ensures);
     }

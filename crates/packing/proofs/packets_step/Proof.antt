@@ -52,7 +52,9 @@ slice-relend-prefix-shift : tie.Need-slice-relend-prefix-shift
 slice-relend-prefix-shift c = search needs
 
 slice-aggregate-shift : tie.Need-slice-aggregate-shift
-slice-aggregate-shift c = sym (length-take-le _ _ (c .before .before .before .before .before .before .before .before .before .pre .0))
+slice-aggregate-shift c =
+    let c₈ = c .before .before .before .before .before .before .before .before in
+    sym (length-take-le _ _ (c₈ .before .pre .0))
 
 shift-requires : tie.Need-shift-requires
 shift-requires c κs = search needs
@@ -62,22 +64,24 @@ is-sound-requires c κs = search needs
 
 sub-t23 : tie.Need-sub-t23
 sub-t23 c =
-    batch-fits (c .before .before .before .before .before .before .before .before .before .before .before .before .before .args .j)
-    (c .before .before .before .before .before .before .before .before .before .before .before .before .before .args .w)
-    (c .before .before .before .before .before .before .before .before .before .before .before .before .before .args .area .now)
+    let c₈ = c .before .before .before .before .before .before .before .before in
+    batch-fits (c₈ .before .before .before .before .before .args .j)
+    (c₈ .before .before .before .before .before .args .w)
+    (c₈ .before .before .before .before .before .args .area .now)
     (c .before .before .before .before .before .before .before .before .next-batch .ensures) .0
 
 add-t25 : tie.Need-add-t25
 add-t25 c =
+    let c₈ = c .before .before .before .before .before .before .before .before in
     omega (
       arith,
-      batch-fits (c .before .before .before .before .before .before .before .before .before .before .before .before .before .before .args .j)
-          (c .before .before .before .before .before .before .before .before .before .before .before .before .before .before .args .w)
-          (c .before .before .before .before .before .before .before .before .before .before .before .before .before .before .args .area .now)
-          (c .before .before .before .before .before .before .before .before .before .next-batch .ensures) .1,
+      batch-fits (c₈ .before .before .before .before .before .before .args .j)
+          (c₈ .before .before .before .before .before .before .args .w)
+          (c₈ .before .before .before .before .before .before .args .area .now)
+          (c₈ .before .next-batch .ensures) .1,
       c .before .before .before .before .before .before
           .before .before .before .before .before .before .before .before .pre .1,
-      c .before .before .before .before .before .before .before .before .before
+      c₈ .before
           .before .before .before .before .before .pre .2,
     )
 
@@ -86,13 +90,14 @@ same-length-2 c = search needs
 
 returns-2 : tie.Need-returns-2
 returns-2 c =
-    let a = c .before .before .before .before .before .before .before .before .before .before .before .before .before .before .args in
-    let e = c .before .before .before .before .before .before .before .before .before .next-batch .ensures in
+    let c₈ = c .before .before .before .before .before .before .before .before in
+    let a = c₈ .before .before .before .before .before .before .args in
+    let e = c₈ .before .next-batch .ensures in
     turned-some _ _ _ _ _ _ e (c .before .before .before .before .before .before .before .before .if1 .left) (rw (take-take _ (a .w .have) (a .area .now)
     (batch-fits (a .j) (a .w) (a .area .now) e .0)) (c .before .before .before .before .before .before .batch-on .ensures)) (c .before .is-sound .ensures)
-    (ap (λ (ys : List ℕ). take (a .w .have - c .before .before .before .before .before .before .before .before .before .next-batch .result) (ys ++ drop
+    (ap (λ (ys : List ℕ). take (a .w .have - c₈ .before .next-batch .result) (ys ++ drop
     (a .w .have) (a .area .now))) (c .before .before .before .before .shift .ensures) ∙ shifted (a .area .now) (a .w .have) _
-    (c .before .before .before .before .before .before .before .before .before .before .before .before .before .before .pre .0))
+    (c₈ .before .before .before .before .before .before .pre .0))
 
 pub packets-step-spec : {M : Type 1} → statement M
 packets-step-spec =

@@ -49,11 +49,12 @@ same-length-2 c = search needs
 
 returns-2 : tie.Need-returns-2
 returns-2 c =
+    let c₈ = c .before .before .before .before .before .before .before .before in
     record {
       fits = search needs;
       more = search needs;
       at = refl;
-      kept = let a = c .before .before .before .before .before .before .before .before .before
+      kept = let a = c₈ .before
           in take-put (a .args .w .have) (length (a .args .area .now) - a .args .w .have) (a .args .area .now)
           (c .before .before .before .before .before .before .read .last .1 .0) (a .pre);
     }

@@ -32,7 +32,8 @@ same-length-2 : tie.Need-same-length-2
 same-length-2 c = search needs
 
 returns-2 : tie.Need-returns-2
-returns-2 c = sent-refused _ _ _ _ _ _ (write-is _ _ _ _ _ _ _ (c .before .before .before .before .before .before .write .ensures)) _ (c .before .outcome .given .1)
+returns-2 c = sent-refused _ _ _ _ _ _ (write-is _ _ _ _ _ _ _ (c .before .before .before .before .before .before .write .ensures)) _
+    (c .before .outcome .given .1)
 
 pub send-next-spec : {M : Type 1} → statement M
 send-next-spec =

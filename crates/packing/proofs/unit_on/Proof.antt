@@ -1,6 +1,5 @@
 -- What was read stands in the area.
 use mathlib.Core.Path.{sym}
-use native.Mathlib.Omega.{arith}
 use lib.Seq.{length-take-le}
 use borrow.Author.Needs.{needs}
 use Rattle.packing.proofs.unit_on.Statement.{statement}

@@ -1,6 +1,6 @@
 -- The invariant: what is left to do from here comes to what was to do at first.
-use Prim.Native.Nat.{ℕ, suc, _+_, _-_, _≤_}
-use mathlib.Core.Path.{_≡_, refl, sym, ap, _∙_}
+use Prim.Native.Nat.{suc, _+_, _-_, _≤_}
+use mathlib.Core.Path.{_≡_, refl, sym, _∙_}
 use lib.ListN.{length}
 use native.Mathlib.Omega.{arith}
 use Rattle.packing.specs.Courses.{workedOff, areaBefore}
@@ -8,13 +8,14 @@ use Rattle.packing.proofs.Courses.{work-on, work-ends, work-done}
 use borrow.Author.Needs.{needs}
 use Rattle.packing.proofs.work_off.Statement.{statement}
 use Rattle.packing.proofs.work_off.Tie as tie
+use Rattle.rules.specs.Areas.{batchSize}
 
 abbrev Inv-loop : tie.InvT-loop
-Inv-loop l batch insert ocf area₀ course₀ k₀ area course k = (k ≤ 32768) × (length area ≡ 4096)
-    × (workedOff 32768 course₀ l batch insert ocf area₀ ≡ workedOff (32768 - k) course l batch insert ocf area)
+Inv-loop l batch insert ocf area₀ course₀ k₀ area course k = (k ≤ batchSize) × (length area ≡ 4096)
+    × (workedOff batchSize course₀ l batch insert ocf area₀ ≡ workedOff (batchSize - k) course l batch insert ocf area)
 
 abbrev μ-loop : tie.MeasureT-loop
-μ-loop l batch insert ocf area₀ course₀ k₀ area course k = 32768 - k
+μ-loop l batch insert ocf area₀ course₀ k₀ area course k = batchSize - k
 
 loop-holds : tie.Need-loop-holds Inv-loop μ-loop
 loop-holds c = (search needs, search needs, refl)
@@ -36,19 +37,19 @@ loop-less c = search needs
 
 loop-again : tie.Need-loop-again Inv-loop μ-loop
 loop-again c = let l = c .before .before .before .before .before .before .loop in
-    let f : 32768 - l .k ≡ suc (32768 - (l .k + 1)) = omega arith in
+    let f : batchSize - l .k ≡ suc (batchSize - (l .k + 1)) = omega arith in
     (search needs, search needs, l .inv .2 ∙ work-on (c .before .before .before .send-next .ensures) f (sym (c .before .goes-on .ensures) ∙ c .if1 .taken))
 
 returns : tie.Need-returns Inv-loop μ-loop
 unfolding areaBefore
 returns c = let l = c .before .loop in
-    let f : 32768 - l .k ≡ 0 = omega arith in
+    let f : batchSize - l .k ≡ 0 = omega arith in
     λ _. sym (l .inv .2 ∙ work-done (l .course) _ _ _ _ (l .area) f)
 
 returns-2 : tie.Need-returns-2 Inv-loop μ-loop
 unfolding areaBefore
 returns-2 c = let l = c .before .before .before .before .before .before .loop in
-    let f : 32768 - l .k ≡ suc (32768 - (l .k + 1)) = omega arith in
+    let f : batchSize - l .k ≡ suc (batchSize - (l .k + 1)) = omega arith in
     λ h. work-ends (c .before .before .before .send-next .ensures) f (sym (c .before .goes-on .ensures) ∙ c .if1 .left) h ∙ sym (l .inv .2)
 
 pub work-off-spec : {M : Type 1} → statement M

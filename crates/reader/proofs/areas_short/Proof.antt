@@ -1,5 +1,4 @@
 -- `reader::areas_short` meets its contract: each test on the way is one of the rule's three.
-use mathlib.Core.Path.{_≡_, refl, sym, ap, _∙_}
 use borrow.Author.Tests.{eq-eqb, ne-eqb, lt-ltb, le-ltb}
 use Rattle.reader.proofs.areas_short.Statement.{statement}
 use Rattle.reader.proofs.areas_short.Tie as tie

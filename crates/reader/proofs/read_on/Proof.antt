@@ -1,9 +1,8 @@
 -- `reader::read_on` meets its contract: zone and part are cut out as the sight says, and the step's promise is laid back into the held area.
 use native.Mathlib.Omega.{arith}
-use mathlib.Core.Path.{_≡_, refl, sym, ap, _∙_}
-use Prim.Native.Nat.{_+_, _-_, _*_, _<_}
-use Rattle.judge.specs.declared.Sight.{Sight}
-use Rattle.reader.proofs.Laid.{eight, here, channel-eight, inside, lent-here, few-dropped, laid-here}
+use mathlib.Core.Path.{_≡_, refl}
+use Prim.Native.Nat.{_+_, _-_, _*_}
+use Rattle.reader.proofs.Laid.{eight, channel-eight, inside, lent-here, few-dropped, laid-here}
 use borrow.Author.Needs.{needs}
 use Rattle.reader.proofs.read_on.Statement.{statement}
 use Rattle.reader.proofs.read_on.Tie as tie

@@ -34,8 +34,11 @@ returns c =
     let b = c .before .before .before .before .before .before .before .before in
     let v = b .before .before .before .sight-of .ensures in
     let a = b .before .before .before .before .before .before .before .before .args in
-    let e = sighted (a .r) (a .frame .now) (a .held .now) (a .units .now) (a .records .now) _ (v .0) in
-    (c .before .before .before .before .before .before .act-on .ensures, b .before .before .verdict-of .ensures ∙ ap verdictIn (sym e) ∙ verdict-back (a .r .setting) (a .frame .now) _)
+    let e = sighted (a .r) (a .frame .now) (a .held .now) (a .units .now) (a .records .now) _ (v .0) in (
+      c .before .before .before .before .before .before .act-on .ensures,
+      b .before .before .verdict-of .ensures ∙ ap verdictIn (sym e) ∙ verdict-back
+          (a .r .setting) (a .frame .now) _,
+    )
 
 pub read-whose-spec : {M : Type 1} → statement M
 read-whose-spec =

@@ -1,5 +1,5 @@
 -- `reader::set_up` meets its contract: the setting's rule decides which of the two answers it is.
-use mathlib.Core.Path.{_≡_, sym, _∙_}
+use mathlib.Core.Path.{sym, _∙_}
 use Rattle.rules.specs.Calls.{setUpReader}
 use Rattle.rules.proofs.Promises.{reader-starts-by}
 use borrow.Author.Needs.{needs}

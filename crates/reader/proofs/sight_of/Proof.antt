@@ -1,5 +1,5 @@
 -- `reader::sight_of` meets its contract: state, then areas, then the frame.
-use mathlib.Core.Path.{_≡_, sym, _∙_}
+use mathlib.Core.Path.{sym, _∙_}
 use Rattle.rules.proofs.Valid.{good-reader}
 use Rattle.judge.specs.Sights.{sightOf}
 use borrow.Author.Needs.{needs}

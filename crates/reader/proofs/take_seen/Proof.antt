@@ -1,5 +1,4 @@
 -- `reader::take_seen` meets its contract: the count is taken, and what the sight says of the lane decides.
-use mathlib.Core.Path.{_≡_, refl, sym, ap, _∙_}
 use Rattle.reader.proofs.Verdicts.{seen-good, counted-kept, on-lane, lane-kept}
 use borrow.Author.Needs.{needs}
 use Rattle.reader.proofs.take_seen.Statement.{statement}

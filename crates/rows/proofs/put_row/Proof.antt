@@ -1,13 +1,12 @@
 -- `rows::put_row` meets its contract. Before number i the first i numbers stand in the area.
 use mathlib.Core.Path.{sym}
 use Prim.Native.Nat.{_≤_, _-_, _*_}
-use mathlib.Core.Path.{_≡_, _∙_, ap}
-use native.Mathlib.Omega.{arith}
+use mathlib.Core.Path.{_≡_, _∙_}
 use lib.ListN.{length, take}
 use Rattle.rules.specs.Areas.{laid}
-use Rattle.rules.proofs.Areas.{laid-nil, length-laid}
+use Rattle.rules.proofs.Areas.{laid-nil}
 use Rattle.rows.specs.Rows.{spelled}
-use Rattle.rows.proofs.Rows.{row-turn, row-all, length-spelled}
+use Rattle.rows.proofs.Rows.{row-turn, row-all}
 use borrow.Author.Needs.{needs}
 use Rattle.rows.proofs.put_row.Statement.{statement}
 use Rattle.rows.proofs.put_row.Tie as tie

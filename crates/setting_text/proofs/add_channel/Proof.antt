@@ -30,21 +30,37 @@ refused-requires-2 c κs = search needs
 
 returns-2 : tie.Need-returns-2
 unfolding addChannel
-returns-2 c = rw (sym (c .before .before .before .before .before .channel-at .ensures) ∙ c .before .before .before .enum-told .given .1, sym (c .before .before .ocf-unlike .ensures) ∙ c .before .if1 .taken) (c .refused2 .ensures)
+returns-2 c = rw (
+  sym (c .before .before .before .before .before .channel-at .ensures) ∙ c .before .before .before .enum-told .given .1,
+  sym
+      (c .before .before .ocf-unlike .ensures) ∙ c .before .if1 .taken,
+) (c .refused2 .ensures)
 
 refused-requires-3 : tie.Need-refused-requires-3
 refused-requires-3 c κs = search needs
 
 returns-3 : tie.Need-returns-3
 unfolding addChannel
-returns-3 c = rw (sym (c .before .before .before .before .before .before .before .channel-at .ensures) ∙ c .before .before .before .before .before .enum-told .given .1, sym (c .before .before .before .before .ocf-unlike .ensures) ∙ c .before .before .before .if1 .left, le-leb _ _ (c .before .if2 .taken)) (c .refused3 .ensures)
+returns-3 c = rw (
+  sym (c .before .before .before .before .before .before .before .channel-at .ensures)
+      ∙ c .before .before .before .before .before .enum-told .given .1,
+  sym (c .before .before .before .before .ocf-unlike .ensures)
+      ∙ c .before .before .before .if1 .left,
+  le-leb _ _ (c .before .if2 .taken),
+) (c .refused3 .ensures)
 
 put-channel-requires : tie.Need-put-channel-requires
 put-channel-requires c κs = search needs
 
 returns-4 : tie.Need-returns-4
 unfolding addChannel
-returns-4 c = rw (sym (c .before .before .before .before .before .before .before .channel-at .ensures) ∙ c .before .before .before .before .before .enum-told .given .1, sym (c .before .before .before .before .ocf-unlike .ensures) ∙ c .before .before .before .if1 .left, lt-leb _ _ (c .before .if2 .left)) (c .put-channel .ensures)
+returns-4 c = rw (
+  sym (c .before .before .before .before .before .before .before .channel-at .ensures)
+      ∙ c .before .before .before .before .before .enum-told .given .1,
+  sym (c .before .before .before .before .ocf-unlike .ensures)
+      ∙ c .before .before .before .if1 .left,
+  lt-leb _ _ (c .before .if2 .left),
+) (c .put-channel .ensures)
 
 pub add-channel-spec : {M : Type 1} → statement M
 add-channel-spec =

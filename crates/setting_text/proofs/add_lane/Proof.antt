@@ -27,14 +27,22 @@ refused-requires-2 c κs = search needs
 
 returns-2 : tie.Need-returns-2
 unfolding addLane
-returns-2 c = rw (sym (c .before .before .before .before .before .lane-at .ensures) ∙ c .before .before .before .enum-told .given .1, le-leb _ _ (c .before .if1 .taken)) (c .refused2 .ensures)
+returns-2 c = rw (
+  sym (c .before .before .before .before .before .lane-at .ensures) ∙ c .before .before .before .enum-told .given .1,
+  le-leb _ _
+      (c .before .if1 .taken),
+) (c .refused2 .ensures)
 
 put-lane-requires : tie.Need-put-lane-requires
 put-lane-requires c κs = search needs
 
 returns-3 : tie.Need-returns-3
 unfolding addLane
-returns-3 c = rw (sym (c .before .before .before .before .before .lane-at .ensures) ∙ c .before .before .before .enum-told .given .1, lt-leb _ _ (c .before .if1 .left)) (c .put-lane .ensures)
+returns-3 c = rw (
+  sym (c .before .before .before .before .before .lane-at .ensures) ∙ c .before .before .before .enum-told .given .1,
+  lt-leb _ _
+      (c .before .if1 .left),
+) (c .put-lane .ensures)
 
 pub add-lane-spec : {M : Type 1} → statement M
 add-lane-spec =

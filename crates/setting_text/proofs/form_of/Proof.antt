@@ -29,7 +29,12 @@ same-word-requires-2 c κs = search needs
 
 returns-3 : tie.Need-returns-3
 unfolding formOf text
-returns-3 c = rw (same-some _ (c .before .before .before .before .before .before .if1 .left), sym (c .before .before .before .before .same-word .ensures) ∙ c .before .before .before .if2 .left, sym (c .before .same-word2 .ensures) ∙ c .if3 .taken)
+returns-3 c = rw (
+  same-some _ (c .before .before .before .before .before .before .if1 .left),
+  sym (c .before .before .before .before .same-word .ensures)
+      ∙ c .before .before .before .if2 .left,
+  sym (c .before .same-word2 .ensures) ∙ c .if3 .taken,
+)
 
 slice-aggregate-same-word-3 : tie.Need-slice-aggregate-same-word-3
 slice-aggregate-same-word-3 c = search needs
@@ -39,7 +44,16 @@ same-word-requires-3 c κs = search needs
 
 returns-4 : tie.Need-returns-4
 unfolding formOf text
-returns-4 c = rw (same-some _ (c .before .before .before .before .before .before .before .before .before .if1 .left), sym (c .before .before .before .before .before .before .before .same-word .ensures) ∙ c .before .before .before .before .before .before .if2 .left, sym (c .before .before .before .before .same-word2 .ensures) ∙ c .before .before .before .if3 .left, sym (c .before .same-word3 .ensures) ∙ c .if4 .taken)
+returns-4 c =
+    let c₈ = c .before .before .before .before .before .before .before .before in
+    rw (
+      same-some _ (c₈ .before .if1 .left),
+      sym (c .before .before .before .before .before .before .before .same-word .ensures)
+          ∙ c .before .before .before .before .before .before .if2 .left,
+      sym (c .before .before .before .before .same-word2 .ensures)
+          ∙ c .before .before .before .if3 .left,
+      sym (c .before .same-word3 .ensures) ∙ c .if4 .taken,
+    )
 
 slice-aggregate-same-word-4 : tie.Need-slice-aggregate-same-word-4
 slice-aggregate-same-word-4 c = search needs
@@ -49,14 +63,35 @@ same-word-requires-4 c κs = search needs
 
 returns-5 : tie.Need-returns-5
 unfolding formOf text
-returns-5 c = rw (same-some _ (c .before .before .before .before .before .before .before .before .before .before .before .before .if1 .left), sym (c .before .before .before .before .before .before .before .before .before .before .same-word .ensures) ∙ c .before .before .before .before .before .before .before .before .before .if2 .left, sym (c .before .before .before .before .before .before .before .same-word2 .ensures) ∙ c .before .before .before .before .before .before .if3 .left, sym (c .before .before .before .before .same-word3 .ensures) ∙ c .before .before .before .if4 .left, sym (c .before .same-word4 .ensures) ∙ c .if5 .taken)
+returns-5 c =
+    let c₈ = c .before .before .before .before .before .before .before .before in
+    rw (
+      same-some _ (c₈ .before .before .before .before .if1 .left),
+      sym (c₈ .before .before .same-word .ensures) ∙ c₈ .before .if2 .left,
+      sym
+          (c .before .before .before .before .before .before .before .same-word2 .ensures) ∙ c .before .before .before .before .before .before .if3 .left,
+      sym
+          (c .before .before .before .before .same-word3 .ensures) ∙ c .before .before .before .if4 .left,
+      sym (c .before .same-word4 .ensures) ∙ c .if5 .taken,
+    )
 
 list-form-requires : tie.Need-list-form-requires
 list-form-requires c κs = search needs
 
 returns-6 : tie.Need-returns-6
 unfolding formOf text
-returns-6 c = rw (same-some _ (c .before .before .before .before .before .before .before .before .before .before .before .before .before .if1 .left), sym (c .before .before .before .before .before .before .before .before .before .before .before .same-word .ensures) ∙ c .before .before .before .before .before .before .before .before .before .before .if2 .left, sym (c .before .before .before .before .before .before .before .before .same-word2 .ensures) ∙ c .before .before .before .before .before .before .before .if3 .left, sym (c .before .before .before .before .before .same-word3 .ensures) ∙ c .before .before .before .before .if4 .left, sym (c .before .before .same-word4 .ensures) ∙ c .before .if5 .left) (c .list-form .ensures)
+returns-6 c =
+    let c₈ = c .before .before .before .before .before .before .before .before in
+    rw (
+      same-some _ (c₈ .before .before .before .before .before .if1 .left),
+      sym (c₈ .before .before .before .same-word .ensures)
+          ∙ c₈ .before .before .if2 .left,
+      sym (c .before .before .before .before .before .before .before .before .same-word2 .ensures)
+          ∙ c .before .before .before .before .before .before .before .if3 .left,
+      sym (c .before .before .before .before .before .same-word3 .ensures)
+          ∙ c .before .before .before .before .if4 .left,
+      sym (c .before .before .same-word4 .ensures) ∙ c .before .if5 .left,
+    ) (c .list-form .ensures)
 
 pub form-of-spec : {M : Type 1} → statement M
 form-of-spec =

@@ -23,11 +23,19 @@ setting-ok-requires c κs = search needs
 
 returns-2 : tie.Need-returns-2
 unfolding judged
-returns-2 c = rw (sym (c .before .before .before .before .zoneless-at .ensures) ∙ c .before .before .enum-told .given .1, sym (c .before .setting-ok .ensures) ∙ c .if1 .taken)
+returns-2 c = rw (
+  sym (c .before .before .before .before .zoneless-at .ensures) ∙ c .before .before .enum-told .given .1,
+  sym (c .before .setting-ok .ensures)
+      ∙ c .if1 .taken,
+)
 
 returns-3 : tie.Need-returns-3
 unfolding judged
-returns-3 c = rw (sym (c .before .before .before .before .zoneless-at .ensures) ∙ c .before .before .enum-told .given .1, sym (c .before .setting-ok .ensures) ∙ c .if1 .left)
+returns-3 c = rw (
+  sym (c .before .before .before .before .zoneless-at .ensures) ∙ c .before .before .enum-told .given .1,
+  sym (c .before .setting-ok .ensures)
+      ∙ c .if1 .left,
+)
 
 pub judge-spec : {M : Type 1} → statement M
 judge-spec =

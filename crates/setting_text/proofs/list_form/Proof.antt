@@ -24,7 +24,11 @@ same-word-requires-2 c κs = search needs
 
 returns-2 : tie.Need-returns-2
 unfolding listForm text
-returns-2 c = rw (sym (c .before .before .before .before .same-word .ensures) ∙ c .before .before .before .if1 .left, sym (c .before .same-word2 .ensures) ∙ c .if2 .taken)
+returns-2 c = rw (
+  sym (c .before .before .before .before .same-word .ensures) ∙ c .before .before .before .if1 .left,
+  sym (c .before .same-word2 .ensures)
+      ∙ c .if2 .taken,
+)
 
 slice-aggregate-same-word-3 : tie.Need-slice-aggregate-same-word-3
 slice-aggregate-same-word-3 c = search needs
@@ -34,7 +38,13 @@ same-word-requires-3 c κs = search needs
 
 returns-3 : tie.Need-returns-3
 unfolding listForm text
-returns-3 c = rw (sym (c .before .before .before .before .before .before .before .same-word .ensures) ∙ c .before .before .before .before .before .before .if1 .left, sym (c .before .before .before .before .same-word2 .ensures) ∙ c .before .before .before .if2 .left, sym (c .before .same-word3 .ensures) ∙ c .if3 .taken)
+returns-3 c = rw (
+  sym (c .before .before .before .before .before .before .before .same-word .ensures)
+      ∙ c .before .before .before .before .before .before .if1 .left,
+  sym (c .before .before .before .before .same-word2 .ensures)
+      ∙ c .before .before .before .if2 .left,
+  sym (c .before .same-word3 .ensures) ∙ c .if3 .taken,
+)
 
 slice-aggregate-same-word-4 : tie.Need-slice-aggregate-same-word-4
 slice-aggregate-same-word-4 c = search needs
@@ -44,11 +54,29 @@ same-word-requires-4 c κs = search needs
 
 returns-4 : tie.Need-returns-4
 unfolding listForm text
-returns-4 c = rw (sym (c .before .before .before .before .before .before .before .before .before .before .same-word .ensures) ∙ c .before .before .before .before .before .before .before .before .before .if1 .left, sym (c .before .before .before .before .before .before .before .same-word2 .ensures) ∙ c .before .before .before .before .before .before .if2 .left, sym (c .before .before .before .before .same-word3 .ensures) ∙ c .before .before .before .if3 .left, sym (c .before .same-word4 .ensures) ∙ c .if4 .taken)
+returns-4 c =
+    let c₈ = c .before .before .before .before .before .before .before .before in
+    rw (
+      sym (c₈ .before .before .same-word .ensures) ∙ c₈ .before .if1 .left,
+      sym
+          (c .before .before .before .before .before .before .before .same-word2 .ensures) ∙ c .before .before .before .before .before .before .if2 .left,
+      sym
+          (c .before .before .before .before .same-word3 .ensures) ∙ c .before .before .before .if3 .left,
+      sym (c .before .same-word4 .ensures) ∙ c .if4 .taken,
+    )
 
 returns-5 : tie.Need-returns-5
 unfolding listForm text
-returns-5 c = rw (sym (c .before .before .before .before .before .before .before .before .before .before .same-word .ensures) ∙ c .before .before .before .before .before .before .before .before .before .if1 .left, sym (c .before .before .before .before .before .before .before .same-word2 .ensures) ∙ c .before .before .before .before .before .before .if2 .left, sym (c .before .before .before .before .same-word3 .ensures) ∙ c .before .before .before .if3 .left, sym (c .before .same-word4 .ensures) ∙ c .if4 .left)
+returns-5 c =
+    let c₈ = c .before .before .before .before .before .before .before .before in
+    rw (
+      sym (c₈ .before .before .same-word .ensures) ∙ c₈ .before .if1 .left,
+      sym
+          (c .before .before .before .before .before .before .before .same-word2 .ensures) ∙ c .before .before .before .before .before .before .if2 .left,
+      sym
+          (c .before .before .before .before .same-word3 .ensures) ∙ c .before .before .before .if3 .left,
+      sym (c .before .same-word4 .ensures) ∙ c .if4 .left,
+    )
 
 pub list-form-spec : {M : Type 1} → statement M
 list-form-spec =

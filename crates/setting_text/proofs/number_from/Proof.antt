@@ -27,7 +27,8 @@ moved-requires c κs = search needs
 
 returns : tie.Need-returns
 returns c =
-    let e = number-step _ _ _ _ _ (c .before .before .before .before .next-word .ensures) _ _ _ _ (c .before .before .before .before .before .before .pre) (c .before .before .number-of .ensures) (c .before .in-range .ensures) (c .moved .ensures) in
+    let e = number-step _ _ _ _ _ (c .before .before .before .before .next-word .ensures) _ _ _ _ (c .before .before .before .before .before .before .pre)
+    (c .before .before .number-of .ensures) (c .before .in-range .ensures) (c .moved .ensures) in
     (e, seen-number _ _ _ _ _ e)
 
 pub number-from-spec : {M : Type 1} → statement M

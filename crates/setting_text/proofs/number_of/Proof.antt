@@ -25,10 +25,12 @@ shared-slice-read-x : tie.Need-shared-slice-read-x Inv-loop μ-loop
 shared-slice-read-x c = search needs
 
 returns-2 : tie.Need-returns-2 Inv-loop μ-loop
-returns-2 c = let w = c .before .before .before .before .before .args .word .now in let l = c .before .before .before in sym (l .loop .inv .3 ∙ number-low (l .loop .v) w (l .loop .i) (search needs) (c .if2 .taken))
+returns-2 c = let w = c .before .before .before .before .before .args .word .now in let l = c .before .before .before in sym
+    (l .loop .inv .3 ∙ number-low (l .loop .v) w (l .loop .i) (search needs) (c .if2 .taken))
 
 returns-3 : tie.Need-returns-3 Inv-loop μ-loop
-returns-3 c = let w = c .before .before .before .before .before .before .args .word .now in let l = c .before .before .before .before in sym (l .loop .inv .3 ∙ number-high (l .loop .v) w (l .loop .i) (search needs) (c .before .if2 .left) (c .if3 .taken))
+returns-3 c = let w = c .before .before .before .before .before .before .args .word .now in let l = c .before .before .before .before in sym
+    (l .loop .inv .3 ∙ number-high (l .loop .v) w (l .loop .i) (search needs) (c .before .if2 .left) (c .if3 .taken))
 
 mul-v : tie.Need-mul-v Inv-loop μ-loop
 mul-v c = search needs
@@ -43,7 +45,9 @@ add-v : tie.Need-add-v Inv-loop μ-loop
 add-v c = search needs
 
 returns-4 : tie.Need-returns-4 Inv-loop μ-loop
-returns-4 c = let w = c .before .before .before .before .before .before .before .args .word .now in let l = c .before .before .before .before .before in sym (l .loop .inv .3 ∙ number-turn (l .loop .v) w (l .loop .i) (search needs) (c .before .before .if2 .left) (c .before .if3 .left) ∙ number-large _ _ (c .if4 .taken))
+returns-4 c = let w = c .before .before .before .before .before .before .before .args .word .now in let l = c .before .before .before .before .before in sym
+    (l .loop .inv .3 ∙ number-turn (l .loop .v) w (l .loop .i) (search needs) (c .before .before .if2 .left) (c .before .if3 .left) ∙ number-large _ _
+    (c .if4 .taken))
 
 add-i : tie.Need-add-i Inv-loop μ-loop
 add-i c = search needs
@@ -52,10 +56,18 @@ loop-less : tie.Need-loop-less Inv-loop μ-loop
 loop-less c = search needs
 
 loop-again : tie.Need-loop-again Inv-loop μ-loop
-loop-again c = let w = c .before .before .before .before .before .before .before .args .word .now in let l = c .before .before .before .before .before in (search needs, search needs, search needs, l .loop .inv .3 ∙ rw add-one (number-turn (l .loop .v) w (l .loop .i) (search needs) (c .before .before .if2 .left) (c .before .if3 .left)))
+loop-again c = let w = c .before .before .before .before .before .before .before .args .word .now in let l = c .before .before .before .before .before
+    in (
+      search needs,
+      search needs,
+      search needs,
+      l .loop .inv .3 ∙ rw add-one
+          (number-turn (l .loop .v) w (l .loop .i) (search needs) (c .before .before .if2 .left) (c .before .if3 .left)),
+    )
 
 returns-5 : tie.Need-returns-5 Inv-loop μ-loop
-returns-5 c = let w = c .before .before .before .args .word .now in let l = c .before in sym (l .loop .inv .3 ∙ number-end (l .loop .v) w (l .loop .i) (search needs) (l .loop .inv .2))
+returns-5 c = let w = c .before .before .before .args .word .now in let l = c .before in sym
+    (l .loop .inv .3 ∙ number-end (l .loop .v) w (l .loop .i) (search needs) (l .loop .inv .2))
 
 pub number-of-spec : {M : Type 1} → statement M
 number-of-spec =

@@ -28,7 +28,8 @@ shared-slice-read-if2-2 : tie.Need-shared-slice-read-if2-2 Inv-loop μ-loop
 shared-slice-read-if2-2 c = search needs
 
 returns-2 : tie.Need-returns-2 Inv-loop μ-loop
-returns-2 c = let a = c .before .before .before .before .before .before .args in let l = c .before .before .before .before in sym (l .loop .inv .2 ∙ same-not (a .a .now) (a .b .now) (l .loop .i) (search needs) (search needs) (c .if2 .taken))
+returns-2 c = let a = c .before .before .before .before .before .before .args in let l = c .before .before .before .before in sym
+    (l .loop .inv .2 ∙ same-not (a .a .now) (a .b .now) (l .loop .i) (search needs) (search needs) (c .if2 .taken))
 
 add-i : tie.Need-add-i Inv-loop μ-loop
 add-i c = search needs
@@ -37,10 +38,12 @@ loop-less : tie.Need-loop-less Inv-loop μ-loop
 loop-less c = search needs
 
 loop-again : tie.Need-loop-again Inv-loop μ-loop
-loop-again c = let a = c .before .before .before .before .before .before .args in let l = c .before .before .before .before in (search needs, search needs, l .loop .inv .2 ∙ rw add-one (same-turn (a .a .now) (a .b .now) (l .loop .i) (search needs) (search needs) (c .if2 .left)))
+loop-again c = let a = c .before .before .before .before .before .before .args in let l = c .before .before .before .before
+    in (search needs, search needs, l .loop .inv .2 ∙ rw add-one (same-turn (a .a .now) (a .b .now) (l .loop .i) (search needs) (search needs) (c .if2 .left)))
 
 returns-3 : tie.Need-returns-3 Inv-loop μ-loop
-returns-3 c = let a = c .before .before .before .args in let l = c .before in sym (l .loop .inv .2 ∙ same-end (a .a .now) (a .b .now) (l .loop .i) (search needs) (search needs))
+returns-3 c = let a = c .before .before .before .args in let l = c .before in sym
+    (l .loop .inv .2 ∙ same-end (a .a .now) (a .b .now) (l .loop .i) (search needs) (search needs))
 
 pub same-word-spec : {M : Type 1} → statement M
 same-word-spec =

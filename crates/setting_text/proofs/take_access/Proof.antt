@@ -31,14 +31,30 @@ add-lane-of-requires c κs = search needs
 
 returns : tie.Need-returns
 unfolding text
-returns c = rw (access-line (c .before .before .before .before .before .before .before .before .before .before .args .d) (c .before .before .before .before .before .before .before .before .before .before .args .line .now) (c .before .before .before .before .before .before .before .before .before .before .args .c) (c .before .before .before .before .before .before .before .before .before .before .args .p) (c .before .before .before .before .before .before .before .before .before .before .args .map) _ _ _ _ _ (c .before .before .before .before .before .before .before .says-word .ensures) (c .before .before .before .before .before .before .number-from .ensures .0) (c .before .before .before .before .says-word2 .ensures) (c .before .before .before .number-from2 .ensures .0) (c .before .before .line-end .ensures), c .before .if1 .taken) (c .add-lane-of .ensures)
+returns c =
+    let c₈ = c .before .before .before .before .before .before .before .before in
+    rw (
+      access-line (c₈ .before .before .args .d) (c₈ .before .before .args .line .now) (c₈ .before .before .args .c) (c₈ .before .before .args .p)
+          (c₈ .before .before .args .map) _ _ _ _ _ (c .before .before .before .before .before .before .before .says-word .ensures)
+          (c .before .before .before .before .before .before .number-from .ensures .0) (c .before .before .before .before .says-word2 .ensures)
+          (c .before .before .before .number-from2 .ensures .0) (c .before .before .line-end .ensures),
+      c .before .if1 .taken,
+    ) (c .add-lane-of .ensures)
 
 refused-requires : tie.Need-refused-requires
 refused-requires c κs = search needs
 
 returns-2 : tie.Need-returns-2
 unfolding text
-returns-2 c = rw (access-line (c .before .before .before .before .before .before .before .before .before .before .args .d) (c .before .before .before .before .before .before .before .before .before .before .args .line .now) (c .before .before .before .before .before .before .before .before .before .before .args .c) (c .before .before .before .before .before .before .before .before .before .before .args .p) (c .before .before .before .before .before .before .before .before .before .before .args .map) _ _ _ _ _ (c .before .before .before .before .before .before .before .says-word .ensures) (c .before .before .before .before .before .before .number-from .ensures .0) (c .before .before .before .before .says-word2 .ensures) (c .before .before .before .number-from2 .ensures .0) (c .before .before .line-end .ensures), c .before .if1 .left) (c .refused .ensures)
+returns-2 c =
+    let c₈ = c .before .before .before .before .before .before .before .before in
+    rw (
+      access-line (c₈ .before .before .args .d) (c₈ .before .before .args .line .now) (c₈ .before .before .args .c) (c₈ .before .before .args .p)
+          (c₈ .before .before .args .map) _ _ _ _ _ (c .before .before .before .before .before .before .before .says-word .ensures)
+          (c .before .before .before .before .before .before .number-from .ensures .0) (c .before .before .before .before .says-word2 .ensures)
+          (c .before .before .before .number-from2 .ensures .0) (c .before .before .line-end .ensures),
+      c .before .if1 .left,
+    ) (c .refused .ensures)
 
 pub take-access-spec : {M : Type 1} → statement M
 take-access-spec =

@@ -41,22 +41,49 @@ line-end-requires : tie.Need-line-end-requires
 line-end-requires c κs = search needs
 
 channel-of-requires : tie.Need-channel-of-requires
-channel-of-requires c κs = (c .before .before .before .before .before .before .before .before .before .before .before .number-from .ensures .1, c .before .before .before .before .before .before .before .before .number-from2 .ensures .1)
+channel-of-requires c κs =
+    let c₈ = c .before .before .before .before .before .before .before .before in
+    (c₈ .before .before .before .number-from .ensures .1, c .before .before .before .before .before .before .before .before .number-from2 .ensures .1)
 
 add-channel-requires : tie.Need-add-channel-requires
 unfolding channelOf
-add-channel-requires c κs = (c .before .before .before .before .before .before .before .before .before .before .before .before .before .before .pre, rw (c .channel-of .ensures) (c .before .before .before .before .before .before .before .before .before .number-from2 .ensures .1))
+add-channel-requires c κs =
+    let c₈ = c .before .before .before .before .before .before .before .before in
+    (c₈ .before .before .before .before .before .before .pre, rw (c .channel-of .ensures) (c₈ .before .number-from2 .ensures .1))
 
 returns : tie.Need-returns
 unfolding text
-returns c = rw (channel-line (c .before .before .before .before .before .before .before .before .before .before .before .before .before .before .before .args .d) (c .before .before .before .before .before .before .before .before .before .before .before .before .before .before .before .args .line .now) (c .before .before .before .before .before .before .before .before .before .before .before .before .before .before .before .args .c) _ _ _ _ _ _ _ _ (c .before .before .before .before .before .before .before .before .before .before .before .before .before .number-from .ensures .0) (c .before .before .before .before .before .before .before .before .before .before .before .says-word .ensures) (c .before .before .before .before .before .before .before .before .before .before .number-from2 .ensures .0) (c .before .before .before .before .before .before .before .before .says-word2 .ensures) (c .before .before .before .before .before .before .before .number-from3 .ensures .0) (c .before .before .before .before .before .says-word3 .ensures) (c .before .before .before .before .yes-or-no .ensures) (c .before .before .before .line-end .ensures), c .before .before .if1 .taken, sym (c .before .channel-of .ensures)) (c .add-channel .ensures)
+returns c =
+    let c₈ = c .before .before .before .before .before .before .before .before in
+    rw (
+      channel-line (c₈ .before .before .before .before .before .before .before .args .d)
+          (c₈ .before .before .before .before .before .before .before .args .line .now)
+          (c₈ .before .before .before .before .before .before .before .args .c) _ _ _ _ _ _ _ _
+          (c₈ .before .before .before .before .before .number-from .ensures .0) (c₈ .before .before .before .says-word .ensures)
+          (c₈ .before .before .number-from2 .ensures .0) (c .before .before .before .before .before .before .before .before .says-word2 .ensures)
+          (c .before .before .before .before .before .before .before .number-from3 .ensures .0) (c .before .before .before .before .before .says-word3 .ensures)
+          (c .before .before .before .before .yes-or-no .ensures) (c .before .before .before .line-end .ensures),
+      c .before .before .if1 .taken,
+      sym
+          (c .before .channel-of .ensures),
+    ) (c .add-channel .ensures)
 
 refused-requires : tie.Need-refused-requires
 refused-requires c κs = search needs
 
 returns-2 : tie.Need-returns-2
 unfolding text
-returns-2 c = rw (channel-line (c .before .before .before .before .before .before .before .before .before .before .before .before .before .before .args .d) (c .before .before .before .before .before .before .before .before .before .before .before .before .before .before .args .line .now) (c .before .before .before .before .before .before .before .before .before .before .before .before .before .before .args .c) _ _ _ _ _ _ _ _ (c .before .before .before .before .before .before .before .before .before .before .before .before .number-from .ensures .0) (c .before .before .before .before .before .before .before .before .before .before .says-word .ensures) (c .before .before .before .before .before .before .before .before .before .number-from2 .ensures .0) (c .before .before .before .before .before .before .before .says-word2 .ensures) (c .before .before .before .before .before .before .number-from3 .ensures .0) (c .before .before .before .before .says-word3 .ensures) (c .before .before .before .yes-or-no .ensures) (c .before .before .line-end .ensures), c .before .if1 .left) (c .refused .ensures)
+returns-2 c =
+    let c₈ = c .before .before .before .before .before .before .before .before in
+    rw (
+      channel-line (c₈ .before .before .before .before .before .before .args .d) (c₈ .before .before .before .before .before .before .args .line .now)
+          (c₈ .before .before .before .before .before .before .args .c) _ _ _ _ _ _ _ _ (c₈ .before .before .before .before .number-from .ensures .0)
+          (c₈ .before .before .says-word .ensures) (c₈ .before .number-from2 .ensures .0)
+          (c .before .before .before .before .before .before .before .says-word2 .ensures)
+          (c .before .before .before .before .before .before .number-from3 .ensures .0) (c .before .before .before .before .says-word3 .ensures)
+          (c .before .before .before .yes-or-no .ensures) (c .before .before .line-end .ensures),
+      c .before .if1 .left,
+    ) (c .refused .ensures)
 
 pub take-channel-spec : {M : Type 1} → statement M
 take-channel-spec =

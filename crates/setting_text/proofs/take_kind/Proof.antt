@@ -30,14 +30,16 @@ take-packets-requires c κs = search needs
 
 returns : tie.Need-returns
 unfolding text kindLine seen
-returns c = rw (c .before .before .before .before .before .next-word .ensures .word, sym (c .before .before .same-word .ensures), c .before .if1 .taken) (c .take-packets .ensures)
+returns c = rw (c .before .before .before .before .before .next-word .ensures .word, sym (c .before .before .same-word .ensures), c .before .if1 .taken)
+    (c .take-packets .ensures)
 
 take-access-requires : tie.Need-take-access-requires
 take-access-requires c κs = search needs
 
 returns-2 : tie.Need-returns-2
 unfolding text kindLine seen
-returns-2 c = rw (c .before .before .before .before .before .next-word .ensures .word, sym (c .before .before .same-word .ensures), c .before .if1 .left) (c .take-access .ensures)
+returns-2 c = rw (c .before .before .before .before .before .next-word .ensures .word, sym (c .before .before .same-word .ensures), c .before .if1 .left)
+    (c .take-access .ensures)
 
 pub take-kind-spec : {M : Type 1} → statement M
 take-kind-spec =

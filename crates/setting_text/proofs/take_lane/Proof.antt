@@ -34,14 +34,30 @@ number-from-requires-3 : tie.Need-number-from-requires-3
 number-from-requires-3 c κs = search needs
 
 listed-at-requires : tie.Need-listed-at-requires
-listed-at-requires c κs = (c .before .before .before .before .before .before .before .before .before .before .before .pre .0, c .before .before .before .before .before .before .before .number-from .ensures .1, c .before .before .before .before .number-from2 .ensures .1)
+listed-at-requires c κs =
+    let c₈ = c .before .before .before .before .before .before .before .before in (
+      c₈ .before .before .before .pre .0,
+      c .before .before .before .before .before .before .before .number-from .ensures .1,
+      c .before .before .before .before .number-from2 .ensures .1,
+    )
 
 take-kind-requires : tie.Need-take-kind-requires
-take-kind-requires c κs = (c .before .before .before .before .before .before .before .before .before .before .before .before .pre .1, c .before .before .number-from3 .ensures .1)
+take-kind-requires c κs =
+    let c₈ = c .before .before .before .before .before .before .before .before in
+    (c₈ .before .before .before .before .pre .1, c .before .before .number-from3 .ensures .1)
 
 returns : tie.Need-returns
 unfolding text
-returns c = rw (lane-line (c .before .before .before .before .before .before .before .before .before .before .before .before .before .args .d) (c .before .before .before .before .before .before .before .before .before .before .before .before .before .args .line .now) (c .before .before .before .before .before .before .before .before .before .before .before .before .before .args .c) _ _ _ _ _ _ (c .before .before .before .before .before .before .before .before .before .before .says-word .ensures) (c .before .before .before .before .before .before .before .before .before .number-from .ensures .0) (c .before .before .before .before .before .before .before .says-word2 .ensures) (c .before .before .before .before .before .before .number-from2 .ensures .0) (c .before .before .before .before .says-word3 .ensures) (c .before .before .before .number-from3 .ensures .0), sym (c .before .listed-at .ensures)) (c .take-kind .ensures)
+returns c =
+    let c₈ = c .before .before .before .before .before .before .before .before in
+    rw (
+      lane-line (c₈ .before .before .before .before .before .args .d) (c₈ .before .before .before .before .before .args .line .now)
+          (c₈ .before .before .before .before .before .args .c) _ _ _ _ _ _ (c₈ .before .before .says-word .ensures) (c₈ .before .number-from .ensures .0)
+          (c .before .before .before .before .before .before .before .says-word2 .ensures)
+          (c .before .before .before .before .before .before .number-from2 .ensures .0) (c .before .before .before .before .says-word3 .ensures)
+          (c .before .before .before .number-from3 .ensures .0),
+      sym (c .before .listed-at .ensures),
+    ) (c .take-kind .ensures)
 
 pub take-lane-spec : {M : Type 1} → statement M
 take-lane-spec =

@@ -31,7 +31,10 @@ take-form-requires : tie.Need-take-form-requires
 take-form-requires c κs = search needs
 
 returns : tie.Need-returns
-returns c = rw (take-line (c .before .before .before .before .before .before .before .args .d) (c .before .before .before .before .before .before .before .args .line .now) _ _ _ _ (c .before .before .before .before .before .until-stop .ensures .counts) (c .before .before .before .next-word .ensures) (c .before .form-of .ensures)) (c .take-form .ensures)
+returns c = rw (take-line (c .before .before .before .before .before .before .before .args .d)
+    (c .before .before .before .before .before .before .before .args .line .now) _ _ _ _
+    (c .before .before .before .before .before .until-stop .ensures .counts) (c .before .before .before .next-word .ensures) (c .before .form-of .ensures))
+    (c .take-form .ensures)
 
 pub take-line-spec : {M : Type 1} → statement M
 take-line-spec =

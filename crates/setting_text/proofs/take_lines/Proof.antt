@@ -51,10 +51,12 @@ loop-less : tie.Need-loop-less Inv-loop μ-loop
 loop-less c = search needs
 
 loop-again : tie.Need-loop-again Inv-loop μ-loop
-loop-again c = turn _ _ _ _ (c .before .before .before .before .before .before .loop .inv) _ _ (c .before .before .before .until-stop .ensures .counts) (c .before .take-line .ensures) (c .if1 .taken)
+loop-again c = turn _ _ _ _ (c .before .before .before .before .before .before .loop .inv) _ _ (c .before .before .before .until-stop .ensures .counts)
+    (c .before .take-line .ensures) (c .if1 .taken)
 
 returns : tie.Need-returns Inv-loop μ-loop
-returns c = stops-here _ _ _ _ (c .before .before .before .before .before .before .loop .inv) _ _ (c .before .before .before .until-stop .ensures .counts) (c .before .take-line .ensures) (c .if1 .left)
+returns c = stops-here _ _ _ _ (c .before .before .before .before .before .before .loop .inv) _ _ (c .before .before .before .until-stop .ensures .counts)
+    (c .before .take-line .ensures) (c .if1 .left)
 
 returns-2 : tie.Need-returns-2 Inv-loop μ-loop
 returns-2 c = ends _ _ _ _ (c .before .loop .inv) (c .loop-test .left)

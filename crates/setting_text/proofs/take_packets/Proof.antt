@@ -28,14 +28,28 @@ add-lane-of-requires c κs = search needs
 
 returns : tie.Need-returns
 unfolding text
-returns c = rw (packets-line (c .before .before .before .before .before .before .before .before .before .args .d) (c .before .before .before .before .before .before .before .before .before .args .line .now) (c .before .before .before .before .before .before .before .before .before .args .c) (c .before .before .before .before .before .before .before .before .before .args .p) (c .before .before .before .before .before .before .before .before .before .args .map) _ _ _ _ (c .before .before .before .before .before .before .says-word .ensures) (c .before .before .before .before .says-word2 .ensures) (c .before .before .before .number-from .ensures .0) (c .before .before .line-end .ensures), c .before .if1 .taken) (c .add-lane-of .ensures)
+returns c =
+    let c₈ = c .before .before .before .before .before .before .before .before in
+    rw (
+      packets-line (c₈ .before .args .d) (c₈ .before .args .line .now) (c₈ .before .args .c) (c₈ .before .args .p) (c₈ .before .args .map) _ _ _ _
+          (c .before .before .before .before .before .before .says-word .ensures) (c .before .before .before .before .says-word2 .ensures)
+          (c .before .before .before .number-from .ensures .0) (c .before .before .line-end .ensures),
+      c .before .if1 .taken,
+    ) (c .add-lane-of .ensures)
 
 refused-requires : tie.Need-refused-requires
 refused-requires c κs = search needs
 
 returns-2 : tie.Need-returns-2
 unfolding text
-returns-2 c = rw (packets-line (c .before .before .before .before .before .before .before .before .before .args .d) (c .before .before .before .before .before .before .before .before .before .args .line .now) (c .before .before .before .before .before .before .before .before .before .args .c) (c .before .before .before .before .before .before .before .before .before .args .p) (c .before .before .before .before .before .before .before .before .before .args .map) _ _ _ _ (c .before .before .before .before .before .before .says-word .ensures) (c .before .before .before .before .says-word2 .ensures) (c .before .before .before .number-from .ensures .0) (c .before .before .line-end .ensures), c .before .if1 .left) (c .refused .ensures)
+returns-2 c =
+    let c₈ = c .before .before .before .before .before .before .before .before in
+    rw (
+      packets-line (c₈ .before .args .d) (c₈ .before .args .line .now) (c₈ .before .args .c) (c₈ .before .args .p) (c₈ .before .args .map) _ _ _ _
+          (c .before .before .before .before .before .before .says-word .ensures) (c .before .before .before .before .says-word2 .ensures)
+          (c .before .before .before .number-from .ensures .0) (c .before .before .line-end .ensures),
+      c .before .if1 .left,
+    ) (c .refused .ensures)
 
 pub take-packets-spec : {M : Type 1} → statement M
 take-packets-spec =

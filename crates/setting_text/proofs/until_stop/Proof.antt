@@ -29,7 +29,8 @@ returns : tie.Need-returns Inv-loop μ-loop
 returns c =
     let a = c .before .before .before .before .before .before .args in
     let l = c .before .before .before .before in
-    let z = until-found (stops (a .s)) (a .octets .now) (l .loop .i) (c .before .before .before .loop-test .taken) (sym (c .before .stops-at .ensures) ∙ c .if1 .taken) in
+    let z = until-found (stops (a .s)) (a .octets .now) (l .loop .i) (c .before .before .before .loop-test .taken)
+    (sym (c .before .stops-at .ensures) ∙ c .if1 .taken) in
     record { counts = omega (arith, l .loop .inv .1, z); within = l .loop .inv .0 }
 
 add-i : tie.Need-add-i Inv-loop μ-loop
@@ -42,7 +43,8 @@ loop-again : tie.Need-loop-again Inv-loop μ-loop
 loop-again c =
     let a = c .before .before .before .before .before .before .args in
     let l = c .before .before .before .before in
-    let z = until-turn (stops (a .s)) (a .octets .now) (l .loop .i) (c .before .before .before .loop-test .taken) (sym (c .before .stops-at .ensures) ∙ c .if1 .left) in
+    let z = until-turn (stops (a .s)) (a .octets .now) (l .loop .i) (c .before .before .before .loop-test .taken)
+    (sym (c .before .stops-at .ensures) ∙ c .if1 .left) in
     (search needs, rw add-one (omega (arith, l .loop .inv .1, z)))
 
 returns-2 : tie.Need-returns-2 Inv-loop μ-loop

@@ -40,7 +40,9 @@ moved-requires c κs = search needs
 
 returns : tie.Need-returns
 unfolding text
-returns c = yes-step _ _ _ _ _ (c .before .before .before .before .before .before .before .before .next-word .ensures) _ _ _ _ (c .before .before .before .before .before .same-word .ensures) (c .before .before .before .same-word2 .ensures) (c .before .before .yes-number .ensures) (c .before .either .ensures) (c .moved .ensures)
+returns c = yes-step _ _ _ _ _ (c .before .before .before .before .before .before .before .before .next-word .ensures) _ _ _ _
+    (c .before .before .before .before .before .same-word .ensures) (c .before .before .before .same-word2 .ensures) (c .before .before .yes-number .ensures)
+    (c .before .either .ensures) (c .moved .ensures)
 
 pub yes-or-no-spec : {M : Type 1} → statement M
 yes-or-no-spec =

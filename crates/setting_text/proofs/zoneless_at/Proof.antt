@@ -32,7 +32,8 @@ zone-of-requires c κs = search needs
 
 returns : tie.Need-returns Inv-loop μ-loop
 unfolding zoneless
-returns c = finds _ _ _ (c .before .before .before .loop-test .taken) (eq-eqb _ _ (sym (c .before .zone-of .ensures) ∙ c .if1 .taken)) (c .before .before .before .before .loop .inv)
+returns c = finds _ _ _ (c .before .before .before .loop-test .taken) (eq-eqb _ _ (sym (c .before .zone-of .ensures) ∙ c .if1 .taken))
+    (c .before .before .before .before .loop .inv)
 
 add-i : tie.Need-add-i Inv-loop μ-loop
 add-i c = search needs

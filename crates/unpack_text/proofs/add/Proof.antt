@@ -4,8 +4,6 @@ use Rattle.unpack_text.specs.Totals.{add}
 use borrow.Author.Needs.{needs}
 use Rattle.unpack_text.proofs.add.Statement.{statement}
 use Rattle.unpack_text.proofs.add.Tie as tie
-use Rattle.unpack_text.proofs.add.Reads as reads
-use Rattle.unpack_text.proofs.add.Lts as lts
 
 sub-if1 : tie.Need-sub-if1
 sub-if1 c = search needs

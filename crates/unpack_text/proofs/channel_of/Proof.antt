@@ -6,8 +6,6 @@ use Rattle.unpack_text.proofs.Slots.{lane-out}
 use borrow.Author.Needs.{needs}
 use Rattle.unpack_text.proofs.channel_of.Statement.{statement}
 use Rattle.unpack_text.proofs.channel_of.Tie as tie
-use Rattle.unpack_text.proofs.channel_of.Reads as reads
-use Rattle.unpack_text.proofs.channel_of.Lts as lts
 
 mul-a : tie.Need-mul-a
 mul-a c = search needs

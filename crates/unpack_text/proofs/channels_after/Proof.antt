@@ -3,10 +3,6 @@ use Rattle.unpack_text.specs.Totals.{channelsAfter}
 use borrow.Author.Needs.{needs}
 use Rattle.unpack_text.proofs.channels_after.Statement.{statement}
 use Rattle.unpack_text.proofs.channels_after.Tie as tie
-use Rattle.unpack_text.proofs.channels_after.Reads as reads
-use Rattle.unpack_text.proofs.channels_after.Lts as lts
-use Rattle.unpack_text.proofs.channel_of.Reads as channel-of-reads
-use Rattle.unpack_text.proofs.in_channel.Reads as in-channel-reads
 
 enum-told : tie.Need-enum-told
 enum-told c = search needs

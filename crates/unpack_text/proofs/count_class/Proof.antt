@@ -3,9 +3,6 @@ use Rattle.unpack_text.specs.Totals.{classed}
 use borrow.Author.Needs.{needs}
 use Rattle.unpack_text.proofs.count_class.Statement.{statement}
 use Rattle.unpack_text.proofs.count_class.Tie as tie
-use Rattle.unpack_text.proofs.count_class.Reads as reads
-use Rattle.unpack_text.proofs.count_class.Lts as lts
-use Rattle.unpack_text.proofs.add.Reads as add-reads
 
 add-requires : tie.Need-add-requires
 add-requires c κs = search needs

@@ -3,12 +3,6 @@ use Rattle.unpack_text.specs.Totals.{tallied}
 use borrow.Author.Needs.{needs}
 use Rattle.unpack_text.proofs.count_frame.Statement.{statement}
 use Rattle.unpack_text.proofs.count_frame.Tie as tie
-use Rattle.unpack_text.proofs.count_frame.Reads as reads
-use Rattle.unpack_text.proofs.count_frame.Lts as lts
-use Rattle.unpack_text.proofs.channels_after.Reads as channels-after-reads
-use Rattle.unpack_text.proofs.count_class.Reads as count-class-reads
-use Rattle.unpack_text.proofs.lanes_after.Reads as lanes-after-reads
-use Rattle.unpack_text.proofs.sum_answer.Reads as sum-answer-reads
 
 count-class-requires : tie.Need-count-class-requires
 count-class-requires c κs = search needs
@@ -24,7 +18,12 @@ channels-after-requires c κs = search needs
 
 returns : tie.Need-returns
 unfolding tallied
-returns c = rw (c .before .before .before .before .before .before .count-class .ensures, c .before .before .before .before .sum-answer .ensures, c .before .before .lanes-after .ensures, c .channels-after .ensures)
+returns c = rw (
+  c .before .before .before .before .before .before .count-class .ensures,
+  c .before .before .before .before .sum-answer .ensures,
+  c .before .before .lanes-after .ensures,
+  c .channels-after .ensures,
+)
 
 pub count-frame-spec : {M : Type 1} → statement M
 count-frame-spec =

@@ -5,9 +5,6 @@ use Rattle.unpack_text.specs.Totals.{inChannel}
 use borrow.Author.Needs.{needs}
 use Rattle.unpack_text.proofs.in_channel.Statement.{statement}
 use Rattle.unpack_text.proofs.in_channel.Tie as tie
-use Rattle.unpack_text.proofs.in_channel.Reads as reads
-use Rattle.unpack_text.proofs.in_channel.Lts as lts
-use Rattle.unpack_text.proofs.channel_after.Reads as channel-after-reads
 
 mul-x : tie.Need-mul-x
 mul-x c = search needs

@@ -5,9 +5,6 @@ use Rattle.unpack_text.specs.Totals.{inLane}
 use borrow.Author.Needs.{needs}
 use Rattle.unpack_text.proofs.in_lane.Statement.{statement}
 use Rattle.unpack_text.proofs.in_lane.Tie as tie
-use Rattle.unpack_text.proofs.in_lane.Reads as reads
-use Rattle.unpack_text.proofs.in_lane.Lts as lts
-use Rattle.unpack_text.proofs.lane_after.Reads as lane-after-reads
 
 mul-x : tie.Need-mul-x
 mul-x c = search needs

@@ -3,9 +3,6 @@ use Rattle.unpack_text.specs.Totals.{laneAfter}
 use borrow.Author.Needs.{needs}
 use Rattle.unpack_text.proofs.lane_after.Statement.{statement}
 use Rattle.unpack_text.proofs.lane_after.Tie as tie
-use Rattle.unpack_text.proofs.lane_after.Reads as reads
-use Rattle.unpack_text.proofs.lane_after.Lts as lts
-use Rattle.unpack_text.proofs.add.Reads as add-reads
 
 add-requires : tie.Need-add-requires
 add-requires c κs = search needs

@@ -3,9 +3,6 @@ use Rattle.unpack_text.specs.Totals.{lanesAfter}
 use borrow.Author.Needs.{needs}
 use Rattle.unpack_text.proofs.lanes_after.Statement.{statement}
 use Rattle.unpack_text.proofs.lanes_after.Tie as tie
-use Rattle.unpack_text.proofs.lanes_after.Reads as reads
-use Rattle.unpack_text.proofs.lanes_after.Lts as lts
-use Rattle.unpack_text.proofs.in_lane.Reads as in-lane-reads
 
 enum-told : tie.Need-enum-told
 enum-told c = search needs

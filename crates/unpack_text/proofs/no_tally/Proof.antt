@@ -3,8 +3,6 @@ use mathlib.Core.Path.{refl}
 use Rattle.unpack_text.specs.Totals.{noTally}
 use Rattle.unpack_text.proofs.no_tally.Statement.{statement}
 use Rattle.unpack_text.proofs.no_tally.Tie as tie
-use Rattle.unpack_text.proofs.no_tally.Reads as reads
-use Rattle.unpack_text.proofs.no_tally.Lts as lts
 
 returns : tie.Need-returns
 unfolding noTally

@@ -5,9 +5,6 @@ use Rattle.unpack_text.proofs.Writes.{wrote-five}
 use borrow.Author.Needs.{needs}
 use Rattle.unpack_text.proofs.put_classes.Statement.{statement}
 use Rattle.unpack_text.proofs.put_classes.Tie as tie
-use Rattle.unpack_text.proofs.put_classes.Reads as reads
-use Rattle.unpack_text.proofs.put_classes.Lts as lts
-use Rattle.unpack_text.proofs.put_named.Reads as put-named-reads
 
 slice-aggregate-put-named : tie.Need-slice-aggregate-put-named
 slice-aggregate-put-named c = search needs
@@ -45,7 +42,12 @@ same-length c = search needs
 returns : tie.Need-returns
 unfolding classesText text
 returns c =
-    wrote-five (c .before .before .before .before .before .before .before .before .before .before .before .before .before .before .before .before .before .before .before .before .before .before .put-named .ensures) (c .before .before .before .before .before .before .before .before .before .before .before .before .before .before .before .before .before .put-named2 .ensures) (c .before .before .before .before .before .before .before .before .before .before .before .before .put-named3 .ensures) (c .before .before .before .before .before .before .before .put-named4 .ensures) (c .before .before .put-named5 .ensures) (c .before .before .before .before .before .before .before .before .before .before .before .before .before .before .before .before .before .before .before .before .before .before .before .before .before .before .pre)
+    let c₈ = c .before .before .before .before .before .before .before .before in
+    let c₁₆ = c₈ .before .before .before .before .before .before .before .before in
+    let c₂₄ = c₁₆ .before .before .before .before .before .before .before .before in
+    wrote-five (c₁₆ .before .before .before .before .before .before .put-named .ensures) (c₁₆ .before .put-named2 .ensures)
+    (c₈ .before .before .before .before .put-named3 .ensures) (c .before .before .before .before .before .before .before .put-named4 .ensures)
+    (c .before .before .put-named5 .ensures) (c₂₄ .before .before .pre)
 
 pub put-classes-spec : {M : Type 1} → statement M
 put-classes-spec =

@@ -5,9 +5,6 @@ use Rattle.unpack_text.proofs.Writes.{wrote-three}
 use borrow.Author.Needs.{needs}
 use Rattle.unpack_text.proofs.put_given.Statement.{statement}
 use Rattle.unpack_text.proofs.put_given.Tie as tie
-use Rattle.unpack_text.proofs.put_given.Reads as reads
-use Rattle.unpack_text.proofs.put_given.Lts as lts
-use Rattle.unpack_text.proofs.put_named.Reads as put-named-reads
 
 slice-aggregate-put-named : tie.Need-slice-aggregate-put-named
 slice-aggregate-put-named c = search needs
@@ -33,7 +30,9 @@ same-length c = search needs
 returns : tie.Need-returns
 unfolding givenText text
 returns c =
-    wrote-three (c .before .before .before .before .before .before .before .before .before .before .before .before .put-named .ensures) (c .before .before .before .before .before .before .before .put-named2 .ensures) (c .before .before .put-named3 .ensures) (c .before .before .before .before .before .before .before .before .before .before .before .before .before .before .before .before .pre)
+    let c₈ = c .before .before .before .before .before .before .before .before in
+    wrote-three (c₈ .before .before .before .before .put-named .ensures) (c .before .before .before .before .before .before .before .put-named2 .ensures)
+    (c .before .before .put-named3 .ensures) (c₈ .before .before .before .before .before .before .before .before .pre)
 
 pub put-given-spec : {M : Type 1} → statement M
 put-given-spec =

@@ -6,24 +6,36 @@ use Rattle.unpack_text.proofs.Writes.{wrote-front, wrote-four}
 use borrow.Author.Needs.{needs}
 use Rattle.unpack_text.proofs.put_line.Statement.{statement}
 use Rattle.unpack_text.proofs.put_line.Tie as tie
-use Rattle.unpack_text.proofs.put_line.Reads as reads
-use Rattle.unpack_text.proofs.put_line.Lts as lts
-use Rattle.listing_text.proofs.put_front.Reads as put-front-reads
-use Rattle.unpack_text.proofs.put_given.Reads as put-given-reads
-use Rattle.unpack_text.proofs.put_rest.Reads as put-rest-reads
-use Rattle.unpack_text.proofs.put_third.Reads as put-third-reads
 
 put-front-requires : tie.Need-put-front-requires
 put-front-requires c κs = search needs
 
 put-third-requires : tie.Need-put-third-requires
-put-third-requires c κs = omega (arith, length-front (c .before .before .before .before .before .before .args .k) (c .before .before .before .before .before .before .args .a .class), c .before .before .before .put-front .ensures .ends)
+put-third-requires c κs = omega (
+  arith,
+  length-front (c .before .before .before .before .before .before .args .k)
+      (c .before .before .before .before .before .before .args .a .class),
+  c .before .before .before .put-front .ensures .ends,
+)
 
 put-given-requires : tie.Need-put-given-requires
-put-given-requires c κs = omega (arith, length-front (c .before .before .before .before .before .before .before .before .before .before .args .k) (c .before .before .before .before .before .before .before .before .before .before .args .a .class), c .before .before .before .before .before .before .before .put-front .ensures .ends)
+put-given-requires c κs =
+    let c₈ = c .before .before .before .before .before .before .before .before in
+    omega (
+      arith,
+      length-front (c₈ .before .before .args .k) (c₈ .before .before .args .a .class),
+      c .before .before .before .before .before .before .before .put-front .ensures .ends,
+    )
 
 put-rest-requires : tie.Need-put-rest-requires
-put-rest-requires c κs = omega (arith, length-front (c .before .before .before .before .before .before .before .before .before .before .before .before .before .before .args .k) (c .before .before .before .before .before .before .before .before .before .before .before .before .before .before .args .a .class), c .before .before .before .before .before .before .before .before .before .before .before .put-front .ensures .ends)
+put-rest-requires c κs =
+    let c₈ = c .before .before .before .before .before .before .before .before in
+    omega (
+      arith,
+      length-front (c₈ .before .before .before .before .before .before .args .k)
+          (c₈ .before .before .before .before .before .before .args .a .class),
+      c₈ .before .before .before .put-front .ensures .ends,
+    )
 
 same-length : tie.Need-same-length
 same-length c = search needs
@@ -31,7 +43,10 @@ same-length c = search needs
 returns : tie.Need-returns
 unfolding frameLine
 returns c =
-    wrote-four (wrote-front _ _ (c .before .before .before .before .before .before .before .before .before .before .before .before .before .before .put-front .ensures)) (c .before .before .before .before .before .before .before .before .before .before .put-third .ensures) (c .before .before .before .before .before .before .put-given .ensures) (c .before .before .put-rest .ensures) (c .before .before .before .before .before .before .before .before .before .before .before .before .before .before .before .before .before .pre)
+    let c₈ = c .before .before .before .before .before .before .before .before in
+    let c₁₆ = c₈ .before .before .before .before .before .before .before .before in
+    wrote-four (wrote-front _ _ (c₈ .before .before .before .before .before .before .put-front .ensures)) (c₈ .before .before .put-third .ensures)
+    (c .before .before .before .before .before .before .put-given .ensures) (c .before .before .put-rest .ensures) (c₁₆ .before .pre)
 
 pub put-line-spec : {M : Type 1} → statement M
 put-line-spec =

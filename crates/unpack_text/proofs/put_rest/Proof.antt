@@ -5,10 +5,6 @@ use Rattle.unpack_text.proofs.Writes.{wrote-text, wrote-four}
 use borrow.Author.Needs.{needs}
 use Rattle.unpack_text.proofs.put_rest.Statement.{statement}
 use Rattle.unpack_text.proofs.put_rest.Tie as tie
-use Rattle.unpack_text.proofs.put_rest.Reads as reads
-use Rattle.unpack_text.proofs.put_rest.Lts as lts
-use Rattle.listing_text.proofs.put_octet.Reads as put-octet-reads
-use Rattle.unpack_text.proofs.put_named.Reads as put-named-reads
 
 slice-aggregate-put-named : tie.Need-slice-aggregate-put-named
 slice-aggregate-put-named c = search needs
@@ -37,7 +33,11 @@ same-length c = search needs
 returns : tie.Need-returns
 unfolding restText text
 returns c =
-    wrote-four (c .before .before .before .before .before .before .before .before .before .before .before .before .before .before .before .before .put-named .ensures) (c .before .before .before .before .before .before .before .before .before .before .before .put-named2 .ensures) (c .before .before .before .before .before .before .put-named3 .ensures) (wrote-text (c .before .before .put-octet .ensures)) (c .before .before .before .before .before .before .before .before .before .before .before .before .before .before .before .before .before .before .before .before .pre)
+    let c₈ = c .before .before .before .before .before .before .before .before in
+    let c₁₆ = c₈ .before .before .before .before .before .before .before .before in
+    wrote-four (c₈ .before .before .before .before .before .before .before .before .put-named .ensures) (c₈ .before .before .before .put-named2 .ensures)
+    (c .before .before .before .before .before .before .put-named3 .ensures) (wrote-text (c .before .before .put-octet .ensures))
+    (c₁₆ .before .before .before .before .pre)
 
 pub put-rest-spec : {M : Type 1} → statement M
 put-rest-spec =

@@ -6,10 +6,6 @@ use Rattle.unpack_text.proofs.Writes.{wrote-third, wrote-decimal, wrote
 use borrow.Author.Needs.{needs}
 use Rattle.unpack_text.proofs.put_third.Statement.{statement}
 use Rattle.unpack_text.proofs.put_third.Tie as tie
-use Rattle.unpack_text.proofs.put_third.Reads as reads
-use Rattle.unpack_text.proofs.put_third.Lts as lts
-use Rattle.listing_text.proofs.put_decimal.Reads as put-decimal-reads
-use Rattle.listing_text.proofs.put_text.Reads as put-text-reads
 
 enum-known-v : tie.Need-enum-known-v
 enum-known-v c = search needs
@@ -50,7 +46,8 @@ same-length c = search needs
 returns : tie.Need-returns
 unfolding third
 returns c =
-    wrote-third (c .before .before .before .before .before .before .before .before .args .v) _ (c .before .before .before .before .before .v .given .1) (wrote-decimal _ (c .before .before .put-decimal .ensures))
+    wrote-third (c .before .before .before .before .before .before .before .before .args .v) _ (c .before .before .before .before .before .v .given .1)
+    (wrote-decimal _ (c .before .before .put-decimal .ensures))
 
 same-length-2 : tie.Need-same-length-2
 same-length-2 c = search needs
@@ -58,7 +55,8 @@ same-length-2 c = search needs
 returns-2 : tie.Need-returns-2
 unfolding third text
 returns-2 c =
-    wrote-third (c .before .before .before .before .before .before .before .before .args .v) _ (c .before .before .before .before .before .enum-told .given .1) (wrote-more 20 (lit≤ tt) (wrote-text (c .before .before .put-text .ensures)))
+    wrote-third (c .before .before .before .before .before .before .before .before .args .v) _
+    (c .before .before .before .before .before .enum-told .given .1) (wrote-more 20 (lit≤ tt) (wrote-text (c .before .before .put-text .ensures)))
 
 same-length-3 : tie.Need-same-length-3
 same-length-3 c = search needs
@@ -66,7 +64,8 @@ same-length-3 c = search needs
 returns-3 : tie.Need-returns-3
 unfolding third text
 returns-3 c =
-    wrote-third (c .before .before .before .before .before .before .before .before .args .v) _ (c .before .before .before .before .before .enum-told2 .given .1) (wrote-more 20 (lit≤ tt) (wrote-text (c .before .before .put-text2 .ensures)))
+    wrote-third (c .before .before .before .before .before .before .before .before .args .v) _
+    (c .before .before .before .before .before .enum-told2 .given .1) (wrote-more 20 (lit≤ tt) (wrote-text (c .before .before .put-text2 .ensures)))
 
 same-length-4 : tie.Need-same-length-4
 same-length-4 c = search needs
@@ -74,7 +73,8 @@ same-length-4 c = search needs
 returns-4 : tie.Need-returns-4
 unfolding third
 returns-4 c =
-    wrote-third (c .before .before .before .before .before .before .before .before .args .v) _ (c .before .before .before .before .before .v2 .given .1) (wrote-decimal _ (c .before .before .put-decimal2 .ensures))
+    wrote-third (c .before .before .before .before .before .before .before .before .args .v) _ (c .before .before .before .before .before .v2 .given .1)
+    (wrote-decimal _ (c .before .before .put-decimal2 .ensures))
 
 pub put-third-spec : {M : Type 1} → statement M
 put-third-spec =

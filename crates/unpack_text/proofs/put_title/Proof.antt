@@ -5,9 +5,6 @@ use Rattle.unpack_text.proofs.Writes.{wrote-text}
 use borrow.Author.Needs.{needs}
 use Rattle.unpack_text.proofs.put_title.Statement.{statement}
 use Rattle.unpack_text.proofs.put_title.Tie as tie
-use Rattle.unpack_text.proofs.put_title.Reads as reads
-use Rattle.unpack_text.proofs.put_title.Lts as lts
-use Rattle.listing_text.proofs.put_text.Reads as put-text-reads
 
 slice-aggregate-put-text : tie.Need-slice-aggregate-put-text
 slice-aggregate-put-text c = search needs

@@ -5,12 +5,6 @@ use Rattle.unpack_text.proofs.Writes.{wrote-text, wrote-four}
 use borrow.Author.Needs.{needs}
 use Rattle.unpack_text.proofs.put_total.Statement.{statement}
 use Rattle.unpack_text.proofs.put_total.Tie as tie
-use Rattle.unpack_text.proofs.put_total.Reads as reads
-use Rattle.unpack_text.proofs.put_total.Lts as lts
-use Rattle.listing_text.proofs.put_octet.Reads as put-octet-reads
-use Rattle.unpack_text.proofs.put_classes.Reads as put-classes-reads
-use Rattle.unpack_text.proofs.put_named.Reads as put-named-reads
-use Rattle.unpack_text.proofs.put_sums.Reads as put-sums-reads
 
 put-classes-requires : tie.Need-put-classes-requires
 put-classes-requires c κs = search needs
@@ -33,7 +27,11 @@ same-length c = search needs
 returns : tie.Need-returns
 unfolding totalLine text
 returns c =
-    wrote-four (c .before .before .before .before .before .before .before .before .before .before .before .before .before .before .before .put-classes .ensures) (c .before .before .before .before .before .before .before .before .before .before .before .put-sums .ensures) (c .before .before .before .before .before .before .put-named .ensures) (wrote-text (c .before .before .put-octet .ensures)) (c .before .before .before .before .before .before .before .before .before .before .before .before .before .before .before .before .before .before .before .before .pre)
+    let c₈ = c .before .before .before .before .before .before .before .before in
+    let c₁₆ = c₈ .before .before .before .before .before .before .before .before in
+    wrote-four (c₈ .before .before .before .before .before .before .before .put-classes .ensures) (c₈ .before .before .before .put-sums .ensures)
+    (c .before .before .before .before .before .before .put-named .ensures) (wrote-text (c .before .before .put-octet .ensures))
+    (c₁₆ .before .before .before .before .pre)
 
 pub put-total-spec : {M : Type 1} → statement M
 put-total-spec =

@@ -14,25 +14,29 @@ put-lanes-requires c κs =
     (c .before .before .before .before .before .before .before .pre .1, omega (arith, c .before .before .before .before .before .before .before .pre .2))
 
 put-channels-requires : tie.Need-put-channels-requires
-put-channels-requires c κs = let w = c .before .before .before .put-lanes .ensures in (
-  c .before .before .before .before .before .before .before .before .before .before .before .pre .0,
-  omega (
-    arith,
-    w .most,
-    w .put .ends,
-    wrote-length w
-        (omega (arith, c .before .before .before .before .before .before .before .before .before .before .before .pre .2)),
-    c .before .before .before .before
-        .before .before .before .before .before .before .before .pre .2,
-  ),
-)
+put-channels-requires c κs =
+    let c₈ = c .before .before .before .before .before .before .before .before in
+    let w = c .before .before .before .put-lanes .ensures in (
+      c₈ .before .before .before .pre .0,
+      omega (
+        arith,
+        w .most,
+        w .put .ends,
+        wrote-length w
+            (omega (arith, c₈ .before .before .before .pre .2)),
+        c .before .before .before .before
+            .before .before .before .before .before .before .before .pre .2,
+      ),
+    )
 
 put-total-requires : tie.Need-put-total-requires
-put-total-requires c κs = let v = c .before .before .before .put-channels .ensures in
+put-total-requires c κs =
+    let c₈ = c .before .before .before .before .before .before .before .before in
+    let v = c .before .before .before .put-channels .ensures in
     let w = c .before .before .before .before .before .before .before .put-lanes .ensures in
     let k = wrote-length w (omega (
       arith,
-      c .before .before .before .before .before .before .before .before .before .before .before .before .before .before
+      c₈ .before .before .before .before .before .before
           .before .pre .2,
     )) in
     omega (
@@ -47,10 +51,10 @@ put-total-requires c κs = let v = c .before .before .before .put-channels .ensu
         w .most,
         w .put .ends,
         k,
-        c .before .before .before .before .before .before .before .before .before .before .before .before .before .before
+        c₈ .before .before .before .before .before .before
             .before .pre .2,
       )),
-      c .before .before .before .before .before .before .before .before .before .before .before .before .before .before .before .pre .2,
+      c₈ .before .before .before .before .before .before .before .pre .2,
     )
 
 same-length : tie.Need-same-length
@@ -59,10 +63,12 @@ same-length c = search needs
 returns : tie.Need-returns
 unfolding totalsText
 returns c =
-    wrote-three (c .before .before .before .before .before .before .before .before .before .before .put-lanes .ensures)
+    let c₈ = c .before .before .before .before .before .before .before .before in
+    let c₁₆ = c₈ .before .before .before .before .before .before .before .before in
+    wrote-three (c₈ .before .before .put-lanes .ensures)
     (c .before .before .before .before .before .before .put-channels .ensures) (rw (c .before .before .before .before .before .before .before .before
     .before .before .before .before .held-in .ensures) at (c .before .before .put-total .ensures))
-    (c .before .before .before .before .before .before .before .before .before .before .before .before .before .before .before .before .before .before .pre
+    (c₁₆ .before .before .pre
     .2)
 
 pub put-totals-spec : {M : Type 1} → statement M

@@ -3,8 +3,6 @@ use Rattle.unpack_text.proofs.Slots.{slot-out}
 use borrow.Author.Needs.{needs}
 use Rattle.unpack_text.proofs.slot.Statement.{statement}
 use Rattle.unpack_text.proofs.slot.Tie as tie
-use Rattle.unpack_text.proofs.slot.Reads as reads
-use Rattle.unpack_text.proofs.slot.Lts as lts
 
 mul-result : tie.Need-mul-result
 mul-result c = search needs

@@ -3,9 +3,6 @@ use Rattle.unpack_text.specs.Totals.{summed}
 use borrow.Author.Needs.{needs}
 use Rattle.unpack_text.proofs.sum_answer.Statement.{statement}
 use Rattle.unpack_text.proofs.sum_answer.Tie as tie
-use Rattle.unpack_text.proofs.sum_answer.Reads as reads
-use Rattle.unpack_text.proofs.sum_answer.Lts as lts
-use Rattle.unpack_text.proofs.add.Reads as add-reads
 
 add-requires : tie.Need-add-requires
 add-requires c κs = search needs
@@ -24,7 +21,13 @@ add-requires-5 c κs = search needs
 
 returns : tie.Need-returns
 unfolding summed
-returns c = rw (c .before .before .before .before .add .ensures, c .before .before .before .add2 .ensures, c .before .before .add3 .ensures, c .before .add4 .ensures, c .add5 .ensures)
+returns c = rw (
+  c .before .before .before .before .add .ensures,
+  c .before .before .before .add2 .ensures,
+  c .before .before .add3 .ensures,
+  c .before .add4 .ensures,
+  c .add5 .ensures,
+)
 
 pub sum-answer-spec : {M : Type 1} → statement M
 sum-answer-spec =

@@ -5,10 +5,6 @@ use mathlib.Core.Path.{_≡_}
 use lib.ListN.{length}
 use Rattle.unpacking.proofs.close_all.Statement.{statement}
 use Rattle.unpacking.proofs.close_all.Tie as tie
-use Rattle.unpacking.proofs.close_all.Reads as reads
-use Rattle.unpacking.proofs.close_all.Lts as lts
-use Rattle.libc.proofs.close.Reads as close-reads
-use Rattle.unpacking.proofs.say_output.Reads as say-output-reads
 
 abbrev Inv-loop : tie.InvT-loop
 Inv-loop lanes name₀ n fds i₀ name i = (i ≤ lanes + 1) × (length name ≡ length name₀)

@@ -3,12 +3,6 @@ use Rattle.rules.proofs.Valid.{good-reader}
 use borrow.Author.Needs.{needs}
 use Rattle.unpacking.proofs.finish.Statement.{statement}
 use Rattle.unpacking.proofs.finish.Tie as tie
-use Rattle.unpacking.proofs.finish.Reads as reads
-use Rattle.unpacking.proofs.finish.Lts as lts
-use Rattle.console.proofs.say_count.Reads as say-count-reads
-use Rattle.unpacking.proofs.close_all.Reads as close-all-reads
-use Rattle.unpacking.proofs.print_totals.Reads as print-totals-reads
-use Rattle.unpacking.proofs.rename_all.Reads as rename-all-reads
 
 print-totals-requires : tie.Need-print-totals-requires
 print-totals-requires c κs = search needs
@@ -17,7 +11,9 @@ close-all-requires : tie.Need-close-all-requires
 close-all-requires c κs = (good-reader _ (c .before .before .before .before .before .pre .0) .setting .numbered, search needs)
 
 rename-all-requires : tie.Need-rename-all-requires
-rename-all-requires c κs = (good-reader _ (c .before .before .before .before .before .before .before .before .before .before .pre .0) .setting .numbered, search needs)
+rename-all-requires c κs =
+    let c₈ = c .before .before .before .before .before .before .before .before in
+    (good-reader _ (c₈ .before .before .pre .0) .setting .numbered, search needs)
 
 slice-aggregate-say-count : tie.Need-slice-aggregate-say-count
 slice-aggregate-say-count c = search needs

@@ -16,20 +16,24 @@ take-frame-requires : tie.Need-take-frame-requires
 take-frame-requires c κs = search needs
 
 mul-c : tie.Need-mul-c
-mul-c c = omega (arith, gave-fits (c .before .before .before .before .before .before .before .before .before .take-frame .ensures) .1)
+mul-c c =
+    let c₈ = c .before .before .before .before .before .before .before .before in
+    omega (arith, gave-fits (c₈ .before .take-frame .ensures) .1)
 
 array-share-prefix-area : tie.Need-array-share-prefix-area
 array-share-prefix-area c = search needs
 
 slice-aggregate-put-out : tie.Need-slice-aggregate-put-out
 slice-aggregate-put-out c =
-    wrote-cut (c .before .before .before .before .before .before .before .before .before .before .take-frame .ensures .line) (search needs)
+    let c₈ = c .before .before .before .before .before .before .before .before in
+    wrote-cut (c₈ .before .before .take-frame .ensures .line) (search needs)
 
 slice-reshare-prefix-put-out : tie.Need-slice-reshare-prefix-put-out
 slice-reshare-prefix-put-out c =
+    let c₈ = c .before .before .before .before .before .before .before .before in
     omega (
       arith,
-      gave-fits (c .before .before .before .before .before .before .before .before .before .before .take-frame .ensures) .0,
+      gave-fits (c₈ .before .before .take-frame .ensures) .0,
       c .before .before
           .before .before .before .before .before .before .before .before .before .before .before .before .before .before .before .before .before .before .before
           .before .pre .1 .units,
@@ -37,19 +41,22 @@ slice-reshare-prefix-put-out c =
 
 slice-aggregate-put-out-2 : tie.Need-slice-aggregate-put-out-2
 slice-aggregate-put-out-2 c =
+    let c₈ = c .before .before .before .before .before .before .before .before in
+    let c₁₆ = c₈ .before .before .before .before .before .before .before .before in
     sym (length-take-le _ _ (omega (
       arith,
-      gave-fits (c .before .before .before .before .before .before .before .before .before .before .before .take-frame
+      gave-fits (c₈ .before .before .before .take-frame
           .ensures) .0,
-      c .before .before .before .before .before .before .before .before .before .before .before .before .before .before .before .before .before
+      c₁₆ .before
           .before .before .before .before .before .before .pre .1 .units,
     )))
 
 slice-reshare-prefix-put-out-2 : tie.Need-slice-reshare-prefix-put-out-2
 slice-reshare-prefix-put-out-2 c =
+    let c₈ = c .before .before .before .before .before .before .before .before in
     omega (
       arith,
-      gave-fits (c .before .before .before .before .before .before .before .before .before .before .before .take-frame .ensures) .1,
+      gave-fits (c₈ .before .before .before .take-frame .ensures) .1,
       c .before
           .before .before .before .before .before .before .before .before .before .before .before .before .before .before .before .before .before .before .before
           .before .before .before .pre .1 .records,
@@ -57,26 +64,31 @@ slice-reshare-prefix-put-out-2 c =
 
 slice-aggregate-put-out-3 : tie.Need-slice-aggregate-put-out-3
 slice-aggregate-put-out-3 c =
+    let c₈ = c .before .before .before .before .before .before .before .before in
     sym (length-take-le _ _ (omega (
       arith,
-      gave-fits (c .before .before .before .before .before .before .before .before .before .before .before .before
+      gave-fits (c₈ .before .before .before .before
           .take-frame .ensures) .1,
-      c .before .before .before .before .before .before .before .before .before .before .before .before .before .before .before
+      c₈ .before .before .before .before .before .before .before
           .before .before .before .before .before .before .before .before .before .pre .1 .records,
     )))
 
 put-out-requires : tie.Need-put-out-requires
 put-out-requires c κs =
-    let t = c .before .before .before .before .before .before .before .before .before .before .before .before .take-frame .ensures in
-    let r = c .before .before .before .before .before .before .before .before .before .before .before .before .before .before .before .before .before
+    let c₈ = c .before .before .before .before .before .before .before .before in
+    let c₁₆ = c₈ .before .before .before .before .before .before .before .before in
+    let t = c₈ .before .before .before .before .take-frame .ensures in
+    let r = c₁₆ .before
     .before .before .before .before .before .before .before .pre .1 in
     handed _ _ t (omega (arith, gave-fits t .0, r .units)) (omega (arith, gave-fits t .1, r .records))
 
 add-say-progress : tie.Need-add-say-progress
 add-say-progress c =
+    let c₈ = c .before .before .before .before .before .before .before .before in
+    let c₁₆ = c₈ .before .before .before .before .before .before .before .before in
     omega (
       arith,
-      c .before .before .before .before .before .before .before .before .before .before .before .before .before .before .before .before .before
+      c₁₆ .before
           .before .before .before .before .before .before .before .before .pre .1 .more,
     )
 
@@ -88,9 +100,11 @@ goes-on-requires c κs = search needs
 
 add-t38 : tie.Need-add-t38
 add-t38 c =
+    let c₈ = c .before .before .before .before .before .before .before .before in
+    let c₁₆ = c₈ .before .before .before .before .before .before .before .before in
     omega (
       arith,
-      c .before .before .before .before .before .before .before .before .before .before .before .before .before .before .before .before .before
+      c₁₆ .before
           .before .before .before .before .before .before .before .before .before .before .before .before .before .before .pre .1 .more,
     )
 
@@ -106,8 +120,9 @@ same-length-3 c = search needs
 returns : tie.Need-returns
 unfolding takenTurn
 returns c =
+    let c₈ = c .before .before .before .before .before .before .before .before in
     record {
-      stage = c .before .before .before .before .before .before .before .before .before .before .before .before .before .before .before .before
+      stage = c₈ .before .before .before .before .before .before .before .before
           .before .before .before .take-frame .ensures .stage;
       turn = rw (c .before .before .goes-on .ensures);
     }

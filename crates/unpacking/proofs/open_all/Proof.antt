@@ -6,11 +6,6 @@ use mathlib.Core.Path.{_≡_}
 use lib.ListN.{length}
 use Rattle.unpacking.proofs.open_all.Statement.{statement}
 use Rattle.unpacking.proofs.open_all.Tie as tie
-use Rattle.unpacking.proofs.open_all.Reads as reads
-use Rattle.unpacking.proofs.open_all.Lts as lts
-use Rattle.console.proofs.say_failed.Reads as say-failed-reads
-use Rattle.os.proofs.open_overwrite.Reads as open-overwrite-reads
-use Rattle.unpacking.proofs.put_name.Reads as put-name-reads
 
 abbrev Inv-loop : tie.InvT-loop
 Inv-loop lanes name₀ n fds₀ i₀ t8 name fds i = (i ≤ lanes + 1) × (length name ≡ length name₀) × (length fds ≡ 9)

@@ -4,10 +4,6 @@ use Rattle.unpacking.proofs.Suffixes.{lane-suffix, records-suffix}
 use borrow.Author.Needs.{needs}
 use Rattle.unpacking.proofs.put_name.Statement.{statement}
 use Rattle.unpacking.proofs.put_name.Tie as tie
-use Rattle.unpacking.proofs.put_name.Reads as reads
-use Rattle.unpacking.proofs.put_name.Lts as lts
-use Rattle.listing_text.proofs.put_text.Reads as put-text-reads
-use Rattle.unpack_text.proofs.put_named.Reads as put-named-reads
 
 slice-aggregate-put-named : tie.Need-slice-aggregate-put-named
 slice-aggregate-put-named c = search needs
@@ -27,8 +23,10 @@ same-length c = search needs
 returns : tie.Need-returns
 unfolding text
 returns c =
-    let a = c .before .before .before .before .before .before .before .before .before .before .before .before .args in
-    lane-suffix (a .lanes) (a .i) (c .before .before .before .before .before .before .before .before .before .before .if1 .taken) (c .before .before .before .before .before .before .before .put-named .ensures) (c .before .before .put-text .ensures) (c .before .before .before .before .before .before .before .before .before .before .before .before .pre)
+    let c₈ = c .before .before .before .before .before .before .before .before in
+    let a = c₈ .before .before .before .before .args in
+    lane-suffix (a .lanes) (a .i) (c₈ .before .before .if1 .taken) (c .before .before .before .before .before .before .before .put-named .ensures)
+    (c .before .before .put-text .ensures) (c₈ .before .before .before .before .pre)
 
 slice-aggregate-put-text-2 : tie.Need-slice-aggregate-put-text-2
 slice-aggregate-put-text-2 c = search needs

@@ -5,10 +5,6 @@ use mathlib.Core.Path.{_≡_}
 use lib.ListN.{length}
 use Rattle.unpacking.proofs.read_frame.Statement.{statement}
 use Rattle.unpacking.proofs.read_frame.Tie as tie
-use Rattle.unpacking.proofs.read_frame.Reads as reads
-use Rattle.unpacking.proofs.read_frame.Lts as lts
-use Rattle.io.proofs.count.Reads as count-reads
-use Rattle.libc.proofs.read.Reads as read-reads
 
 abbrev Inv-loop : tie.InvT-loop
 Inv-loop fd frame₀ size done₀ frame done = (done ≤ size) × (length frame ≡ length frame₀)

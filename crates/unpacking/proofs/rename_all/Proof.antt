@@ -7,10 +7,6 @@ use mathlib.Core.Path.{_≡_}
 use lib.ListN.{length}
 use Rattle.unpacking.proofs.rename_all.Statement.{statement}
 use Rattle.unpacking.proofs.rename_all.Tie as tie
-use Rattle.unpacking.proofs.rename_all.Reads as reads
-use Rattle.unpacking.proofs.rename_all.Lts as lts
-use Rattle.unpacking.proofs.put_name.Reads as put-name-reads
-use Rattle.unpacking.proofs.rename_part.Reads as rename-part-reads
 
 abbrev Inv-loop : tie.InvT-loop
 Inv-loop lanes name₀ n i₀ name i = (i ≤ lanes + 1) × (length name ≡ length name₀)
@@ -31,7 +27,8 @@ slice-aggregate-rename-part : tie.Need-slice-aggregate-rename-part Inv-loop μ-l
 slice-aggregate-rename-part c = wrote-cut (c .before .before .before .put-name .ensures) (search needs)
 
 rename-part-requires : tie.Need-rename-part-requires Inv-loop μ-loop
-rename-part-requires c κs = part-long (c .before .before .before .before .before .before .before .before .args .lanes) (c .before .before .before .before .before .before .loop .i) (c .before .before .before .put-name .ensures) (search needs)
+rename-part-requires c κs = part-long (c .before .before .before .before .before .before .before .before .args .lanes)
+    (c .before .before .before .before .before .before .loop .i) (c .before .before .before .put-name .ensures) (search needs)
 
 add-i : tie.Need-add-i Inv-loop μ-loop
 add-i c = search needs

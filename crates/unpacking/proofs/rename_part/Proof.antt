@@ -5,10 +5,6 @@ use native.Mathlib.Omega.{arith}
 use borrow.Author.Needs.{needs}
 use Rattle.unpacking.proofs.rename_part.Statement.{statement}
 use Rattle.unpacking.proofs.rename_part.Tie as tie
-use Rattle.unpacking.proofs.rename_part.Reads as reads
-use Rattle.unpacking.proofs.rename_part.Lts as lts
-use Rattle.console.proofs.say_failed.Reads as say-failed-reads
-use Rattle.os.proofs.rename.Reads as rename-reads
 
 sub-end : tie.Need-sub-end
 sub-end c = search needs

@@ -3,10 +3,6 @@ use Rattle.unpacking.proofs.Cuts.{wrote-cut}
 use borrow.Author.Needs.{needs}
 use Rattle.unpacking.proofs.say_output.Statement.{statement}
 use Rattle.unpacking.proofs.say_output.Tie as tie
-use Rattle.unpacking.proofs.say_output.Reads as reads
-use Rattle.unpacking.proofs.say_output.Lts as lts
-use Rattle.console.proofs.say_failed.Reads as say-failed-reads
-use Rattle.unpacking.proofs.put_name.Reads as put-name-reads
 
 put-name-requires : tie.Need-put-name-requires
 put-name-requires c κs = search needs
@@ -18,7 +14,8 @@ slice-reshare-prefix-say-failed : tie.Need-slice-reshare-prefix-say-failed
 slice-reshare-prefix-say-failed c = search needs
 
 slice-aggregate-say-failed-2 : tie.Need-slice-aggregate-say-failed-2
-slice-aggregate-say-failed-2 c = wrote-cut (c .before .before .before .before .put-name .ensures) (c .before .before .before .before .before .before .before .pre)
+slice-aggregate-say-failed-2 c = wrote-cut (c .before .before .before .before .put-name .ensures)
+    (c .before .before .before .before .before .before .before .pre)
 
 say-failed-requires : tie.Need-say-failed-requires
 say-failed-requires c κs = search needs

@@ -8,9 +8,11 @@ use Rattle.unpacking.proofs.Carried.{begins, finished, turned-on}
 use borrow.Author.Needs.{needs}
 use Rattle.unpacking.proofs.take_all.Statement.{statement}
 use Rattle.unpacking.proofs.take_all.Tie as tie
+use Rattle.rules.specs.Areas.{heldSize, recordsSize, unitsSize}
 
 abbrev Inv-loop : tie.InvT-loop
-Inv-loop fd fds held₀ units₀ records₀ frame₀ u₀ k₀ held units records frame u k = (length held ≡ 65536) × (length units ≡ 12288) × (length records ≡ 9600) ×
+Inv-loop fd fds held₀ units₀ records₀ frame₀ u₀ k₀ held units records frame u k = (length held ≡ heldSize) × (length units ≡ unitsSize) ×
+    (length records ≡ recordsSize) ×
     (length frame ≡ 4096) × (u .count ≡ k)
     × Reached (record { reader = u₀ .state; held = held₀; units = units₀; records = records₀; totals = u₀ .totals }) (u .count)
     (record { reader = u .state; held = held; units = units; records = records; totals = u .totals })
@@ -51,9 +53,10 @@ turn-frame-requires c κs = let l = c .before .before .before .before .before .l
 
 loop-less : tie.Need-loop-less Inv-loop μ-loop
 loop-less c =
+    let c₈ = c .before .before .before .before .before .before .before .before in
     omega (
       arith,
-      c .before .before .before .before .before .before .before .before .before .before .loop-test .taken,
+      c₈ .before .before .loop-test .taken,
       c .before .before .before .before
           .before .before .before .before .before .before .before .loop .inv .4,
       turned-on (c .before .before .before .before .before .before .before .before
@@ -61,23 +64,25 @@ loop-less c =
     )
 
 loop-again : tie.Need-loop-again Inv-loop μ-loop
-loop-again c = (
-  search needs,
-  search needs,
-  search needs,
-  search needs,
-  refl,
-  turned-on (c .before .before .before .before .before .before .before .before .before
-      .before .before .loop .inv .5) (c .before .before .before .before .before .turn-frame .ensures) .0,
-)
+loop-again c =
+    let c₈ = c .before .before .before .before .before .before .before .before in (
+      search needs,
+      search needs,
+      search needs,
+      search needs,
+      refl,
+      turned-on (c₈ .before
+          .before .before .loop .inv .5) (c .before .before .before .before .before .turn-frame .ensures) .0,
+    )
 
 returns : tie.Need-returns Inv-loop μ-loop
 returns c = finished _ _ (c .before .before .first-turn .ensures) (c .before .loop .inv .5)
 
 returns-2 : tie.Need-returns-2 Inv-loop μ-loop
 returns-2 c =
-    finished _ _ (c .before .before .before .before .before .before .before .before .before .before .before .before .first-turn .ensures) (turned-on
-    (c .before .before .before .before .before .before .before .before .before .before .before .loop .inv .5)
+    let c₈ = c .before .before .before .before .before .before .before .before in
+    finished _ _ (c₈ .before .before .before .before .first-turn .ensures) (turned-on
+    (c₈ .before .before .before .loop .inv .5)
     (c .before .before .before .before .before .turn-frame .ensures) .0)
 
 pub take-all-spec : {M : Type 1} → statement M

@@ -39,9 +39,11 @@ same-length-3 c = search needs
 
 returns-3 : tie.Need-returns-3
 returns-3 c =
-    let a = c .before .before .before .before .before .before .before .before .before .before .before .before .before .before .before .before .before .args
-    in takes (a .u) (a .came) _ _ (taken-some (a .came) (c .before .before .before .before .before .before .before .before .before .before .before .before
-    .if1 .left) (c .before .before .before .before .before .before .before .before .before .before .before .if2 .left))
+    let c₈ = c .before .before .before .before .before .before .before .before in
+    let c₁₆ = c₈ .before .before .before .before .before .before .before .before in
+    let a = c₁₆ .before .args
+    in takes (a .u) (a .came) _ _ (taken-some (a .came) (c₈ .before .before .before .before
+    .if1 .left) (c₈ .before .before .before .if2 .left))
     (c .before .before .before .before .before .before .handle .ensures)
 
 pub take-came-spec : {M : Type 1} → statement M

@@ -11,17 +11,18 @@ read-frame-requires : tie.Need-read-frame-requires
 read-frame-requires c κs = omega (arith, good-reader _ (c .before .before .before .before .before .before .before .pre .0) .setting .high)
 
 take-came-requires : tie.Need-take-came-requires
-take-came-requires c κs = (
-  c .before .before .before .before .before .before .before .before .before .before .before .before .before .before .pre .0,
-  c .before .before .before
-      .before .before .before .before .before .before .before .before .before .before .before .pre .1,
-  omega (
-    arith,
-    c .before .before .before .before .before .before .read-frame .ensures,
-    good-reader _
-        (c .before .before .before .before .before .before .before .before .before .before .before .before .before .before .pre .0) .setting .high,
-  ),
-)
+take-came-requires c κs =
+    let c₈ = c .before .before .before .before .before .before .before .before in (
+      c₈ .before .before .before .before .before .before .pre .0,
+      c .before .before .before
+          .before .before .before .before .before .before .before .before .before .before .before .pre .1,
+      omega (
+        arith,
+        c .before .before .before .before .before .before .read-frame .ensures,
+        good-reader _
+            (c₈ .before .before .before .before .before .before .pre .0) .setting .high,
+      ),
+    )
 
 same-length : tie.Need-same-length
 same-length c = search needs

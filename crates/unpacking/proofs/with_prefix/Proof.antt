@@ -3,15 +3,6 @@ use Rattle.rules.proofs.Valid.{good}
 use borrow.Author.Needs.{needs}
 use Rattle.unpacking.proofs.with_prefix.Statement.{statement}
 use Rattle.unpacking.proofs.with_prefix.Tie as tie
-use Rattle.unpacking.proofs.with_prefix.Reads as reads
-use Rattle.unpacking.proofs.with_prefix.Lts as lts
-use Rattle.console.proofs.say_failed.Reads as say-failed-reads
-use Rattle.io.proofs.buffer.Reads as buffer-reads
-use Rattle.octets.proofs.copy.Reads as copy-reads
-use Rattle.os.proofs.arg.Reads as arg-reads
-use Rattle.os.proofs.errno.Reads as errno-reads
-use Rattle.unpacking.proofs.open_all.Reads as open-all-reads
-use Rattle.unpacking.proofs.unpack_all.Reads as unpack-all-reads
 
 buffer-requires : tie.Need-buffer-requires
 buffer-requires c κs = search needs
@@ -56,7 +47,9 @@ slice-aggregate-open-all-2 : tie.Need-slice-aggregate-open-all-2
 slice-aggregate-open-all-2 c = search needs
 
 open-all-requires : tie.Need-open-all-requires
-open-all-requires c κs = (good _ (c .before .before .before .before .before .before .before .before .before .before .before .before .before .pre) .numbered, search needs, search needs)
+open-all-requires c κs =
+    let c₈ = c .before .before .before .before .before .before .before .before in
+    (good _ (c₈ .before .before .before .before .before .pre) .numbered, search needs, search needs)
 
 slice-aggregate-unpack-all : tie.Need-slice-aggregate-unpack-all
 slice-aggregate-unpack-all c = search needs

@@ -6,7 +6,6 @@ use Prim.Native.Nat.{_-_}
 use native.Mathlib.Omega.{arith}
 use lib.ListN.{length}
 use borrow.Author.Needs.{needs}
-use Rattle.rules.specs.Reading.{walk}
 use Rattle.walks.proofs.Walks.{Walking, starts, finished, given, skipped, kept, lost, turn-room, turn-on}
 use Rattle.handing.proofs.Laws.{begun-units, begun-records, only-counted}
 use Rattle.walks.proofs.read_on.Statement.{statement}

@@ -1,7 +1,5 @@
 -- `writer::after` meets its contract: the channel's count and the lane's number are stored, each at its place.
-use mathlib.Core.Path.{_≡_, sym, ap, _∙_}
 use native.Mathlib.Omega.{arith}
-use Rattle.frames.specs.declared.Line.{Line}
 use Rattle.writer.specs.Lines.{lineOf}
 use Rattle.rules.specs.Writing.{frames}
 use Rattle.writer.proofs.Lines.{counting, after-is}

@@ -1,7 +1,6 @@
 -- `writer::batch_refusal` meets its contract: the line's lane is the lane, so its batch rule is the row's.
 use mathlib.Core.Path.{_≡_, sym, ap, _∙_}
-use mathlib.Core.Bool.{Bool, true, false, cond, not}
-use Prim.Native.Nat.{ℕ}
+use mathlib.Core.Bool.{true, false}
 use Rattle.rules.specs.Tests.{given}
 use Rattle.rules.specs.Settings.{lane}
 use Rattle.rules.specs.Writing.{batchOk}

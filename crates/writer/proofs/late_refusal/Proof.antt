@@ -1,6 +1,5 @@
 -- `writer::late_refusal` meets its contract: the tests are the rows', in their order.
-use mathlib.Core.Path.{_≡_, sym, _∙_}
-use mathlib.Core.Bool.{or-true}
+use mathlib.Core.Path.{sym}
 use borrow.Author.Tests.{eq-eqb, ne-eqb, le-leb, lt-leb}
 use Rattle.rules.specs.Tests.{given}
 use Rattle.rules.specs.Writing.{frames}

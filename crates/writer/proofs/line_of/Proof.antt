@@ -1,5 +1,4 @@
 -- `writer::line_of` meets its contract: a valid state's lane and its channel stand in the first eight slots.
-use mathlib.Core.Path.{_≡_}
 use native.Mathlib.Omega.{arith}
 use Rattle.writer.specs.Lines.{lineOf}
 use Rattle.writer.proofs.Lines.{slots}

@@ -1,5 +1,5 @@
 -- `writer::refusal` meets its contract: the tests are the rows', in their order.
-use mathlib.Core.Path.{_≡_, sym, _∙_}
+use mathlib.Core.Path.{sym, _∙_}
 use borrow.Author.Tests.{lt-ltb, le-ltb, le-leb, lt-leb}
 use Rattle.rules.specs.Tests.{given}
 use Rattle.rules.specs.Calls.{writeRefusals}

@@ -1,5 +1,5 @@
 -- `writer::set_up` meets its contract: the setting's rule decides which of the two answers it is.
-use mathlib.Core.Path.{_≡_, sym, _∙_}
+use mathlib.Core.Path.{sym, _∙_}
 use Rattle.rules.specs.Calls.{setUpWriter}
 use Rattle.rules.proofs.Promises.{writer-starts-by}
 use borrow.Author.Needs.{needs}

@@ -1,5 +1,5 @@
 -- `writer::write` meets its contract: where no refusal applies the frame is laid and the state moves on; otherwise nothing changes.
-use mathlib.Core.Path.{_≡_, sym, ap, _∙_}
+use mathlib.Core.Path.{sym, _∙_}
 use Rattle.rules.proofs.Calls.{none-refused}
 use Rattle.rules.proofs.Promises.{write-by}
 use Rattle.rules.proofs.States.{writer-ok}

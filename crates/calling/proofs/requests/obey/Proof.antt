@@ -1,5 +1,5 @@
 -- `calling::requests::obey` meets its contract. Each number has its case.
-use mathlib.Core.Path.{_≡_, sym, _∙_, ap₂}
+use mathlib.Core.Path.{sym, _∙_, ap₂}
 use Prim.Native.Nat.{_≤_, _<_}
 use native.Mathlib.Omega.{arith}
 use Rattle.rows.specs.Rows.{word}

@@ -1,5 +1,4 @@
 -- `calling::requests::part` meets its contract. As many octets are cut as there are, where there are any.
-use native.Mathlib.Omega.{arith}
 use Rattle.calling.proofs.Desks.{cut-is, cut-none}
 use borrow.Author.Needs.{needs}
 use Rattle.calling.proofs.requests.part.Statement.{statement}

@@ -38,7 +38,8 @@ returns c =
     let c₁₀ = c₅ .before .before .before .before .before in
     asked-is (c₁₀ .before .before .before .args .q .now) _ _ _ _ (c₁₀ .before .before .before .args .w) _ _ _ _ _ (c₁₀ .word-in .ensures)
     (c₅ .before .before .before .before .word-in2 .ensures) (c₅ .before .before .before .part .ensures) (c₅ .before .before .word-in3 .ensures)
-    (c₅ .before .part2 .ensures) (c₅ .word-in4 .ensures) (c .before .before .before .before .part3 .ensures) (write-is _ _ _ _ _ _ _ (c .before .before .write .ensures))
+    (c₅ .before .part2 .ensures) (c₅ .word-in4 .ensures) (c .before .before .before .before .part3 .ensures)
+    (write-is _ _ _ _ _ _ _ (c .before .before .write .ensures))
 
 pub write-asked-spec : {M : Type 1} → statement M
 write-asked-spec =
