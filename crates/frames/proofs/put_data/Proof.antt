@@ -56,9 +56,11 @@ returns c =
     let c₈ = c .before .before .before .before .before .before .before .before in
     let a = c₈ .before .before .before .before .before .before .before .before .args in
     let q = c .before .before .before .before .before .before .piece-end .ensures in
+    let n = c .before .before .before .before .before .before .piece-end .result in
+    let x = c .before .before .before .before .before .fill-of .result in
+    let piece : List ℕ = take (n - a .i * a .z) (drop (a .i * a .z) (a .batch .now)) in
     c .before .before .put-zone .ensures
-    ∙ ap (λ (d : List ℕ). laid d (a .from + 3) (take (c .before .before .before .before .before .before .piece-end .result - a .i * a .z)
-    (drop (a .i * a .z) (a .batch .now)) ++ replicate (a .z - length (take (c .before .before .before .before .before .before .piece-end .result - a .i * a .z) (drop (a .i * a .z) (a .batch .now)))) (c .before .before .before .before .before .fill-of .result))) (c₈ .before .lay-number .ensures)
+    ∙ ap (λ (d : List ℕ). laid d (a .from + 3) (piece ++ replicate (a .z - length piece) x)) (c₈ .before .lay-number .ensures)
     ∙ data-laid (a .area .now) (a .from) (c₈ .before .before .before .before .before .rule-of .result) (a .upid)
     (c₈ .before .before .before .before .pointer-of .result) (c₈ .before .before .before .data-header-of .result) (a .kind) (a .z) (a .batch .now) (a .i)
     (c .before .before .before .before .before .fill-of .result)

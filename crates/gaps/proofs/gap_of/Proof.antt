@@ -61,7 +61,9 @@ element-set-from-t c = takes (c .before .before .before .before .before .args .t
 returns : tie.Need-returns
 returns c =
     let a = c .before .before .before .before .before .before .args in
-    gap-none (a .t1) (a .c) (a .k) _ (modulus-is _ _ (takes (c .before .before .before .before .before .before .args .t1) (c .before .before .before .before .before .before .args .c) (c .before .before .before .before .before .before .pre .0) (c .before .before .before .before .before .before .pre .1) .seven) (c .before .modulus .ensures)) (sym (c .before .before .missing-of .ensures) ∙ c .if1 .taken)
+    let b = c .before .before .before .before .before .before in
+    gap-none (a .t1) (a .c) (a .k) _ (modulus-is _ _ (takes (b .args .t1) (b .args .c) (b .pre .0) (b .pre .1) .seven) (c .before .modulus .ensures))
+    (sym (c .before .before .missing-of .ensures) ∙ c .if1 .taken)
 
 lost-of-requires : tie.Need-lost-of-requires
 lost-of-requires c κs =

@@ -25,7 +25,16 @@ measured-of-requires : tie.Need-measured-of-requires
 measured-of-requires c κs = search needs
 
 returns : tie.Need-returns
-returns c = c .measured-of .ensures ∙ rw (measure-by, c .before .before .before .before .octet-of .ensures, c .before .before .before .octet-of2 .ensures, c .before .before .octet-of3 .ensures, c .before .octet-of4 .ensures, length-append)
+returns c =
+    c .measured-of .ensures
+    ∙ rw (
+      measure-by,
+      c .before .before .before .before .octet-of .ensures,
+      c .before .before .before .octet-of2 .ensures,
+      c .before .before .octet-of3 .ensures,
+      c .before .octet-of4 .ensures,
+      length-append,
+    )
 
 pub measure-of-spec : {M : Type 1} → statement M
 measure-of-spec =

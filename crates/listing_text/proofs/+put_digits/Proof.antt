@@ -118,7 +118,8 @@ put-digits-put-octet-requires-2 : (t : ℕ) → put-digits-lts.Need-put-octet-re
   put-digits.Post,
 ) (put-digits-at t) put-digits.Post
 put-digits-put-octet-requires-2 t c κs =
-    let a = c .before .before .before .before .before .before .before .before .before .args in
+    let c₈ = c .before .before .before .before .before .before .before .before in
+    let a = c₈ .before .args in
     omega (arith, length-digits (a .n - 1) (a .v / 10), c .before .before .before .before .put-digits .ensures .ends)
 
 put-digits-same-length-2 : (t : ℕ) → put-digits-lts.Need-same-length-2 (
@@ -140,7 +141,8 @@ put-digits-returns-3 : (t : ℕ) → put-digits-lts.Need-returns-3 (
   put-digits.Post,
 ) (put-digits-at t) put-digits.Post
 put-digits-returns-3 t c =
-    let a = c .before .before .before .before .before .before .before .before .before .before .before .before .args in
+    let c₈ = c .before .before .before .before .before .before .before .before in
+    let a = c₈ .before .before .before .before .args in
     put-long (a .n) (a .v) (a .area .now) (a .from) _ _ _ _ _ (search needs) (search needs) (search needs)
     (c .before .before .before .before .digit2 .ensures) (c .before .before .before .before .before .before .before .put-digits .ensures)
     (c .before .before .put-octet2 .ensures)

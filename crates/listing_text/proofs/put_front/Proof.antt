@@ -9,7 +9,8 @@ put-decimal-requires : tie.Need-put-decimal-requires
 put-decimal-requires c κs = search needs
 
 put-octet-requires : tie.Need-put-octet-requires
-put-octet-requires c κs = omega (arith, length-decimal (c .before .before .before .before .before .before .args .k), c .before .before .before .put-decimal .ensures .ends)
+put-octet-requires c κs =
+    omega (arith, length-decimal (c .before .before .before .before .before .before .args .k), c .before .before .before .put-decimal .ensures .ends)
 
 put-word-requires : tie.Need-put-word-requires
 put-word-requires c κs =

@@ -31,12 +31,11 @@ slice-aggregate-put-out c =
 slice-reshare-prefix-put-out : tie.Need-slice-reshare-prefix-put-out
 slice-reshare-prefix-put-out c =
     let c₈ = c .before .before .before .before .before .before .before .before in
+    let c₁₆ = c₈ .before .before .before .before .before .before .before .before in
     omega (
       arith,
       gave-fits (c₈ .before .before .take-frame .ensures) .0,
-      c .before .before
-          .before .before .before .before .before .before .before .before .before .before .before .before .before .before .before .before .before .before .before
-          .before .pre .1 .units,
+      c₁₆ .before .before .before .before .before .before .pre .1 .units,
     )
 
 slice-aggregate-put-out-2 : tie.Need-slice-aggregate-put-out-2
@@ -54,23 +53,22 @@ slice-aggregate-put-out-2 c =
 slice-reshare-prefix-put-out-2 : tie.Need-slice-reshare-prefix-put-out-2
 slice-reshare-prefix-put-out-2 c =
     let c₈ = c .before .before .before .before .before .before .before .before in
+    let c₁₆ = c₈ .before .before .before .before .before .before .before .before in
     omega (
       arith,
       gave-fits (c₈ .before .before .before .take-frame .ensures) .1,
-      c .before
-          .before .before .before .before .before .before .before .before .before .before .before .before .before .before .before .before .before .before .before
-          .before .before .before .pre .1 .records,
+      c₁₆ .before .before .before .before .before .before .before .pre .1 .records,
     )
 
 slice-aggregate-put-out-3 : tie.Need-slice-aggregate-put-out-3
 slice-aggregate-put-out-3 c =
     let c₈ = c .before .before .before .before .before .before .before .before in
+    let c₁₆ = c₈ .before .before .before .before .before .before .before .before in
     sym (length-take-le _ _ (omega (
       arith,
       gave-fits (c₈ .before .before .before .before
           .take-frame .ensures) .1,
-      c₈ .before .before .before .before .before .before .before
-          .before .before .before .before .before .before .before .before .before .pre .1 .records,
+      c₁₆ .before .before .before .before .before .before .before .before .pre .1 .records,
     )))
 
 put-out-requires : tie.Need-put-out-requires
@@ -86,10 +84,10 @@ add-say-progress : tie.Need-add-say-progress
 add-say-progress c =
     let c₈ = c .before .before .before .before .before .before .before .before in
     let c₁₆ = c₈ .before .before .before .before .before .before .before .before in
+    let c₂₄ = c₁₆ .before .before .before .before .before .before .before .before in
     omega (
       arith,
-      c₁₆ .before
-          .before .before .before .before .before .before .before .before .pre .1 .more,
+      c₂₄ .before .pre .1 .more,
     )
 
 say-progress-requires : tie.Need-say-progress-requires
@@ -102,10 +100,10 @@ add-t38 : tie.Need-add-t38
 add-t38 c =
     let c₈ = c .before .before .before .before .before .before .before .before in
     let c₁₆ = c₈ .before .before .before .before .before .before .before .before in
+    let c₂₄ = c₁₆ .before .before .before .before .before .before .before .before in
     omega (
       arith,
-      c₁₆ .before
-          .before .before .before .before .before .before .before .before .before .before .before .before .before .before .pre .1 .more,
+      c₂₄ .before .before .before .before .before .before .before .pre .1 .more,
     )
 
 same-length : tie.Need-same-length
@@ -121,9 +119,9 @@ returns : tie.Need-returns
 unfolding takenTurn
 returns c =
     let c₈ = c .before .before .before .before .before .before .before .before in
+    let c₁₆ = c₈ .before .before .before .before .before .before .before .before in
     record {
-      stage = c₈ .before .before .before .before .before .before .before .before
-          .before .before .before .take-frame .ensures .stage;
+      stage = c₁₆ .before .before .before .take-frame .ensures .stage;
       turn = rw (c .before .before .goes-on .ensures);
     }
 

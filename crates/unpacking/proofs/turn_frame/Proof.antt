@@ -14,8 +14,7 @@ take-came-requires : tie.Need-take-came-requires
 take-came-requires c κs =
     let c₈ = c .before .before .before .before .before .before .before .before in (
       c₈ .before .before .before .before .before .before .pre .0,
-      c .before .before .before
-          .before .before .before .before .before .before .before .before .before .before .before .pre .1,
+      c₈ .before .before .before .before .before .before .pre .1,
       omega (
         arith,
         c .before .before .before .before .before .before .read-frame .ensures,
