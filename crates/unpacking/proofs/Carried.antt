@@ -151,8 +151,17 @@ module _ (k : ℕ) (r : Reader) (t : Tally) (f h u c area : List ℕ) where
         answer = a;
       }
 
--- What is cut out of the areas is what is handed out.
-pub handed : {k : ℕ} {g : Stage} {f area : List ℕ} {g′ : Stage} {area′ : List ℕ} {v : Verdict} {a : Answer} {end : ℕ} (u c : List ℕ)
-    → Took k g f area g′ area′ v a end → a .octets ≤ length u → recordSize * a .units ≤ length c
-    → Handed k v a (take end area′) (take (a .octets) u) (take (recordSize * a .units) c)
-handed u c t p q = record { line = wrote-front (t .line); units = length-take-le _ _ p; records = length-take-le _ _ q }
+-- What is cut out of the areas, as the read left them, is what is handed out.
+pub handed : {k : ℕ} {g : Stage} {f area : List ℕ} {g′ : Stage} {area′ : List ℕ} {v : Verdict} {a : Answer} {end : ℕ}
+    → Took k g f area g′ area′ v a end
+    → Handed k v a (take end area′) (take (a .octets) (g′ .units)) (take (recordSize * a .units) (g′ .records))
+handed {k} {g} {f} {area} {g′} {area′} {v} {a} t =
+    record {
+      line = wrote-front (t .line);
+      stage = g;
+      frame = f;
+      whose = t .whose;
+      answer = t .answer;
+      units = ap (λ (x : Stage). take (a .octets) (x .units)) (t .stage);
+      records = ap (λ (x : Stage). take (recordSize * a .units) (x .records)) (t .stage);
+    }

@@ -93,11 +93,16 @@ outputOf Verdict.Idle = 9
 outputOf (Verdict.Counted c) = 9
 outputOf (Verdict.Read l) = l
 
--- The octets that are handed out for frame k: its line, and its units and records, as many as the answer says.
+-- The octets that are handed out for frame k: its line, and the front of the unit and record areas as the rules' read of a frame, with this
+-- verdict and answer, leaves them.
 pub record Handed (k : ℕ) (v : Verdict) (a : Answer) (l u c : List ℕ) : Type 0 where
   pub line : l ≡ frameLine k v a
-  pub units : length u ≡ a .octets
-  pub records : length c ≡ recordSize * a .units
+  pub stage : Stage
+  pub frame : List ℕ
+  pub whose : v ≡ ruled stage frame
+  pub answer : a ≡ told stage frame
+  pub units : u ≡ take (a .octets) ((advanced stage frame) .units)
+  pub records : c ≡ take (recordSize * a .units) ((advanced stage frame) .records)
 
 unfoldable pub wellGone : Went → Bool
 wellGone Well = true

@@ -74,11 +74,7 @@ slice-aggregate-put-out-3 c =
 put-out-requires : tie.Need-put-out-requires
 put-out-requires c κs =
     let c₈ = c .before .before .before .before .before .before .before .before in
-    let c₁₆ = c₈ .before .before .before .before .before .before .before .before in
-    let t = c₈ .before .before .before .before .take-frame .ensures in
-    let r = c₁₆ .before
-    .before .before .before .before .before .before .before .pre .1 in
-    handed _ _ t (omega (arith, gave-fits t .0, r .units)) (omega (arith, gave-fits t .1, r .records))
+    handed (c₈ .before .before .before .before .take-frame .ensures)
 
 add-say-progress : tie.Need-add-say-progress
 add-say-progress c =
