@@ -18,8 +18,8 @@ use Rattle.rules.proofs.Tests.{split}
 use Rattle.rules.proofs.Octets.{length-be}
 use Rattle.rules.proofs.Areas.{laid-front, laid-laid, laid-next}
 use Rattle.rules.proofs.Written.{length-zoneOf}
-use Rattle.frames.specs.declared.Line.{Line}
-use Rattle.frames.specs.Ready.{lineFrame}
+use Rattle.frames.specs.declared.Upcoming.{Upcoming}
+use Rattle.frames.specs.Fits.{upcomingFrame}
 
 -- ---- the primary header and the insert zone
 
@@ -85,14 +85,14 @@ frame-laid area a d ocf t from z e f room =
     ∙ laid-next area (a ++ d) (ocf ++ cond t (be 2 (checkOf (a ++ d ++ ocf))) []) (from + 3 + z) n (omega (arith, length-append a d))
     ∙ ap (laid area 0) (sym (append-assoc (a ++ d) ocf (cond t (be 2 (checkOf (a ++ d ++ ocf))) [])))
 
-pub frame-is : (s : Setting) (x : Line) (b insert ocf : List ℕ)
-    → lineFrame s x b insert ocf
+pub frame-is : (s : Setting) (x : Upcoming) (b insert ocf : List ℕ)
+    → upcomingFrame s x b insert ocf
     ≡ (let whole : List ℕ = (primary s (x .channel) (x .lane) (x .count) ++ insert)
     ++ (dataHeader (ruleOf (x .lane .kind) (x .number)) (x .lane .upid) (pointerOf (x .lane .kind) (x .zone) b (x .number)) ++ zoneOf (x .lane .kind)
     (x .zone) b (x .number))
     ++ ocf in
     whole ++ cond (s .check) (be 2 (checkOf whole)) [])
-unfolding lineFrame checked body
+unfolding upcomingFrame checked body
 frame-is s x b insert ocf =
     ap (λ (w : List ℕ). w ++ cond (s .check) (be 2 (checkOf w)) [])
     (ap (λ (w : List ℕ). w ++ ocf)

@@ -8,14 +8,15 @@ ghost use Rattle.rules.specs.Octets.{be, checkOf};
 ghost use Rattle.rules.specs.Areas.{laid};
 ghost use Rattle.rules.specs.Frames.{primary, dataHeader};
 ghost use Rattle.rules.specs.Writing.{zoneOf, ruleOf, pointerOf};
-ghost use Rattle.frames.specs.Ready.{lineFrame, Ready};
+ghost use Rattle.frames.specs.Fits.{upcomingFrame, FrameFits};
 use rules::Channel;
 use rules::Kind;
 use rules::Lane;
 use rules::Setting;
 
-// What a write looks up of its lane: the channel's place, the lane, the channel, its zone, the channel's count, the lane's next number.
-pub struct Line {
+// What a write looks up for the frame that is upcoming: the channel's place, the lane, the channel, its zone, the channel's count, the lane's
+// next number.
+pub struct Upcoming {
     pub place: usize,
     pub lane: Lane,
     pub channel: Channel,
@@ -85,10 +86,10 @@ fn put_end(area: &mut [u8], from: usize, ocf: &[u8], check: bool)
     }
 }
 
-// Lays the line's next frame at the area's front.
-pub fn put_frame(s: Setting, x: Line, batch: &[u8], insert: &[u8], ocf: &[u8], area: &mut [u8])
-    requires { ⌜ Ready s x (now batch) (now insert) (now ocf) (now area) ⌝ }
-    ensures { λ _. ⌜ now (area .exit) ≡ laid (now (area .entry)) 0 (lineFrame s x (now (batch .entry)) (now (insert .entry)) (now (ocf .entry))) ⌝ }
+// Lays the upcoming frame at the area's front.
+pub fn put_frame(s: Setting, x: Upcoming, batch: &[u8], insert: &[u8], ocf: &[u8], area: &mut [u8])
+    requires { ⌜ FrameFits s x (now batch) (now insert) (now ocf) (now area) ⌝ }
+    ensures { λ _. ⌜ now (area .exit) ≡ laid (now (area .entry)) 0 (upcomingFrame s x (now (batch .entry)) (now (insert .entry)) (now (ocf .entry))) ⌝ }
 {
     let a = x.lane;
     let c = x.channel;

@@ -20,8 +20,8 @@ use Rattle.rules.specs.Areas.{laid}
 use Rattle.rules.specs.Calls.{Sent, write}
 use Rattle.rules.proofs.Tests.{split}
 use Rattle.rules.proofs.Areas.{length-laid, laid-front}
-use Rattle.gathering.specs.Gathering.{gathered}
-use Rattle.gathering.proofs.Kept.{gathered-inside}
+use Rattle.file_batches.specs.FileBatches.{gathered}
+use Rattle.file_batches.proofs.Kept.{gathered-inside}
 use Rattle.packing.specs.declared.Fault.{Fault}
 use Rattle.packing.specs.declared.Fault.the-variants as faults
 use Rattle.packing.specs.declared.Window.{Window}

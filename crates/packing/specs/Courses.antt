@@ -14,9 +14,9 @@ use Rattle.rules.specs.declared.Kind.the-variants.{Packets, Access}
 use Rattle.rules.specs.declared.Lane.{Lane}
 use Rattle.rules.specs.Settings.{number, lane, channel, ocfOctets}
 use Rattle.rules.specs.Calls.{Sent, write}
-use Rattle.gathering.specs.declared.Wrong.{Wrong}
-use Rattle.gathering.specs.declared.Wrong.the-variants as wrongs
-use Rattle.gathering.specs.Gathering.{gathered, wrongAt}
+use Rattle.file_batches.specs.declared.Wrong.{Wrong}
+use Rattle.file_batches.specs.declared.Wrong.the-variants as wrongs
+use Rattle.file_batches.specs.FileBatches.{gathered, wrongAt}
 use Rattle.packing.specs.declared.Fault.{Fault}
 use Rattle.packing.specs.declared.Fault.the-variants as faults
 use Rattle.packing.specs.declared.Window.{Window}

@@ -13,7 +13,7 @@ ghost use Rattle.rules.specs.Settings.{lane, channel, ocfOctets, number};
 ghost use Rattle.packing.specs.Words.{begins as beginsWith, lane as laneNamed, nameOf, badPlan, planOn, fine};
 ghost use Rattle.packing.specs.Courses.{sound, wrongFault, Refilled, ended, oneMore, sentFault, SentNext, goesOn, Unless, workedOff, areaBefore, batchOn, noBatch, nextBatch, Stepped, Passed, unitCourse, UnitPassed, LanePassed};
 ghost use Rattle.rules.specs.Areas.{batchSize};
-use gathering::Wrong;
+use file_batches::Wrong;
 use rules::Kind;
 use rules::Lane;
 use rules::Outcome;
@@ -211,7 +211,7 @@ fn within(n: usize, area: &[u8]) -> usize
 }
 
 // Reads once, behind what the area holds.
-fn read_on(fd: i32, area: &mut [u8], w: Window) -> Window
+fn refill(fd: i32, area: &mut [u8], w: Window) -> Window
     requires { ⌜ w .have ≤ length (now area) ⌝ }
     ensures { λ r. ⌜ Refilled w (now (area .entry)) r (now (area .exit)) ⌝ }
 {
@@ -242,7 +242,7 @@ fn fill_up(fd: i32, area: &mut [u8], w: Window) -> Window
     let mut window = w;
     while window.have < area.len() {
         let before = window.have;
-        window = read_on(fd, area, window);
+        window = refill(fd, area, window);
         if window.have == before {
             return window;
         }
@@ -400,7 +400,7 @@ fn no_batch(j: Job, c: Course, w: Window, octets: &[u8]) -> Course
     ensures { λ r. ⌜ r ≡ noBatch j c w (now (octets .entry)) ⌝ }
 {
     if w.good {
-        let wrong = gathering::wrong_at(octets, j.longest);
+        let wrong = file_batches::wrong_at(octets, j.longest);
         let fault = wrong_fault(w.at, wrong);
         return end_with(c, fault);
     }
@@ -412,7 +412,7 @@ fn next_batch(j: Job, w: Window, octets: &[u8]) -> usize
     ensures { λ r. ⌜ r ≡ nextBatch j w (now (octets .entry)) ⌝ }
 {
     if w.good {
-        return gathering::gather(octets, j.longest);
+        return file_batches::gather(octets, j.longest);
     }
     0
 }
@@ -433,7 +433,7 @@ fn packets_step(j: Job, c: Course, w: Window, area: &mut [u8], insert: &[u8], oc
         };
     }
     let t = batch_on(j, c, &area[..n], insert, ocf);
-    gathering::shift(&mut area[..have], n);
+    file_batches::shift(&mut area[..have], n);
     let fault = t.fault;
     let more = is_sound(fault);
     Step {

@@ -79,7 +79,7 @@ pub record Took (k : ℕ) (g : Stage) (f area : List ℕ) (g′ : Stage) (area�
   pub answer : a ≡ told g f
 
 -- Areas in which a turn has room, and a frame number that another one follows.
-pub record Room (k : ℕ) (u c : List ℕ) : Type 0 where
+pub record AreasFit (k : ℕ) (u c : List ℕ) : Type 0 where
   pub more : k < 18446744073709551615
   pub units : unitsSize ≤ length u
   pub records : recordsSize ≤ length c

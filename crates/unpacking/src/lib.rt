@@ -14,7 +14,7 @@ ghost use Rattle.rules.specs.Tests.{_=?_};
 ghost use Rattle.rules.specs.Settings.{settingOk, readerOk};
 ghost use Rattle.unpack_text.specs.Lines.{Wrote, title, totalsText};
 ghost use Rattle.unpacking.specs.Names.{suffix};
-ghost use Rattle.unpacking.specs.Stages.{Took, Room, Handed, Handled, Turned, Finished, firstTurn, endingOf, haltedTurn, outputOf, wellGone, goesOn};
+ghost use Rattle.unpacking.specs.Stages.{Took, AreasFit, Handed, Handled, Turned, Finished, firstTurn, endingOf, haltedTurn, outputOf, wellGone, goesOn};
 use rules::Answer;
 use rules::Reader;
 use rules::Setting;
@@ -257,7 +257,7 @@ fn handle(
     units: &mut [u8],
     records: &mut [u8],
 ) -> Turn
-    requires { ⌜ (readerOk (u .state) ≡ true) × Room (u .count) (now units) (now records) ⌝ }
+    requires { ⌜ (readerOk (u .state) ≡ true) × AreasFit (u .count) (now units) (now records) ⌝ }
     ensures { λ v. ⌜ Handled u came (record { reader = u .state; held = now (held .entry); units = now (units .entry); records = now (records .entry); totals = u .totals }) (now (frame .entry)) v (record { reader = v .state; held = now (held .exit); units = now (units .exit); records = now (records .exit); totals = v .totals }) ⌝ }
 {
     let r = u.state;
@@ -332,7 +332,7 @@ fn take_came(
     units: &mut [u8],
     records: &mut [u8],
 ) -> Turn
-    requires { ⌜ (readerOk (u .state) ≡ true) × Room (u .count) (now units) (now records) × (came .octets ≤ length (now frame)) ⌝ }
+    requires { ⌜ (readerOk (u .state) ≡ true) × AreasFit (u .count) (now units) (now records) × (came .octets ≤ length (now frame)) ⌝ }
     ensures { λ v. ⌜ Turned u came (record { reader = u .state; held = now (held .entry); units = now (units .entry); records = now (records .entry); totals = u .totals }) (now (frame .entry)) v (record { reader = v .state; held = now (held .exit); units = now (units .exit); records = now (records .exit); totals = v .totals }) ⌝ }
 {
     if came.failed {
@@ -355,7 +355,7 @@ fn turn_frame(
     units: &mut [u8],
     records: &mut [u8],
 ) -> Turn
-    requires { ⌜ (readerOk (u .state) ≡ true) × Room (u .count) (now units) (now records) × (4096 ≤ length (now frame)) ⌝ }
+    requires { ⌜ (readerOk (u .state) ≡ true) × AreasFit (u .count) (now units) (now records) × (4096 ≤ length (now frame)) ⌝ }
     ensures { λ v. ⌜ Turned u (v .came) (record { reader = u .state; held = now (held .entry); units = now (units .entry); records = now (records .entry); totals = u .totals }) (now (frame .exit)) v (record { reader = v .state; held = now (held .exit); units = now (units .exit); records = now (records .exit); totals = v .totals }) ⌝ }
 {
     let r = u.state;

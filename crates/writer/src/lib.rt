@@ -7,24 +7,24 @@ ghost use Rattle.rules.specs.Settings.{channelOf, number, zone, writerOk};
 ghost use Rattle.rules.specs.Writing.{frames, numberAfter, writerAfter};
 ghost use Rattle.rules.specs.Calls.{writeRefusals};
 ghost use Rattle.rules.specs.Promises.{WriterStarts, WriteGives};
-ghost use Rattle.writer.specs.Lines.{lineOf, lateRefusals, batchRefusals};
-use frames::Line;
+ghost use Rattle.writer.specs.Lookups.{upcomingOf, lateRefusals, batchRefusals};
+use frames::Upcoming;
 use rules::Outcome;
 use rules::Sender;
 use rules::Setting;
 use rules::Writer;
 
 // Looks lane l up.
-fn line_of(w: Writer, l: usize) -> Line
+fn upcoming_of(w: Writer, l: usize) -> Upcoming
     requires { ⌜ (writerOk w ≡ true) × (l < w .setting .numbered) ⌝ }
-    ensures { λ r. ⌜ r ≡ lineOf w l ⌝ }
+    ensures { λ r. ⌜ r ≡ upcomingOf w l ⌝ }
 {
     let s = w.setting;
     let a = s.lanes[l];
     let p = a.channel;
     let c = s.channels[p];
     let z = setting::zone_of(s, c);
-    Line {
+    Upcoming {
         place: p,
         lane: a,
         channel: c,
@@ -52,7 +52,7 @@ fn after(w: Writer, l: usize, batch: &[u8]) -> Writer
     requires { ⌜ (writerOk w ≡ true) × (l < w .setting .numbered) × (number w l < frames (zone (w .setting) (channelOf (w .setting) l)) (now batch)) ⌝ }
     ensures { λ r. ⌜ r ≡ writerAfter w l (now (batch .entry)) ⌝ }
 {
-    let x = line_of(w, l);
+    let x = upcoming_of(w, l);
     let c = x.channel;
     let m = octets::modulus(c.octets);
     let n = batches::frames_of(x.zone, batch.len());
@@ -67,7 +67,7 @@ fn after(w: Writer, l: usize, batch: &[u8]) -> Writer
 // ---- refusals
 
 // 15 and 16, or 0.
-fn late_refusal(s: Setting, x: Line, batch: &[u8], insert: &[u8], ocf: &[u8]) -> u8
+fn late_refusal(s: Setting, x: Upcoming, batch: &[u8], insert: &[u8], ocf: &[u8]) -> u8
     ensures { λ r. ⌜ r ≡ given (lateRefusals s x (now (batch .entry)) (now (insert .entry)) (now (ocf .entry))) ⌝ }
 {
     if insert.len() != s.insert {
@@ -90,7 +90,7 @@ fn batch_refusal(w: Writer, l: usize, batch: &[u8], insert: &[u8], ocf: &[u8]) -
     requires { ⌜ (writerOk w ≡ true) × (l < w .setting .numbered) ⌝ }
     ensures { λ r. ⌜ r ≡ given (batchRefusals w l (now (batch .entry)) (now (insert .entry)) (now (ocf .entry))) ⌝ }
 {
-    let x = line_of(w, l);
+    let x = upcoming_of(w, l);
     let a = x.lane;
     let kind = a.kind;
     let keeps = batches::batch_ok(kind, a.longest, batch);
@@ -153,7 +153,7 @@ pub fn write(
 {
     let n = refusal(w, l, batch, insert, ocf, area);
     if n == 0 {
-        let x = line_of(w, l);
+        let x = upcoming_of(w, l);
         let s = w.setting;
         frames::put_frame(s, x, batch, insert, ocf, area);
         let t = after(w, l, batch);

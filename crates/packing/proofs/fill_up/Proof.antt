@@ -18,23 +18,23 @@ abbrev μ-loop : tie.MeasureT-loop
 loop-holds : tie.Need-loop-holds Inv-loop μ-loop
 loop-holds c = (refilled-none _ _ (search needs), refl)
 
-read-on-requires : tie.Need-read-on-requires Inv-loop μ-loop
-read-on-requires c κs = search needs
+refill-requires : tie.Need-refill-requires Inv-loop μ-loop
+refill-requires c κs = search needs
 
 same-length : tie.Need-same-length Inv-loop μ-loop
 same-length c = search needs
 
 returns : tie.Need-returns Inv-loop μ-loop
 returns c =
-    refilled-then (c .before .before .before .before .before .before .before .before .loop .inv .0) (c .before .before .before .before .read-on .ensures)
+    refilled-then (c .before .before .before .before .before .before .before .before .loop .inv .0) (c .before .before .before .before .refill .ensures)
     (c .before .before .before .before .before .before .before .before .loop .inv .1)
 
 loop-less : tie.Need-loop-less Inv-loop μ-loop
 loop-less c =
     omega (
       arith,
-      c .before .before .before .before .read-on .ensures .more,
-      c .before .before .before .before .read-on .ensures .fits,
+      c .before .before .before .before .refill .ensures .more,
+      c .before .before .before .before .refill .ensures .fits,
       c .if2 .left,
       c
           .before .before .before .before .before .before .before .before .loop .inv .1,
@@ -42,7 +42,7 @@ loop-less c =
 
 loop-again : tie.Need-loop-again Inv-loop μ-loop
 loop-again c = (
-  refilled-then (c .before .before .before .before .before .before .before .before .loop .inv .0) (c .before .before .before .before .read-on .ensures)
+  refilled-then (c .before .before .before .before .before .before .before .before .loop .inv .0) (c .before .before .before .before .refill .ensures)
       (c .before .before .before .before .before .before .before .before .loop .inv .1),
   search needs,
 )
@@ -60,7 +60,7 @@ fill-up-spec =
     Inv-loop
     μ-loop
     loop-holds
-    read-on-requires
+    refill-requires
     same-length
     returns
     loop-less

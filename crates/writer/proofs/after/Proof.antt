@@ -1,14 +1,14 @@
 -- `writer::after` meets its contract: the channel's count and the lane's number are stored, each at its place.
 use native.Mathlib.Omega.{arith}
-use Rattle.writer.specs.Lines.{lineOf}
+use Rattle.writer.specs.Lookups.{upcomingOf}
 use Rattle.rules.specs.Writing.{frames}
-use Rattle.writer.proofs.Lines.{counting, after-is}
+use Rattle.writer.proofs.Lookups.{counting, after-is}
 use borrow.Author.Needs.{needs}
 use Rattle.writer.proofs.after.Statement.{statement}
 use Rattle.writer.proofs.after.Tie as tie
 
-line-of-requires : tie.Need-line-of-requires
-line-of-requires c κs = search needs
+upcoming-of-requires : tie.Need-upcoming-of-requires
+upcoming-of-requires c κs = search needs
 
 modulus-requires : tie.Need-modulus-requires
 modulus-requires c κs = search needs
@@ -17,50 +17,50 @@ frames-of-requires : tie.Need-frames-of-requires
 frames-of-requires c κs = search needs
 
 number-after-requires : tie.Need-number-after-requires
-unfolding lineOf frames
-number-after-requires c κs = rw (c .frames-of .ensures, c .before .before .before .line-of .ensures) (c .before .before .before .before .before .pre .2)
+unfolding upcomingOf frames
+number-after-requires c κs = rw (c .frames-of .ensures, c .before .before .before .upcoming-of .ensures) (c .before .before .before .before .before .pre .2)
 
 add-t : tie.Need-add-t
 add-t c = let q = counting _ _ _ _ (c .before .before .before .before .before .before .before .pre .0)
-    (c .before .before .before .before .before .before .before .pre .1) (c .before .before .before .before .before .line-of .ensures)
+    (c .before .before .before .before .before .before .before .pre .1) (c .before .before .before .before .before .upcoming-of .ensures)
     (c .before .before .before .modulus .ensures) in omega (arith, q .small)
 
 rem-t : tie.Need-rem-t
 rem-t c = counting _ _ _ _ (c .before .before .before .before .before .before .before .pre .0)
-    (c .before .before .before .before .before .before .before .pre .1) (c .before .before .before .before .before .line-of .ensures)
+    (c .before .before .before .before .before .before .before .pre .1) (c .before .before .before .before .before .upcoming-of .ensures)
     (c .before .before .before .modulus .ensures) .some
 
 mul-t : tie.Need-mul-t
 mul-t c = let q = counting _ _ _ _ (c .before .before .before .before .before .before .before .pre .0)
-    (c .before .before .before .before .before .before .before .pre .1) (c .before .before .before .before .before .line-of .ensures)
+    (c .before .before .before .before .before .before .before .pre .1) (c .before .before .before .before .before .upcoming-of .ensures)
     (c .before .before .before .modulus .ensures) in omega (arith, q .place)
 
 element-write-t : tie.Need-element-write-t
 element-write-t c = counting _ _ _ _ (c .before .before .before .before .before .before .before .pre .0)
-    (c .before .before .before .before .before .before .before .pre .1) (c .before .before .before .before .before .line-of .ensures)
+    (c .before .before .before .before .before .before .before .pre .1) (c .before .before .before .before .before .upcoming-of .ensures)
     (c .before .before .before .modulus .ensures) .place
 
 mul-t-2 : tie.Need-mul-t-2
 mul-t-2 c = let q = counting _ _ _ _ (c .before .before .before .before .before .before .before .pre .0)
-    (c .before .before .before .before .before .before .before .pre .1) (c .before .before .before .before .before .line-of .ensures)
+    (c .before .before .before .before .before .before .before .pre .1) (c .before .before .before .before .before .upcoming-of .ensures)
     (c .before .before .before .modulus .ensures) in omega (arith, q .eight)
 
 element-write-t-2 : tie.Need-element-write-t-2
 element-write-t-2 c = counting _ _ _ _ (c .before .before .before .before .before .before .before .pre .0)
-    (c .before .before .before .before .before .before .before .pre .1) (c .before .before .before .before .before .line-of .ensures)
+    (c .before .before .before .before .before .before .before .pre .1) (c .before .before .before .before .before .upcoming-of .ensures)
     (c .before .before .before .modulus .ensures) .eight
 
 returns : tie.Need-returns
 returns c = after-is _ _ (c .before .before .before .before .before .before .before .args .batch .now) _ _ _ _
     (c .before .before .before .before .before .before .before .pre .0) (c .before .before .before .before .before .before .before .pre .1)
-    (c .before .before .before .before .before .line-of .ensures) (c .before .before .before .modulus .ensures) (c .before .before .frames-of .ensures)
+    (c .before .before .before .before .before .upcoming-of .ensures) (c .before .before .before .modulus .ensures) (c .before .before .frames-of .ensures)
     (c .before .number-after .ensures)
 
 pub after-spec : {M : Type 1} → statement M
 after-spec =
     tie.close
     (tie.spec
-    line-of-requires
+    upcoming-of-requires
     modulus-requires
     frames-of-requires
     number-after-requires

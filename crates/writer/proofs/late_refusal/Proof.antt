@@ -3,7 +3,7 @@ use mathlib.Core.Path.{sym}
 use borrow.Author.Tests.{eq-eqb, ne-eqb, le-leb, lt-leb}
 use Rattle.rules.specs.Tests.{given}
 use Rattle.rules.specs.Writing.{frames}
-use Rattle.writer.specs.Lines.{lateRefusals}
+use Rattle.writer.specs.Lookups.{lateRefusals}
 use borrow.Author.Needs.{needs}
 use Rattle.writer.proofs.late_refusal.Statement.{statement}
 use Rattle.writer.proofs.late_refusal.Tie as tie

@@ -3,7 +3,7 @@ use mathlib.Core.Path.{sym, _∙_}
 use borrow.Author.Tests.{lt-ltb, le-ltb, le-leb, lt-leb}
 use Rattle.rules.specs.Tests.{given}
 use Rattle.rules.specs.Calls.{writeRefusals}
-use Rattle.writer.specs.Lines.{lineOf, lateRefusals, batchRefusals}
+use Rattle.writer.specs.Lookups.{upcomingOf, lateRefusals, batchRefusals}
 use borrow.Author.Needs.{needs}
 use Rattle.writer.proofs.refusal.Statement.{statement}
 use Rattle.writer.proofs.refusal.Tie as tie
@@ -32,7 +32,7 @@ batch-refusal-requires c κs = (
 )
 
 returns-3 : tie.Need-returns-3
-unfolding given writeRefusals batchRefusals lateRefusals lineOf
+unfolding given writeRefusals batchRefusals lateRefusals upcomingOf
 returns-3 c = rw (
   sym (c .before .before .before .before .before .before .before .writer-ok .ensures)
       ∙ c .before .before .before .before .before .before .if1 .taken,

@@ -3,7 +3,7 @@ use mathlib.Core.Path.{sym, _∙_}
 use Rattle.rules.proofs.Calls.{none-refused}
 use Rattle.rules.proofs.Promises.{write-by}
 use Rattle.rules.proofs.States.{writer-ok}
-use Rattle.writer.proofs.Lines.{ready, written-is, refused-is}
+use Rattle.writer.proofs.Lookups.{ready, written-is, refused-is}
 use borrow.Author.Needs.{needs}
 use Rattle.writer.proofs.write.Statement.{statement}
 use Rattle.writer.proofs.write.Tie as tie
@@ -11,13 +11,13 @@ use Rattle.writer.proofs.write.Tie as tie
 refusal-requires : tie.Need-refusal-requires
 refusal-requires c κs = search needs
 
-line-of-requires : tie.Need-line-of-requires
-line-of-requires c κs =
+upcoming-of-requires : tie.Need-upcoming-of-requires
+upcoming-of-requires c κs =
     let a = none-refused _ _ _ _ _ _ (sym (c .before .refusal .ensures) ∙ c .if1 .taken) in
     (writer-ok _ (a .good), a .numbered)
 
 put-frame-requires : tie.Need-put-frame-requires
-put-frame-requires c κs = rw (c .before .before .line-of .ensures) (ready _ _ _ _ _ _
+put-frame-requires c κs = rw (c .before .before .upcoming-of .ensures) (ready _ _ _ _ _ _
     (none-refused _ _ _ _ _ _ (sym (c .before .before .before .before .refusal .ensures) ∙ c .before .before .before .if1 .taken)))
 
 after-requires : tie.Need-after-requires
@@ -35,9 +35,9 @@ returns c =
     let a = c₈ .before .before .before .before .before .before .args in
     write-by (a .w) (a .l) (a .batch .now) (a .insert .now) (a .ocf .now) (a .area .now) _
     (written-is (a .w) (a .l) (a .batch .now) (a .insert .now) (a .ocf .now) (a .area .now)
-    (c .before .before .before .before .before .before .line-of .result) (c .after .result) _
+    (c .before .before .before .before .before .before .upcoming-of .result) (c .after .result) _
     (sym (c .before .before .before .before .before .before .before .before .refusal .ensures)
-    ∙ c .before .before .before .before .before .before .before .if1 .taken) (c .before .before .before .before .before .before .line-of .ensures)
+    ∙ c .before .before .before .before .before .before .before .if1 .taken) (c .before .before .before .before .before .before .upcoming-of .ensures)
     (c .after .ensures) (c .before .before .before .put-frame .ensures))
 
 same-length-2 : tie.Need-same-length-2
@@ -55,7 +55,7 @@ write-spec =
     tie.close
     (tie.spec
     refusal-requires
-    line-of-requires
+    upcoming-of-requires
     put-frame-requires
     after-requires
     same-length

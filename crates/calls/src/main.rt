@@ -1,5 +1,0 @@
-// Calls that requests on standard input ask for, and all that each leaves (docs/CALLS.md). As text that is what the program in `second` prints.
-
-fn main() {
-    calling::run();
-}
