@@ -30,7 +30,7 @@ use Rattle.rules.specs.Valid.{GoodKind, GoodReader, GoodWriter}
 use Rattle.rules.proofs.Valid.{good-reader, good-writer, good-channelOf}
 use Rattle.rules.proofs.Lanes.{total, lane-total, lane-below, lane-few}
 use Rattle.rules.proofs.Judged.{Judged, judge-facts}
-use Rattle.rules.proofs.States.{reader-ok, writer-ok, fresh-reader, fresh-writer, no-reader, no-writer, gap-setting, good-gap, good-held, frames-few, good-batch, good-after}
+use Rattle.rules.proofs.States.{reader-ok, writer-ok, fresh-reader, fresh-writer, no-reader, no-writer, gap-setting, good-gap, good-slot, frames-few, good-batch, good-after}
 
 -- ---- set-up
 
@@ -236,7 +236,7 @@ read-valid r f h u c ok = go (verdict r f h u c) (verdict-facts r f h u c)
     go (Verdict.Read l) o =
         unfold onVerdict readOn laidOut in
         let k : ℕ = countIn (channelOf (r .setting) l) f in
-        reader-ok _ (good-held _ (good-gap r (o .good) ((lane (r .setting) l) .channel) k) l _
+        reader-ok _ (good-slot _ (good-gap r (o .good) ((lane (r .setting) l) .channel) k) l _
         (made-below r f h l (o .good) (o .judged .numbered) k (channelOf (r .setting) l)))
 
 -- Units and records of any frame fit 12,288 and 9,600 octets.

@@ -14,14 +14,15 @@ use Rattle.rules.specs.declared.Kind.the-variants.{Packets, Access}
 use Rattle.rules.specs.declared.Lane.{Lane}
 use Rattle.rules.specs.declared.Setting.{Setting}
 use Rattle.rules.specs.declared.Expect.{Expect}
+use Rattle.rules.specs.declared.Slot.{Slot}
 use Rattle.rules.specs.declared.Reader.{Reader}
 use Rattle.rules.specs.declared.Writer.{Writer}
-use Rattle.rules.specs.Tests.{_=?_, all}
+use Rattle.rules.specs.Tests.{_<?_, _=?_, all, every}
 use Rattle.rules.specs.Settings
-use Rattle.rules.specs.Settings.{channel, lane, channelOf, expect, number, zone, settingOk, readerOk, writerOk, freshReader, freshWriter, noReader, noWriter, noExpect}
+use Rattle.rules.specs.Settings.{channel, lane, channelOf, expect, countsOf, noSlot, withExpect, withSlot, number, zone, settingOk, readerOk, writerOk, freshReader, freshWriter, noReader, noWriter, noExpect}
 use Rattle.rules.specs.Writing.{batchOk, frames, numberAfter, countAfter, writerAfter}
 use Rattle.rules.specs.Reading.{missing, expected, emptied, lanesOf, gapBy, gap}
-use Rattle.rules.proofs.Tests.{all-at, all-cons, all-nil, at-every}
+use Rattle.rules.proofs.Tests.{all-at, all-cons, all-nil, at-every, every-same}
 use Rattle.rules.proofs.Octets.{pow256-pos}
 use Rattle.rules.proofs.Counts.{expected-below}
 use Rattle.rules.specs.Valid.{GoodReader, GoodWriter}
@@ -44,6 +45,26 @@ writer-ok w g =
     (all-cons _ _ (at-every _ (w .setting .listed) (λ c h. lt-ltb _ _ (g .counts c h)))
     (all-cons _ _ (at-every _ (w .setting .numbered) (λ l h. le-leb _ _ (g .numbers l h))) all-nil))
 
+-- ---- the counts that a reader expects
+
+counts-at : (xs : List Expect) (c : ℕ) → c < 8 → getD (countsOf xs) c 0 ≡ (getD xs c noExpect) .count
+unfolding countsOf
+counts-at xs zero h = refl
+counts-at xs (suc zero) h = refl
+counts-at xs (suc (suc zero)) h = refl
+counts-at xs (suc (suc (suc zero))) h = refl
+counts-at xs (suc (suc (suc (suc zero)))) h = refl
+counts-at xs (suc (suc (suc (suc (suc zero))))) h = refl
+counts-at xs (suc (suc (suc (suc (suc (suc zero)))))) h = refl
+counts-at xs (suc (suc (suc (suc (suc (suc (suc zero))))))) h = refl
+counts-at xs (suc (suc (suc (suc (suc (suc (suc (suc c)))))))) h = absurd (omega (arith, h))
+
+-- They are judged as a writer's are.
+pub expects-judged : (s : Setting) (xs : List Expect) → s .listed ≤ 8
+    → every (s .listed) (λ (c : ℕ). getD (countsOf xs) c 0 <? 256 ^ (channel s c) .octets)
+    ≡ every (s .listed) (λ (c : ℕ). (getD xs c noExpect) .count <? 256 ^ (channel s c) .octets)
+expects-judged s xs h = every-same _ _ (s .listed) (λ c l. ap (λ (x : ℕ). x <? 256 ^ (channel s c) .octets) (counts-at xs c (omega arith)))
+
 -- ---- fresh states
 
 zeros : (i : ℕ) → i < 8 → _≡_ {A = ℕ} (getD (replicate 8 0) i 0) 0
@@ -61,7 +82,7 @@ module _ (s : Setting) (ok : settingOk s ≡ true) where
             rw (getD-replicate 8 c noExpect noExpect (omega (arith, good s ok .listed))) (pow256-pos ((channel s c) .octets));
         held = λ l h.
             let k = good s ok .lanes l h .kind in
-            rw (zeros l (omega (arith, good s ok .numbered))) (some-longest _ _ _ k);
+            rw (getD-replicate 8 l noSlot noSlot (omega (arith, good s ok .numbered))) (some-longest _ _ _ k);
       })
 
   pub fresh-writer : writerOk (freshWriter s) ≡ true
@@ -100,29 +121,30 @@ set-cases P (y ∷ l) (suc c) (suc i) x d h k = set-cases P l c i x d (λ e. h (
 
 -- ---- the reader: a count is taken, lanes drop, a lane holds something else
 
-emptied-less : (p : Lane → Bool) (ls : List Lane) (hs : List ℕ) (i : ℕ) → getD (emptied p ls hs) i 0 ≤ getD hs i 0
+-- Each slot is as it was, or one of zeros.
+emptied-cases : (p : Lane → Bool) (ls : List Lane) (xs : List Slot) (i : ℕ) (P : Slot → Type 0) → P noSlot → P (getD xs i noSlot)
+    → P (getD (emptied p ls xs) i noSlot)
 unfolding emptied
-emptied-less p [] hs i = le-refl _
-emptied-less p (l ∷ ls) [] i = le-refl _
-emptied-less p (l ∷ ls) (h ∷ hs) zero = go (p l)
+emptied-cases p [] xs i P z k = k
+emptied-cases p (l ∷ ls) [] i P z k = k
+emptied-cases p (l ∷ ls) (x ∷ xs) zero P z k = go (p l)
   where
-    go : (t : Bool) → cond t 0 h ≤ h
-    go true = omega arith
-    go false = le-refl h
-emptied-less p (l ∷ ls) (h ∷ hs) (suc i) = emptied-less p ls hs i
+    go : (t : Bool) → P (cond t noSlot x)
+    go true = z
+    go false = k
+emptied-cases p (l ∷ ls) (x ∷ xs) (suc i) P z k = emptied-cases p ls xs i P z k
 
 module _ (r : Reader) where
   pub gap-setting : (c k : ℕ) → (gap r c k) .state .setting ≡ r .setting
   unfolding gap
   gap-setting c k = go (missing ((channel (r .setting) c) .octets) (expect r c) k)
     where
-      go : (m : ℕ) → (gapBy (record { setting = r .setting; expects = set (r .expects) c (expected ((channel (r .setting) c) .octets) k); held = r .held }) c
-          m) .state .setting ≡ r .setting
+      go : (m : ℕ) → (gapBy (withExpect r c (expected ((channel (r .setting) c) .octets) k)) c m) .state .setting ≡ r .setting
       go zero = unfold gapBy in refl
       go (suc m) = unfold gapBy in refl
 
   good-taken : GoodReader r → (c k : ℕ)
-      → GoodReader (record { setting = r .setting; expects = set (r .expects) c (expected ((channel (r .setting) c) .octets) k); held = r .held })
+      → GoodReader (withExpect r c (expected ((channel (r .setting) c) .octets) k))
   good-taken g c k =
       record {
         ok = g .ok;
@@ -142,20 +164,19 @@ module _ (r : Reader) where
         setting = g .setting;
         counts = g .counts;
         held = λ l h.
-            let a = emptied-less (λ (x : Lane). x .channel =? c) (lanesOf (r .setting)) (r .held) l in
             let b = g .held l h in
-            omega (arith, a, b);
+            emptied-cases (λ (x : Lane). x .channel =? c) (lanesOf (r .setting)) (r .slots) l (λ (x : Slot). x .held < (lane (r .setting) l) .longest)
+            (omega (arith, b)) b;
       }
 
-  -- Lane l holds n octets now.
-  pub good-held : GoodReader r → (l n : ℕ) → n < (lane (r .setting) l) .longest
-      → GoodReader (record { setting = r .setting; expects = r .expects; held = set (r .held) l n })
-  good-held g l n b =
+  -- Lane l has another slot now.
+  pub good-slot : GoodReader r → (l : ℕ) (x : Slot) → x .held < (lane (r .setting) l) .longest → GoodReader (withSlot r l x)
+  good-slot g l x b =
       record {
         ok = g .ok;
         setting = g .setting;
         counts = g .counts;
-        held = λ i h. set-cases (λ (x : ℕ). x < (lane (r .setting) i) .longest) (r .held) l i n 0 (λ q. rw q b) (g .held i h);
+        held = λ i h. set-cases (λ (y : Slot). y .held < (lane (r .setting) i) .longest) (r .slots) l i x noSlot (λ q. rw q b) (g .held i h);
       }
 
 pub good-gap : (r : Reader) → GoodReader r → (c k : ℕ) → GoodReader ((gap r c k) .state)

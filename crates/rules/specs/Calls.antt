@@ -3,7 +3,7 @@
 use Prim.Native.Nat.{ℕ, zero, suc, _+_, _*_}
 use mathlib.Core.Bool.{Bool, cond, not, _||_}
 use mathlib.Core.List.{List, [], _∷_}
-use lib.ListN.{length, take, set}
+use lib.ListN.{length, take}
 use Rattle.rules.specs.declared.Channel.{Channel}
 use Rattle.rules.specs.declared.Setting.{Setting}
 use Rattle.rules.specs.declared.Reader.{Reader}
@@ -19,10 +19,10 @@ use Rattle.rules.specs.declared.Verdict.{Verdict}
 use Rattle.rules.specs.declared.Gap.{Gap}
 use Rattle.rules.specs.Tests.{_≤?_, _<?_, _≠?_, Refusal, refuse, given}
 use Rattle.rules.specs.Areas.{laid, joined, part, heldSize, partSize, recordsSize, unitsSize}
-use Rattle.rules.specs.Settings.{channel, lane, channelOf, heldBy, count, number, zone, ocfOctets, settingOk, readerOk, writerOk, freshReader, freshWriter, noReader, noWriter}
+use Rattle.rules.specs.Settings.{channel, lane, channelOf, heldBy, withSlot, count, number, zone, ocfOctets, settingOk, readerOk, writerOk, freshReader, freshWriter, noReader, noWriter}
 use Rattle.rules.specs.Frames.{countIn, ruleIn, pointerIn, zoneIn, pointsTo}
 use Rattle.rules.specs.Writing.{batchOk, frames, frameOf, writerAfter}
-use Rattle.rules.specs.Reading.{gap, Made, laneStep, recordsFrom, infoOf}
+use Rattle.rules.specs.Reading.{gap, Made, keeps, laneStep, recordsFrom, infoOf}
 use Rattle.rules.specs.Refusals.{refusals, judged}
 
 -- ---- the paper's number for each case of an answer; 0 where none is refused
@@ -119,7 +119,7 @@ laidOut g l k m h u c =
                   fill = m .fill;
                   dropped = g .dropped + m .dropped;
                 };
-            state = record { setting = g .state .setting; expects = g .state .expects; held = set (g .state .held) l (length (m .held)) };
+            state = withSlot (g .state) l (keeps m);
           };
       heldArea = laid h (partSize * l) (m .held);
       unitArea = laid u 0 (joined (m .units));

@@ -5,7 +5,7 @@ use mathlib.Core.Path.{_≡_}
 use Prim.Native.Nat.{ℕ, _+_, _*_}
 use mathlib.Core.Bool.{Bool, false, cond, not, _||_}
 use mathlib.Core.List.{List, [], _∷_}
-use lib.ListN.{length, set}
+use lib.ListN.{length}
 use Rattle.rules.specs.declared.Setting.{Setting}
 use Rattle.rules.specs.declared.Reader.{Reader}
 use Rattle.rules.specs.declared.Writer.{Writer}
@@ -21,10 +21,10 @@ use Rattle.rules.specs.declared.Place.the-variants.{At, Nowhere}
 use Rattle.rules.specs.declared.Gap.{Gap}
 use Rattle.rules.specs.Tests.{_=?_, none, Refusal, refuse, given}
 use Rattle.rules.specs.Areas.{laid, joined, partSize}
-use Rattle.rules.specs.Settings.{channel, lane, count, number, settingOk, freshReader, freshWriter, noReader, noWriter}
+use Rattle.rules.specs.Settings.{channel, lane, withSlot, count, number, settingOk, freshReader, freshWriter, noReader, noWriter}
 use Rattle.rules.specs.Frames.{vc, map, bypass, command, countIn}
 use Rattle.rules.specs.Writing.{frameOf, writerAfter}
-use Rattle.rules.specs.Reading.{gap, Made, recordsFrom, infoOf}
+use Rattle.rules.specs.Reading.{gap, Made, keeps, recordsFrom, infoOf}
 use Rattle.rules.specs.Refusals.{channelAt, laneAt}
 use Rattle.rules.specs.Calls.{refusalOf, classRefusal, writeRefusals, readRefusals, madeBy}
 
@@ -149,8 +149,7 @@ classValues (Class.Refused n) g m = zeroCounts
 unfoldable pub classState : Class → Reader → Gap → ℕ → Made → Reader
 classState Class.Idle r g l m = r
 classState Class.Counted r g l m = g .state
-classState Class.Read r g l m =
-    record { setting = g .state .setting; expects = g .state .expects; held = set (g .state .held) l (length (m .held)) }
+classState Class.Read r g l m = withSlot (g .state) l (keeps m)
 classState (Class.Refused n) r g l m = r
 
 -- An area that only a frame that is Read changes.

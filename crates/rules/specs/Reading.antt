@@ -2,12 +2,13 @@
 use Prim.Native.Nat.{ℕ, zero, suc, _+_, _-_, _%_, _^_}
 use mathlib.Core.Bool.{Bool, true, false, cond}
 use mathlib.Core.List.{List, [], _∷_, _++_}
-use lib.ListN.{length, take, drop, set}
+use lib.ListN.{length, take, drop}
 use Rattle.rules.specs.declared.Kind.{Kind}
 use Rattle.rules.specs.declared.Kind.the-variants.{Packets, Access}
 use Rattle.rules.specs.declared.Lane.{Lane}
 use Rattle.rules.specs.declared.Setting.{Setting}
 use Rattle.rules.specs.declared.Expect.{Expect}
+use Rattle.rules.specs.declared.Slot.{Slot}
 use Rattle.rules.specs.declared.Reader.{Reader}
 use Rattle.rules.specs.declared.Place.{Place}
 use Rattle.rules.specs.declared.Place.the-variants.{At, Nowhere}
@@ -21,7 +22,7 @@ use Rattle.rules.specs.declared.Gap.{Gap}
 use Rattle.rules.specs.declared.Info.{Info}
 use Rattle.rules.specs.Tests.{_≤?_, _<?_, _=?_}
 use Rattle.rules.specs.Octets.{be}
-use Rattle.rules.specs.Settings.{channel, lane, channelOf, expect}
+use Rattle.rules.specs.Settings.{noSlot, channel, lane, channelOf, expect, withExpect}
 use Rattle.rules.specs.Packets.{measure}
 
 -- ---- counts, over n
@@ -36,16 +37,16 @@ expected n k = record { known = true; count = (k + 1) % 256 ^ n }
 
 -- ---- a gap
 
--- How many octets each lane holds once those that pass have dropped theirs, and how many octets that drops.
-unfoldable pub emptied : (Lane → Bool) → List Lane → List ℕ → List ℕ
-emptied p [] hs = hs
+-- The slots once the lanes that pass have dropped what they hold, and how many octets that drops.
+unfoldable pub emptied : (Lane → Bool) → List Lane → List Slot → List Slot
+emptied p [] xs = xs
 emptied p (l ∷ ls) [] = []
-emptied p (l ∷ ls) (h ∷ hs) = cond (p l) 0 h ∷ emptied p ls hs
+emptied p (l ∷ ls) (x ∷ xs) = cond (p l) noSlot x ∷ emptied p ls xs
 
-unfoldable pub lost : (Lane → Bool) → List Lane → List ℕ → ℕ
-lost p [] hs = 0
+unfoldable pub lost : (Lane → Bool) → List Lane → List Slot → ℕ
+lost p [] xs = 0
 lost p (l ∷ ls) [] = 0
-lost p (l ∷ ls) (h ∷ hs) = cond (p l) h 0 + lost p ls hs
+lost p (l ∷ ls) (x ∷ xs) = cond (p l) (x .held) 0 + lost p ls xs
 
 abbrev pub lanesOf : Setting → List Lane
 lanesOf s = take (s .numbered) (s .lanes)
@@ -55,17 +56,15 @@ unfoldable pub gapBy : Reader → ℕ → ℕ → Gap
 gapBy r c zero = record { state = r; missing = 0; dropped = 0 }
 gapBy r c (suc m) =
     record {
-      state = record { setting = r .setting; expects = r .expects; held = emptied (λ (l : Lane). l .channel =? c) (lanesOf (r .setting)) (r .held) };
+      state = record { setting = r .setting; expects = r .expects; slots = emptied (λ (l : Lane). l .channel =? c) (lanesOf (r .setting)) (r .slots) };
       missing = suc m;
-      dropped = lost (λ (l : Lane). l .channel =? c) (lanesOf (r .setting)) (r .held);
+      dropped = lost (λ (l : Lane). l .channel =? c) (lanesOf (r .setting)) (r .slots);
     }
 
 -- "For Counted and Read": a frame of channel c with count k.
 unfoldable pub gap : Reader → ℕ → ℕ → Gap
 gap r c k =
-    gapBy
-    (record { setting = r .setting; expects = set (r .expects) c (expected ((channel (r .setting) c) .octets) k); held = r .held })
-    c (missing ((channel (r .setting) c) .octets) (expect r c) k)
+    gapBy (withExpect r c (expected ((channel (r .setting) c) .octets) k)) c (missing ((channel (r .setting) c) .octets) (expect r c) k)
 
 -- ---- what a lane makes of octets
 
@@ -76,6 +75,10 @@ pub record Made : Type 0 where
   pub idle : ℕ
   pub fill : ℕ
   pub dropped : ℕ
+
+-- What a lane keeps of what it made.
+abbrev pub keeps : Made → Slot
+keeps m = record { held = length (m .held) }
 
 abbrev pub nothing : Made
 nothing = record { units = []; held = []; idle = 0; fill = 0; dropped = 0 }

@@ -1,14 +1,15 @@
 -- "The setting."
 use Prim.Native.Nat.{ℕ, _+_, _-_, _^_}
 use mathlib.Core.Bool.{Bool, true, false, cond, not, _&&_, Bool·beq}
-use mathlib.Core.List.{[], _∷_}
-use lib.ListN.{getD, replicate}
+use mathlib.Core.List.{List, [], _∷_}
+use lib.ListN.{getD, set, replicate}
 use Rattle.rules.specs.declared.Kind.{Kind}
 use Rattle.rules.specs.declared.Kind.the-variants.{Packets, Access}
 use Rattle.rules.specs.declared.Channel.{Channel}
 use Rattle.rules.specs.declared.Lane.{Lane}
 use Rattle.rules.specs.declared.Setting.{Setting}
 use Rattle.rules.specs.declared.Expect.{Expect}
+use Rattle.rules.specs.declared.Slot.{Slot}
 use Rattle.rules.specs.declared.Reader.{Reader}
 use Rattle.rules.specs.declared.Writer.{Writer}
 use Rattle.rules.specs.Tests.{_≤?_, _<?_, _=?_, _≠?_, all, every}
@@ -24,6 +25,9 @@ noLane = record { channel = 0; map = 0; kind = Packets; longest = 0; upid = 0 }
 abbrev pub noExpect : Expect
 noExpect = record { known = false; count = 0 }
 
+abbrev pub noSlot : Slot
+noSlot = record { held = 0 }
+
 abbrev pub channel : Setting → ℕ → Channel
 channel s c = getD (s .channels) c noChannel
 
@@ -37,9 +41,26 @@ channelOf s l = channel s ((lane s l) .channel)
 abbrev pub expect : Reader → ℕ → Expect
 expect r c = getD (r .expects) c noExpect
 
+-- The eight counts that are expected, whether they are or not.
+unfoldable pub countsOf : List Expect → List ℕ
+countsOf xs =
+    (getD xs 0 noExpect) .count ∷ (getD xs 1 noExpect) .count ∷ (getD xs 2 noExpect) .count ∷ (getD xs 3 noExpect) .count
+    ∷ (getD xs 4 noExpect) .count ∷ (getD xs 5 noExpect) .count ∷ (getD xs 6 noExpect) .count ∷ (getD xs 7 noExpect) .count ∷ []
+
+-- What a reader keeps of lane l.
+abbrev pub slot : Reader → ℕ → Slot
+slot r l = getD (r .slots) l noSlot
+
 -- How many octets lane l holds.
 abbrev pub heldBy : Reader → ℕ → ℕ
-heldBy r l = getD (r .held) l 0
+heldBy r l = (slot r l) .held
+
+-- With something else expected on channel c, or another slot of lane l, all others as they were.
+abbrev pub withExpect : Reader → ℕ → Expect → Reader
+withExpect r c e = record { setting = r .setting; expects = set (r .expects) c e; slots = r .slots }
+
+abbrev pub withSlot : Reader → ℕ → Slot → Reader
+withSlot r l x = record { setting = r .setting; expects = r .expects; slots = set (r .slots) l x }
 
 abbrev pub count : Writer → ℕ → ℕ
 count w c = getD (w .counts) c 0
@@ -134,7 +155,7 @@ settingOk s = all (rangesOk s ∷ channelsOk s ∷ lanesOk s ∷ [])
 
 -- "A fresh reader expects no count, and no lane holds octets."
 unfoldable pub freshReader : Setting → Reader
-freshReader s = record { setting = s; expects = replicate 8 noExpect; held = replicate 8 0 }
+freshReader s = record { setting = s; expects = replicate 8 noExpect; slots = replicate 8 noSlot }
 
 -- "A fresh writer has every count and every lane's next frame number at 0."
 unfoldable pub freshWriter : Setting → Writer
@@ -171,7 +192,7 @@ noSetting =
     }
 
 unfoldable pub noReader : Reader
-noReader = record { setting = noSetting; expects = replicate 8 noExpect; held = replicate 8 0 }
+noReader = record { setting = noSetting; expects = replicate 8 noExpect; slots = replicate 8 noSlot }
 
 unfoldable pub noWriter : Writer
 noWriter = record { setting = noSetting; counts = replicate 8 0; next = replicate 8 0 }

@@ -57,11 +57,16 @@ pub struct Expect {
     pub count: u64,
 }
 
-// A reader's state: for each channel the count it expects, for each lane how many octets it holds.
+// What a reader keeps of a lane: how many octets it holds.
+pub struct Slot {
+    pub held: usize,
+}
+
+// A reader's state: of each channel the count that it expects, of each lane its slot.
 pub struct Reader {
     pub setting: Setting,
     pub expects: [Expect; 8],
-    pub held: [usize; 8],
+    pub slots: [Slot; 8],
 }
 
 // A writer's state: for each channel the count of its next frame, for each lane the number of its next frame in its batch.

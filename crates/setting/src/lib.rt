@@ -2,8 +2,9 @@
 ghost use mathlib.Core.Path.{_≡_};
 ghost use mathlib.Core.Bool.{true, _&&_};
 ghost use Prim.Native.Nat.{_-_, _^_, _≤_, _<_};
+ghost use lib.ListN.{getD, set};
 ghost use Rattle.rules.specs.Tests.{_≤?_, _<?_, _=?_, every};
-ghost use Rattle.rules.specs.Settings.{noChannel, noLane, noExpect, channel, lane, expect, heldBy, count, number};
+ghost use Rattle.rules.specs.Settings.{noChannel, noLane, noExpect, noSlot, countsOf, channel, lane, number};
 ghost use Rattle.rules.specs.Settings.{ocfOctets, checkOctets, zoneFor, zone, rangesOk, channelOk, channelsAgree, channelsOk};
 ghost use Rattle.rules.specs.Settings.{kindOk, laneOk, lanesDiffer, lanesOk, settingOk, readerOk, writerOk};
 ghost use Rattle.rules.specs.Settings.{freshReader, freshWriter, noSetting, noReader, noWriter};
@@ -15,6 +16,7 @@ use rules::Lane;
 use rules::Place;
 use rules::Reader;
 use rules::Setting;
+use rules::Slot;
 use rules::Writer;
 
 // `a` less `b`, and 0 where `b` is more.
@@ -341,17 +343,16 @@ fn count_ok(s: Setting, i: usize, x: u64) -> bool
     x < m
 }
 
-// Whether each count that a reader expects is below its channel's 256^n.
-fn expects_ok(r: Reader) -> bool
-    requires { ⌜ settingOk (r .setting) ≡ true ⌝ }
-    ensures { λ b. ⌜ b ≡ every (r .setting .listed) (λ c. (expect r c) .count <? 256 ^ (channel (r .setting) c) .octets) ⌝ }
+// Whether each count is below its channel's 256^n.
+fn counts_ok(s: Setting, counts: [u64; 8]) -> bool
+    requires { ⌜ settingOk s ≡ true ⌝ }
+    ensures { λ b. ⌜ b ≡ every (s .listed) (λ c. getD counts c 0 <? 256 ^ (channel s c) .octets) ⌝ }
 {
-    let s = r.setting;
     let n = s.listed;
     let mut i: usize = 0;
     while i < n {
-        let e = r.expects[i];
-        let ok = count_ok(s, i, e.count);
+        let x = counts[i];
+        let ok = count_ok(s, i, x);
         if ok {
             i += 1;
         } else {
@@ -361,18 +362,42 @@ fn expects_ok(r: Reader) -> bool
     true
 }
 
-// Whether each lane holds fewer octets than its longest unit.
-fn held_ok(r: Reader) -> bool
-    requires { ⌜ r .setting .numbered ≤ 8 ⌝ }
-    ensures { λ b. ⌜ b ≡ every (r .setting .numbered) (λ l. heldBy r l <? (lane (r .setting) l) .longest) ⌝ }
+// The counts that are expected, whether they are or not.
+pub fn counts_of(x: [Expect; 8]) -> [u64; 8]
+    ensures { λ r. ⌜ r ≡ countsOf x ⌝ }
 {
-    let s = r.setting;
+    let a = x[0];
+    let b = x[1];
+    let c = x[2];
+    let d = x[3];
+    let e = x[4];
+    let f = x[5];
+    let g = x[6];
+    let h = x[7];
+    [
+        a.count,
+        b.count,
+        c.count,
+        d.count,
+        e.count,
+        f.count,
+        g.count,
+        h.count,
+    ]
+}
+
+// Whether each lane holds fewer octets than its longest unit.
+fn held_ok(s: Setting, slots: [Slot; 8]) -> bool
+    requires { ⌜ s .numbered ≤ 8 ⌝ }
+    ensures { λ b. ⌜ b ≡ every (s .numbered) (λ l. (getD slots l noSlot) .held <? (lane s l) .longest) ⌝ }
+{
+    let lanes = s.lanes;
     let n = s.numbered;
     let mut i: usize = 0;
     while i < n {
-        let l = s.lanes[i];
-        let held = r.held[i];
-        if held < l.longest {
+        let l = lanes[i];
+        let x = slots[i];
+        if x.held < l.longest {
             i += 1;
         } else {
             return false;
@@ -388,32 +413,15 @@ pub fn reader_ok(r: Reader) -> bool
     let s = r.setting;
     let setting = setting_ok(s);
     if setting {
-        let expects = expects_ok(r);
-        if expects {
-            return held_ok(r);
+        let expects = r.expects;
+        let counts = counts_of(expects);
+        let below = counts_ok(s, counts);
+        if below {
+            let slots = r.slots;
+            return held_ok(s, slots);
         }
     }
     false
-}
-
-// Whether the count of each channel's next frame is below its 256^n.
-fn counts_ok(w: Writer) -> bool
-    requires { ⌜ settingOk (w .setting) ≡ true ⌝ }
-    ensures { λ b. ⌜ b ≡ every (w .setting .listed) (λ c. count w c <? 256 ^ (channel (w .setting) c) .octets) ⌝ }
-{
-    let s = w.setting;
-    let n = s.listed;
-    let mut i: usize = 0;
-    while i < n {
-        let x = w.counts[i];
-        let ok = count_ok(s, i, x);
-        if ok {
-            i += 1;
-        } else {
-            return false;
-        }
-    }
-    true
 }
 
 // Whether each lane's next frame number is at most 32,767.
@@ -442,8 +450,9 @@ pub fn writer_ok(w: Writer) -> bool
     let s = w.setting;
     let setting = setting_ok(s);
     if setting {
-        let counts = counts_ok(w);
-        if counts {
+        let counts = w.counts;
+        let below = counts_ok(s, counts);
+        if below {
             return numbers_ok(w);
         }
     }
@@ -528,6 +537,49 @@ fn no_expect() -> Expect
     }
 }
 
+// The slot of a lane that holds nothing.
+pub fn no_slot() -> Slot
+    ensures { λ r. ⌜ r ≡ noSlot ⌝ }
+{
+    Slot { held: 0 }
+}
+
+// What is kept of lane l.
+pub fn slot_in(slots: [Slot; 8], l: usize) -> Slot
+    requires { ⌜ l < 8 ⌝ }
+    ensures { λ r. ⌜ r ≡ getD slots l noSlot ⌝ }
+{
+    slots[l]
+}
+
+// The slots with another one of lane l, all others as they were.
+pub fn with_slot(slots: [Slot; 8], l: usize, x: Slot) -> [Slot; 8]
+    requires { ⌜ l < 8 ⌝ }
+    ensures { λ r. ⌜ r ≡ set slots l x ⌝ }
+{
+    let mut t = slots;
+    t[l] = x;
+    t
+}
+
+// What is expected on channel c.
+pub fn expect_in(expects: [Expect; 8], c: usize) -> Expect
+    requires { ⌜ c < 8 ⌝ }
+    ensures { λ r. ⌜ r ≡ getD expects c noExpect ⌝ }
+{
+    expects[c]
+}
+
+// What is expected, with something else on channel c, all others as they were.
+pub fn with_expect(expects: [Expect; 8], c: usize, e: Expect) -> [Expect; 8]
+    requires { ⌜ c < 8 ⌝ }
+    ensures { λ r. ⌜ r ≡ set expects c e ⌝ }
+{
+    let mut t = expects;
+    t[c] = e;
+    t
+}
+
 // A setting of zeros.
 fn no_setting() -> Setting
     ensures { λ r. ⌜ r ≡ noSetting ⌝ }
@@ -555,10 +607,12 @@ pub fn fresh_reader(s: Setting) -> Reader
 {
     let expect = no_expect();
     let expects = [expect; 8];
+    let slot = no_slot();
+    let slots = [slot; 8];
     Reader {
         setting: s,
         expects: expects,
-        held: [0; 8],
+        slots: slots,
     }
 }
 

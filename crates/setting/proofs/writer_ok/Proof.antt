@@ -12,16 +12,16 @@ setting-ok-requires : tie.Need-setting-ok-requires
 setting-ok-requires c κs = search needs
 
 counts-ok-requires : tie.Need-counts-ok-requires
-counts-ok-requires c κs = sym (c .before .setting-ok .ensures) ∙ c .if1 .taken
+counts-ok-requires c κs = sym (c .before .before .setting-ok .ensures) ∙ c .before .if1 .taken
 
 numbers-ok-requires : tie.Need-numbers-ok-requires
 numbers-ok-requires c κs =
-    good _ (sym (c .before .before .before .setting-ok .ensures) ∙ c .before .before .if1 .taken) .numbered
+    good _ (sym (c .before .before .before .before .setting-ok .ensures) ∙ c .before .before .before .if1 .taken) .numbered
 
 returns : tie.Need-returns
 unfolding writerOk
 returns c =
-    one-passes _ _ _ (sym (c .before .before .before .before .setting-ok .ensures) ∙ c .before .before .before .if1 .taken)
+    one-passes _ _ _ (sym (c .before .before .before .before .before .setting-ok .ensures) ∙ c .before .before .before .before .if1 .taken)
     (one-passes _ _ _ (sym (c .before .before .counts-ok .ensures) ∙ c .before .if2 .taken) (c .numbers-ok .ensures ∙ last-decides _))
 
 returns-2 : tie.Need-returns-2

@@ -1,9 +1,9 @@
--- `rows::counts_of` meets its contract. Slot by slot.
+-- `setting::counts_of` meets its contract. Slot by slot.
 use mathlib.Core.Path.{refl}
-use Rattle.rows.specs.States.{countsOf}
+use Rattle.rules.specs.Settings.{countsOf}
 use borrow.Author.Needs.{needs}
-use Rattle.rows.proofs.counts_of.Statement.{statement}
-use Rattle.rows.proofs.counts_of.Tie as tie
+use Rattle.setting.proofs.counts_of.Statement.{statement}
+use Rattle.setting.proofs.counts_of.Tie as tie
 
 array-copy-out-a : tie.Need-array-copy-out-a
 array-copy-out-a c = search needs
