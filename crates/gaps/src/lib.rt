@@ -4,12 +4,13 @@ ghost use mathlib.Core.Bool.{true};
 ghost use Prim.Native.Nat.{ℕ, _+_, _^_, _≤_, _<_};
 ghost use lib.ListN.{getD};
 ghost use Rattle.rules.specs.Tests.{_=?_};
-ghost use Rattle.rules.specs.Settings.{readerOk, channel};
+ghost use Rattle.rules.specs.Settings.{noSlot, readerOk, channel};
 ghost use Rattle.rules.specs.Reading.{missing, emptied, lost, lanesOf, gap};
 use rules::Expect;
 use rules::Gap;
 use rules::Reader;
 use rules::Setting;
+use rules::Slot;
 
 // How many frames are missing before count k, of n octets.
 fn missing_of(n: usize, e: Expect, k: u64) -> u64
@@ -23,18 +24,20 @@ fn missing_of(n: usize, e: Expect, k: u64) -> u64
     0
 }
 
-// How many octets each lane holds once those of channel c have dropped theirs.
-fn emptied_of(s: Setting, c: usize, held: [usize; 8]) -> [usize; 8]
+// The slots once the lanes of channel c have dropped what they hold.
+fn emptied_of(s: Setting, c: usize, slots: [Slot; 8]) -> [Slot; 8]
     requires { ⌜ s .numbered ≤ 8 ⌝ }
-    ensures { λ r. ⌜ r ≡ emptied (λ l. l .channel =? c) (lanesOf s) held ⌝ }
+    ensures { λ r. ⌜ r ≡ emptied (λ l. l .channel =? c) (lanesOf s) slots ⌝ }
 {
+    let none = setting::no_slot();
+    let lanes = s.lanes;
     let n = s.numbered;
-    let mut t = held;
+    let mut t = slots;
     let mut i: usize = 0;
     while i < n {
-        let a = s.lanes[i];
+        let a = lanes[i];
         if a.channel == c {
-            t[i] = 0;
+            t[i] = none;
         }
         i += 1;
     }
@@ -42,17 +45,19 @@ fn emptied_of(s: Setting, c: usize, held: [usize; 8]) -> [usize; 8]
 }
 
 // How many octets that drops.
-fn lost_of(s: Setting, c: usize, held: [usize; 8]) -> usize
-    requires { ⌜ (s .numbered ≤ 8) × ((l : ℕ) → l < s .numbered → getD held l 0 ≤ 8192) ⌝ }
-    ensures { λ r. ⌜ r ≡ lost (λ l. l .channel =? c) (lanesOf s) held ⌝ }
+fn lost_of(s: Setting, c: usize, slots: [Slot; 8]) -> usize
+    requires { ⌜ (s .numbered ≤ 8) × ((l : ℕ) → l < s .numbered → (getD slots l noSlot) .held ≤ 8192) ⌝ }
+    ensures { λ r. ⌜ r ≡ lost (λ l. l .channel =? c) (lanesOf s) slots ⌝ }
 {
+    let lanes = s.lanes;
     let n = s.numbered;
     let mut lost: usize = 0;
     let mut i: usize = 0;
     while i < n {
-        let a = s.lanes[i];
+        let a = lanes[i];
         if a.channel == c {
-            lost += held[i];
+            let x = slots[i];
+            lost += x.held;
         }
         i += 1;
     }
@@ -65,29 +70,38 @@ pub fn gap_of(r: Reader, c: usize, k: u64) -> Gap
     ensures { λ g. ⌜ g ≡ gap r c k ⌝ }
 {
     let s = r.setting;
-    let ch = s.channels[c];
+    let expects = r.expects;
+    let slots = r.slots;
+    let channels = s.channels;
+    let ch = channels[c];
     let n = ch.octets;
-    let e = r.expects[c];
+    let e = setting::expect_in(expects, c);
     let missing = missing_of(n, e, k);
     let m = octets::modulus(n);
-    let mut t = r;
-    t.expects[c] = Expect {
+    let next = Expect {
         known: true,
         count: (k + 1) % m,
     };
+    let expects = setting::with_expect(expects, c, next);
     if missing == 0 {
         return Gap {
-            state: t,
+            state: Reader {
+                setting: s,
+                expects: expects,
+                slots: slots,
+            },
             missing: 0,
             dropped: 0,
         };
     }
-    let held = r.held;
-    let dropped = lost_of(s, c, held);
-    let left = emptied_of(s, c, held);
-    t.held = left;
+    let dropped = lost_of(s, c, slots);
+    let left = emptied_of(s, c, slots);
     Gap {
-        state: t,
+        state: Reader {
+            setting: s,
+            expects: expects,
+            slots: left,
+        },
         missing: missing,
         dropped: dropped,
     }
