@@ -75,7 +75,7 @@ pub fn gap_of(r: Reader, c: usize, k: u64) -> Gap
     let channels = s.channels;
     let ch = channels[c];
     let n = ch.octets;
-    let e = setting::expect_in(expects, c);
+    let e = setting::expect_of(expects, c);
     let missing = missing_of(n, e, k);
     let m = octets::modulus(n);
     let next = Expect {

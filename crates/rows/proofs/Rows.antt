@@ -10,6 +10,7 @@ use Rattle.rules.specs.declared.Channel.{Channel}
 use Rattle.rules.specs.declared.Lane.{Lane}
 use Rattle.rules.specs.declared.Setting.{Setting}
 use Rattle.rules.specs.declared.Expect.{Expect}
+use Rattle.rules.specs.declared.Slot.{Slot}
 use Rattle.rules.specs.Settings.{noChannel, noExpect}
 use Rattle.rules.specs.Octets.{be}
 use Rattle.rules.specs.Areas.{laid}
@@ -75,22 +76,22 @@ pub channel-long : (c : Channel) (x : Expect) → length (channelRow c x) ≡ 8
 unfolding channelRow
 channel-long c x = refl
 
-pub lane-long : (l : Lane) (n : ℕ) → length (laneRow l n) ≡ 8
+pub lane-long : (l : Lane) (x : Slot) → length (laneRow l x) ≡ 8
 unfolding laneRow
-lane-long l n = refl
+lane-long l x = refl
 
 -- The three parts of a state, one after another.
-pub state-laid : (d₀ d₁ d₂ d₃ row : List ℕ) (k : ℕ) (s : Setting) (xs : List Expect) (ns : List ℕ) → 64 * k + 1088 ≤ length d₀ → row ≡ frontRow s
+pub state-laid : (d₀ d₁ d₂ d₃ row : List ℕ) (k : ℕ) (s : Setting) (xs : List Expect) (ys : List Slot) → 64 * k + 1088 ≤ length d₀ → row ≡ frontRow s
     → d₁ ≡ laid d₀ (64 * k) (spelled row) → d₂ ≡ laid d₁ (64 * (k + 1)) (channelRows (s .channels) xs)
-    → d₃ ≡ laid d₂ (64 * (k + 9)) (laneRows (s .lanes) ns) → d₃ ≡ laid d₀ (64 * k) (stateOctets s xs ns)
+    → d₃ ≡ laid d₂ (64 * (k + 9)) (laneRows (s .lanes) ys) → d₃ ≡ laid d₀ (64 * k) (stateOctets s xs ys)
 unfolding stateOctets channelRows laneRows frontRow
-state-laid d₀ d₁ d₂ d₃ row k s xs ns room e p q r =
+state-laid d₀ d₁ d₂ d₃ row k s xs ys room e p q r =
     let one : length (spelled (frontRow s)) ≡ 64 = length-spelled (frontRow s) in
     let eight : length (channelRows (s .channels) xs) ≡ 512 = rows-long _ 8 (λ i. channel-long (getD (s .channels) i noChannel) (getD xs i noExpect)) in
     let both : length (spelled (frontRow s) ++ channelRows (s .channels) xs) ≡ 576 =
     length-append (spelled (frontRow s)) (channelRows (s .channels) xs) ∙ ap₂ _+_ one eight in
     r
-    ∙ lays-on d₀ d₂ (spelled (frontRow s) ++ channelRows (s .channels) xs) (laneRows (s .lanes) ns) (64 * k) (64 * (k + 9))
+    ∙ lays-on d₀ d₂ (spelled (frontRow s) ++ channelRows (s .channels) xs) (laneRows (s .lanes) ys) (64 * k) (64 * (k + 9))
     (q
     ∙ lays-on d₀ d₁ (spelled (frontRow s)) (channelRows (s .channels) xs) (64 * k) (64 * (k + 1)) (p ∙ ap (λ (x : List ℕ). laid d₀ (64 * k) (spelled x)) e)
     (omega (arith, one)) (omega (arith, one)))

@@ -9,11 +9,12 @@ use Rattle.rules.specs.declared.Channel.{Channel}
 use Rattle.rules.specs.declared.Lane.{Lane}
 use Rattle.rules.specs.declared.Setting.{Setting}
 use Rattle.rules.specs.declared.Expect.{Expect}
+use Rattle.rules.specs.declared.Slot.{Slot}
 use Rattle.rules.specs.declared.Reader.{Reader}
 use Rattle.rules.specs.declared.Writer.{Writer}
 use Rattle.rules.specs.Tests.{_=?_}
 use Rattle.rules.specs.Octets.{flag}
-use Rattle.rules.specs.Settings.{noChannel, noLane, noExpect}
+use Rattle.rules.specs.Settings.{noChannel, noLane, noExpect, noSlot, countsOf}
 use Rattle.rows.specs.Rows.{word, spelled}
 
 -- ---- out of octets: i is the number with which a row begins
@@ -47,9 +48,12 @@ expectsIn xs k = slots noExpect (λ (i : ℕ). expectIn xs (8 * (k + i))) 8
 unfoldable pub lanesIn : List ℕ → ℕ → List Lane
 lanesIn xs k = slots noLane (λ (i : ℕ). laneIn xs (8 * (k + i))) 8
 
--- What lanes hold, behind their numbers.
-unfoldable pub heldIn : List ℕ → ℕ → List ℕ
-heldIn xs k = slots 0 (λ (i : ℕ). word xs (8 * (k + i) + 5)) 8
+-- What is kept of a lane, behind its numbers.
+unfoldable pub slotIn : List ℕ → ℕ → Slot
+slotIn xs i = record { held = word xs (i + 5) }
+
+unfoldable pub slotsIn : List ℕ → ℕ → List Slot
+slotsIn xs k = slots noSlot (λ (i : ℕ). slotIn xs (8 * (k + i))) 8
 
 -- The setting from row k on.
 unfoldable pub settingIn : List ℕ → ℕ → Setting
@@ -68,17 +72,17 @@ settingIn xs k =
 
 -- The reader's state from row k on.
 unfoldable pub readerIn : List ℕ → ℕ → Reader
-readerIn xs k = record { setting = settingIn xs k; expects = expectsIn xs (k + 1); held = heldIn xs (k + 9) }
+readerIn xs k = record { setting = settingIn xs k; expects = expectsIn xs (k + 1); slots = slotsIn xs (k + 9) }
 
--- Eight counts of those expected, whether they are or not.
-unfoldable pub countsOf : List Expect → List ℕ
-countsOf xs =
-    (getD xs 0 noExpect) .count ∷ (getD xs 1 noExpect) .count ∷ (getD xs 2 noExpect) .count ∷ (getD xs 3 noExpect) .count
-    ∷ (getD xs 4 noExpect) .count ∷ (getD xs 5 noExpect) .count ∷ (getD xs 6 noExpect) .count ∷ (getD xs 7 noExpect) .count ∷ []
+-- How many octets each of eight lanes holds.
+unfoldable pub heldOf : List Slot → List ℕ
+heldOf xs =
+    (getD xs 0 noSlot) .held ∷ (getD xs 1 noSlot) .held ∷ (getD xs 2 noSlot) .held ∷ (getD xs 3 noSlot) .held
+    ∷ (getD xs 4 noSlot) .held ∷ (getD xs 5 noSlot) .held ∷ (getD xs 6 noSlot) .held ∷ (getD xs 7 noSlot) .held ∷ []
 
 -- The writer's state from row k on: counts stand for expected counts, next frame numbers for what is held.
 unfoldable pub writerIn : List ℕ → ℕ → Writer
-writerIn xs k = record { setting = settingIn xs k; counts = countsOf (expectsIn xs (k + 1)); next = heldIn xs (k + 9) }
+writerIn xs k = record { setting = settingIn xs k; counts = countsOf (expectsIn xs (k + 1)); next = heldOf (slotsIn xs (k + 9)) }
 
 -- ---- into octets
 
@@ -92,8 +96,8 @@ abbrev pub kindNumber : Kind → ℕ
 kindNumber Packets = 0
 kindNumber Access = 1
 
-unfoldable pub laneRow : Lane → ℕ → List ℕ
-laneRow l n = l .channel ∷ l .map ∷ kindNumber (l .kind) ∷ l .longest ∷ l .upid ∷ n ∷ 0 ∷ 0 ∷ []
+unfoldable pub laneRow : Lane → Slot → List ℕ
+laneRow l x = l .channel ∷ l .map ∷ kindNumber (l .kind) ∷ l .longest ∷ l .upid ∷ x .held ∷ 0 ∷ 0 ∷ []
 
 -- The first n of the rows that f says, as octets.
 unfoldable pub rows : (ℕ → List ℕ) → ℕ → List ℕ
@@ -103,15 +107,15 @@ rows f (suc n) = rows f n ++ spelled (f n)
 unfoldable pub channelRows : List Channel → List Expect → List ℕ
 channelRows cs xs = rows (λ (i : ℕ). channelRow (getD cs i noChannel) (getD xs i noExpect)) 8
 
-unfoldable pub laneRows : List Lane → List ℕ → List ℕ
-laneRows ls ns = rows (λ (i : ℕ). laneRow (getD ls i noLane) (getD ns i 0)) 8
+unfoldable pub laneRows : List Lane → List Slot → List ℕ
+laneRows ls ys = rows (λ (i : ℕ). laneRow (getD ls i noLane) (getD ys i noSlot)) 8
 
 -- A state as octets.
-unfoldable pub stateOctets : Setting → List Expect → List ℕ → List ℕ
-stateOctets s xs ns = spelled (frontRow s) ++ channelRows (s .channels) xs ++ laneRows (s .lanes) ns
+unfoldable pub stateOctets : Setting → List Expect → List Slot → List ℕ
+stateOctets s xs ys = spelled (frontRow s) ++ channelRows (s .channels) xs ++ laneRows (s .lanes) ys
 
 unfoldable pub readerOctets : Reader → List ℕ
-readerOctets r = stateOctets (r .setting) (r .expects) (r .held)
+readerOctets r = stateOctets (r .setting) (r .expects) (r .slots)
 
 -- A count that is said to be expected by nobody.
 abbrev pub plain : ℕ → Expect
@@ -122,5 +126,14 @@ expectsOf ns =
     plain (getD ns 0 0) ∷ plain (getD ns 1 0) ∷ plain (getD ns 2 0) ∷ plain (getD ns 3 0) ∷ plain (getD ns 4 0) ∷ plain (getD ns 5 0)
     ∷ plain (getD ns 6 0) ∷ plain (getD ns 7 0) ∷ []
 
+-- A slot that holds so many octets.
+abbrev pub holding : ℕ → Slot
+holding n = record { held = n }
+
+unfoldable pub slotsOf : List ℕ → List Slot
+slotsOf ns =
+    holding (getD ns 0 0) ∷ holding (getD ns 1 0) ∷ holding (getD ns 2 0) ∷ holding (getD ns 3 0) ∷ holding (getD ns 4 0) ∷ holding (getD ns 5 0)
+    ∷ holding (getD ns 6 0) ∷ holding (getD ns 7 0) ∷ []
+
 unfoldable pub writerOctets : Writer → List ℕ
-writerOctets w = stateOctets (w .setting) (expectsOf (w .counts)) (w .next)
+writerOctets w = stateOctets (w .setting) (expectsOf (w .counts)) (slotsOf (w .next))

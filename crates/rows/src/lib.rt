@@ -5,15 +5,16 @@ ghost use lib.ListN.{length};
 ghost use Rattle.rules.specs.Octets.{flag};
 ghost use Rattle.rules.specs.Areas.{laid};
 ghost use Rattle.rows.specs.Rows.{word, spelled};
-ghost use Rattle.rows.specs.States.{channelIn, expectIn, kindIn, laneIn, channelsIn, expectsIn, lanesIn, heldIn};
-ghost use Rattle.rows.specs.States.{settingIn, readerIn, countsOf, writerIn};
-ghost use Rattle.rows.specs.States.{frontRow, channelRow, kindNumber, laneRow, channelRows, laneRows, stateOctets, readerOctets, expectsOf, writerOctets};
+ghost use Rattle.rows.specs.States.{channelIn, expectIn, kindIn, laneIn, channelsIn, expectsIn, lanesIn, slotIn, slotsIn};
+ghost use Rattle.rows.specs.States.{settingIn, readerIn, heldOf, writerIn};
+ghost use Rattle.rows.specs.States.{frontRow, channelRow, kindNumber, laneRow, channelRows, laneRows, stateOctets, readerOctets, expectsOf, slotsOf, writerOctets};
 use rules::Channel;
 use rules::Expect;
 use rules::Kind;
 use rules::Lane;
 use rules::Reader;
 use rules::Setting;
+use rules::Slot;
 use rules::Writer;
 
 // Number i of some octets.
@@ -138,15 +139,27 @@ fn lanes_in(s: &[u8], k: usize) -> [Lane; 8]
     r
 }
 
-// What the eight lanes from row k on hold.
-fn held_in(s: &[u8], k: usize) -> [usize; 8]
-    requires { ⌜ 64 * k + 512 ≤ length (now s) ⌝ }
-    ensures { λ r. ⌜ r ≡ heldIn (now (s .entry)) k ⌝ }
+// What is kept of the lane of the row that begins with number i.
+fn slot_in(s: &[u8], i: usize) -> Slot
+    requires { ⌜ 8 * i + 64 ≤ length (now s) ⌝ }
+    ensures { λ r. ⌜ r ≡ slotIn (now (s .entry)) i ⌝ }
 {
-    let mut r = [0usize; 8];
+    Slot {
+        held: word_in(s, i + 5) as usize,
+    }
+}
+
+// What is kept of the eight lanes from row k on.
+fn slots_in(s: &[u8], k: usize) -> [Slot; 8]
+    requires { ⌜ 64 * k + 512 ≤ length (now s) ⌝ }
+    ensures { λ r. ⌜ r ≡ slotsIn (now (s .entry)) k ⌝ }
+{
+    let none = Slot { held: 0 };
+    let mut r = [none; 8];
     let mut i: usize = 0;
     while i < 8 {
-        r[i] = word_in(s, 8 * (k + i) + 5) as usize;
+        let x = slot_in(s, 8 * (k + i));
+        r[i] = x;
         i += 1;
     }
     r
@@ -180,17 +193,17 @@ pub fn reader_in(s: &[u8], k: usize) -> Reader
 {
     let setting = setting_in(s, k);
     let expects = expects_in(s, k + 1);
-    let held = held_in(s, k + 9);
+    let slots = slots_in(s, k + 9);
     Reader {
         setting: setting,
         expects: expects,
-        held: held,
+        slots: slots,
     }
 }
 
-// Eight counts of those expected.
-fn counts_of(x: [Expect; 8]) -> [u64; 8]
-    ensures { λ r. ⌜ r ≡ countsOf x ⌝ }
+// How many octets each of eight lanes holds.
+fn held_of(x: [Slot; 8]) -> [usize; 8]
+    ensures { λ r. ⌜ r ≡ heldOf x ⌝ }
 {
     let a = x[0];
     let b = x[1];
@@ -201,14 +214,14 @@ fn counts_of(x: [Expect; 8]) -> [u64; 8]
     let g = x[6];
     let h = x[7];
     [
-        a.count,
-        b.count,
-        c.count,
-        d.count,
-        e.count,
-        f.count,
-        g.count,
-        h.count,
+        a.held,
+        b.held,
+        c.held,
+        d.held,
+        e.held,
+        f.held,
+        g.held,
+        h.held,
     ]
 }
 
@@ -218,8 +231,8 @@ pub fn writer_in(s: &[u8], k: usize) -> Writer
     ensures { λ r. ⌜ r ≡ writerIn (now (s .entry)) k ⌝ }
 {
     let setting = setting_in(s, k);
-    let counts = counts_of(expects_in(s, k + 1));
-    let next = held_in(s, k + 9);
+    let counts = setting::counts_of(expects_in(s, k + 1));
+    let next = held_of(slots_in(s, k + 9));
     Writer {
         setting: setting,
         counts: counts,
@@ -297,9 +310,9 @@ fn channel_row(c: Channel, x: Expect) -> [u64; 8]
     ]
 }
 
-// The row of a lane slot.
-fn lane_row(l: Lane, n: usize) -> [u64; 8]
-    ensures { λ r. ⌜ r ≡ laneRow l n ⌝ }
+// The row of a lane and of what is kept of it.
+fn lane_row(l: Lane, x: Slot) -> [u64; 8]
+    ensures { λ r. ⌜ r ≡ laneRow l x ⌝ }
 {
     let k = l.kind;
     let kind = kind_number(k);
@@ -309,7 +322,7 @@ fn lane_row(l: Lane, n: usize) -> [u64; 8]
         kind,
         l.longest as u64,
         l.upid as u64,
-        n as u64,
+        x.held as u64,
         0,
         0,
     ]
@@ -328,30 +341,30 @@ fn put_channels(area: &mut [u8], k: usize, c: [Channel; 8], x: [Expect; 8])
     }
 }
 
-// Lays lanes and what they hold into the rows from row k on.
-fn put_lanes(area: &mut [u8], k: usize, l: [Lane; 8], n: [usize; 8])
+// Lays lanes and what is kept of them into the rows from row k on.
+fn put_lanes(area: &mut [u8], k: usize, l: [Lane; 8], x: [Slot; 8])
     requires { ⌜ 64 * k + 512 ≤ length (now area) ⌝ }
-    ensures { λ _. ⌜ now (area .exit) ≡ laid (now (area .entry)) (64 * k) (laneRows l n) ⌝ }
+    ensures { λ _. ⌜ now (area .exit) ≡ laid (now (area .entry)) (64 * k) (laneRows l x) ⌝ }
 {
     let mut i: usize = 0;
     while i < 8 {
-        let row = lane_row(l[i], n[i]);
+        let row = lane_row(l[i], x[i]);
         put_row(area, k + i, row);
         i += 1;
     }
 }
 
 // Lays a state into the rows from row k on.
-fn put_state(area: &mut [u8], k: usize, s: Setting, x: [Expect; 8], n: [usize; 8])
+fn put_state(area: &mut [u8], k: usize, s: Setting, x: [Expect; 8], y: [Slot; 8])
     requires { ⌜ 64 * k + 1088 ≤ length (now area) ⌝ }
-    ensures { λ _. ⌜ now (area .exit) ≡ laid (now (area .entry)) (64 * k) (stateOctets s x n) ⌝ }
+    ensures { λ _. ⌜ now (area .exit) ≡ laid (now (area .entry)) (64 * k) (stateOctets s x y) ⌝ }
 {
     let row = front_row(s);
     put_row(area, k, row);
     let channels = s.channels;
     put_channels(area, k + 1, channels, x);
     let lanes = s.lanes;
-    put_lanes(area, k + 9, lanes, n);
+    put_lanes(area, k + 9, lanes, y);
 }
 
 // Lays a reader's state into the rows from row k on.
@@ -361,8 +374,8 @@ pub fn put_reader(area: &mut [u8], k: usize, r: Reader)
 {
     let s = r.setting;
     let x = r.expects;
-    let n = r.held;
-    put_state(area, k, s, x, n);
+    let y = r.slots;
+    put_state(area, k, s, x, y);
 }
 
 // Counts for the rows of channels.
@@ -405,6 +418,22 @@ fn expects_of(n: [u64; 8]) -> [Expect; 8]
     ]
 }
 
+// Slots for the rows of lanes.
+fn slots_of(n: [usize; 8]) -> [Slot; 8]
+    ensures { λ r. ⌜ r ≡ slotsOf n ⌝ }
+{
+    [
+        Slot { held: n[0] },
+        Slot { held: n[1] },
+        Slot { held: n[2] },
+        Slot { held: n[3] },
+        Slot { held: n[4] },
+        Slot { held: n[5] },
+        Slot { held: n[6] },
+        Slot { held: n[7] },
+    ]
+}
+
 // Lays a writer's state into the rows from row k on.
 pub fn put_writer(area: &mut [u8], k: usize, w: Writer)
     requires { ⌜ 64 * k + 1088 ≤ length (now area) ⌝ }
@@ -414,5 +443,6 @@ pub fn put_writer(area: &mut [u8], k: usize, w: Writer)
     let c = w.counts;
     let x = expects_of(c);
     let n = w.next;
-    put_state(area, k, s, x, n);
+    let y = slots_of(n);
+    put_state(area, k, s, x, y);
 }

@@ -545,7 +545,7 @@ pub fn no_slot() -> Slot
 }
 
 // What is kept of lane l.
-pub fn slot_in(slots: [Slot; 8], l: usize) -> Slot
+pub fn slot_of(slots: [Slot; 8], l: usize) -> Slot
     requires { ⌜ l < 8 ⌝ }
     ensures { λ r. ⌜ r ≡ getD slots l noSlot ⌝ }
 {
@@ -563,7 +563,7 @@ pub fn with_slot(slots: [Slot; 8], l: usize, x: Slot) -> [Slot; 8]
 }
 
 // What is expected on channel c.
-pub fn expect_in(expects: [Expect; 8], c: usize) -> Expect
+pub fn expect_of(expects: [Expect; 8], c: usize) -> Expect
     requires { ⌜ c < 8 ⌝ }
     ensures { λ r. ⌜ r ≡ getD expects c noExpect ⌝ }
 {

@@ -21,8 +21,8 @@ array-copy-out-ch c =
     let a = c .before .before .before .before in
     takes (a .args .r) (a .args .c) (a .pre .0) (a .pre .1) .eight
 
-expect-in-requires : tie.Need-expect-in-requires
-expect-in-requires c κs =
+expect-of-requires : tie.Need-expect-of-requires
+expect-of-requires c κs =
     let a = c .before .before .before .before .before in
     takes (a .args .r) (a .args .c) (a .pre .0) (a .pre .1) .eight
 
@@ -30,7 +30,7 @@ missing-of-requires : tie.Need-missing-of-requires
 missing-of-requires c κs =
     let a = c .before .before .before .before .before .before in
     let t = takes (a .args .r) (a .args .c) (a .pre .0) (a .pre .1) in
-    (t .seven, rw (c .expect-in .ensures) (t .count), a .pre .2)
+    (t .seven, rw (c .expect-of .ensures) (t .count), a .pre .2)
 
 modulus-requires : tie.Need-modulus-requires
 modulus-requires c κs = search needs
@@ -60,7 +60,7 @@ returns c =
     let a = e .before .before .before .before .before .before in
     let t = takes (a .args .r) (a .args .c) (a .pre .0) (a .pre .1) in
     let gone = c .before .before .before .missing-of .ensures
-    ∙ ap (λ (x : Expect). missing (channel (a .args .r .setting) (a .args .c) .octets) x (a .args .k)) (e .expect-in .ensures) in
+    ∙ ap (λ (x : Expect). missing (channel (a .args .r .setting) (a .args .c) .octets) x (a .args .k)) (e .expect-of .ensures) in
     rw (c .before .with-expect .ensures)
     (gap-none (a .args .r) (a .args .c) (a .args .k) _ (modulus-is _ _ (t .seven) (c .before .before .modulus .ensures)) (sym gone ∙ c .if1 .taken))
 
@@ -84,7 +84,7 @@ returns-2 c =
     let a = e .before .before .before .before .before .before in
     let t = takes (a .args .r) (a .args .c) (a .pre .0) (a .pre .1) in
     let gone = m .before .missing-of .ensures
-    ∙ ap (λ (x : Expect). missing (channel (a .args .r .setting) (a .args .c) .octets) x (a .args .k)) (e .expect-in .ensures) in
+    ∙ ap (λ (x : Expect). missing (channel (a .args .r .setting) (a .args .c) .octets) x (a .args .k)) (e .expect-of .ensures) in
     rw (c .emptied-of .ensures, c .before .lost-of .ensures, gone, c .before .before .before .with-expect .ensures)
     (gap-some (a .args .r) (a .args .c) (a .args .k) _ (modulus-is _ _ (t .seven) (m .modulus .ensures)) (λ q. c .before .before .if1 .left (gone ∙ q)))
 
@@ -94,7 +94,7 @@ gap-of-spec =
     (tie.spec
     mul-ch
     array-copy-out-ch
-    expect-in-requires
+    expect-of-requires
     missing-of-requires
     modulus-requires
     add-t21

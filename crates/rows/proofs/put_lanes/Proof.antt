@@ -5,7 +5,7 @@ use native.Mathlib.Omega.{arith}
 use lib.ListN.{length, getD}
 use borrow.Author.Needs.{needs}
 use Rattle.rules.specs.Areas.{laid}
-use Rattle.rules.specs.Settings.{noLane}
+use Rattle.rules.specs.Settings.{noLane, noSlot}
 use Rattle.rules.proofs.Areas.{laid-nil}
 use Rattle.rows.specs.States.{laneRow, rows, laneRows}
 use Rattle.rows.proofs.Rows.{rows-turn, rows-all, lane-long}
@@ -13,12 +13,12 @@ use Rattle.rows.proofs.put_lanes.Statement.{statement}
 use Rattle.rows.proofs.put_lanes.Tie as tie
 
 abbrev Inv-loop : tie.InvT-loop
-Inv-loop area₀ k l n i₀ area i =
+Inv-loop area₀ k l x i₀ area i =
     (i ≤ 8) × (length area ≡ length area₀)
-    × (area ≡ laid area₀ (64 * k) (rows (λ (j : ℕ). laneRow (getD l j noLane) (getD n j 0)) i))
+    × (area ≡ laid area₀ (64 * k) (rows (λ (j : ℕ). laneRow (getD l j noLane) (getD x j noSlot)) i))
 
 abbrev μ-loop : tie.MeasureT-loop
-μ-loop area₀ k l n i₀ area i = 8 - i
+μ-loop area₀ k l x i₀ area i = 8 - i
 
 loop-holds : tie.Need-loop-holds Inv-loop μ-loop
 unfolding rows
@@ -33,8 +33,8 @@ array-copy-out-lane-row c = search needs
 mul-lane-row-2 : tie.Need-mul-lane-row-2 Inv-loop μ-loop
 mul-lane-row-2 c = search needs
 
-array-read-lane-row : tie.Need-array-read-lane-row Inv-loop μ-loop
-array-read-lane-row c = search needs
+array-copy-out-lane-row-2 : tie.Need-array-copy-out-lane-row-2 Inv-loop μ-loop
+array-copy-out-lane-row-2 c = search needs
 
 lane-row-requires : tie.Need-lane-row-requires Inv-loop μ-loop
 lane-row-requires c κs = search needs
@@ -54,10 +54,11 @@ loop-less c = search needs
 loop-again : tie.Need-loop-again Inv-loop μ-loop
 loop-again c =
     let c₅ = c .before .before .before .before .before in
-    let a = c₅ .before .before .before .before .args in
+    let l = c₅ .before .before .before in
+    let a = l .before .before .args in
     let row = c .before .before .before .before .lane-row .ensures in
-    let here = c₅ .before .before .loop .inv .2 in
-    let more = rows-turn _ (a .area .now) _ _ (a .k) (c₅ .before .before .loop .i) (λ j. lane-long _ _) (search needs) here row in
+    let here = l .loop .inv .2 in
+    let more = rows-turn _ (a .area .now) _ _ (a .k) (l .loop .i) (λ j. lane-long _ _) (search needs) here row in
     (search needs, search needs, c .before .before .put-row .ensures ∙ more)
 
 same-length : tie.Need-same-length Inv-loop μ-loop
@@ -77,7 +78,7 @@ put-lanes-spec =
     mul-lane-row
     array-copy-out-lane-row
     mul-lane-row-2
-    array-read-lane-row
+    array-copy-out-lane-row-2
     lane-row-requires
     add-put-row
     put-row-requires

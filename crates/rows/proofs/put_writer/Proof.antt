@@ -1,7 +1,9 @@
--- `rows::put_writer` meets its contract. A writer's state is laid as its three parts, counts for expected counts.
-use mathlib.Core.Path.{_∙_, ap}
+-- `rows::put_writer` meets its contract. A writer's state is laid as its three parts, counts for expected counts, next frame numbers for
+-- what is held.
+use mathlib.Core.Path.{_∙_, ap₂}
 use mathlib.Core.List.{List}
 use Rattle.rules.specs.declared.Expect.{Expect}
+use Rattle.rules.specs.declared.Slot.{Slot}
 use Rattle.rules.specs.Areas.{laid}
 use Prim.Native.Nat.{_*_}
 use Rattle.rows.specs.States.{stateOctets, writerOctets}
@@ -12,6 +14,9 @@ use Rattle.rows.proofs.put_writer.Tie as tie
 expects-of-requires : tie.Need-expects-of-requires
 expects-of-requires c κs = search needs
 
+slots-of-requires : tie.Need-slots-of-requires
+slots-of-requires c κs = search needs
+
 put-state-requires : tie.Need-put-state-requires
 put-state-requires c κs = search needs
 
@@ -21,10 +26,12 @@ same-length c = search needs
 returns : tie.Need-returns
 unfolding writerOctets
 returns c =
-    let c₅ = c .before .before .before .before .before in
-    let a = c₅ .before .before .before .before .args in
-    c .before .before .put-state .ensures ∙ ap (λ (x : List Expect). laid (a .area .now) (64 * a .k) (stateOctets (a .w .setting) x (a .w .next)))
-    (c₅ .expects-of .ensures)
+    let y = c .before .before .before .before in
+    let x = y .before .before in
+    let a = x .before .before .before .before .args in
+    c .before .before .put-state .ensures
+    ∙ ap₂ (λ (xs : List Expect) (ys : List Slot). laid (a .area .now) (64 * a .k) (stateOctets (a .w .setting) xs ys))
+    (x .expects-of .ensures) (y .slots-of .ensures)
 
 pub put-writer-spec : {M : Type 1} → statement M
-put-writer-spec = tie.close (tie.spec expects-of-requires put-state-requires same-length returns)
+put-writer-spec = tie.close (tie.spec expects-of-requires slots-of-requires put-state-requires same-length returns)

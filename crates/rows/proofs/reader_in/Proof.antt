@@ -1,4 +1,4 @@
--- `rows::reader_in` meets its contract. The state is its setting, its expected counts and what is held.
+-- `rows::reader_in` meets its contract. The state is its setting, its expected counts and its slots.
 use Rattle.rows.specs.States.{readerIn}
 use borrow.Author.Needs.{needs}
 use Rattle.rows.proofs.reader_in.Statement.{statement}
@@ -13,11 +13,11 @@ add-expects-in c = search needs
 expects-in-requires : tie.Need-expects-in-requires
 expects-in-requires c κs = search needs
 
-add-held-in : tie.Need-add-held-in
-add-held-in c = search needs
+add-slots-in : tie.Need-add-slots-in
+add-slots-in c = search needs
 
-held-in-requires : tie.Need-held-in-requires
-held-in-requires c κs = search needs
+slots-in-requires : tie.Need-slots-in-requires
+slots-in-requires c κs = search needs
 
 returns : tie.Need-returns
 unfolding readerIn
@@ -30,6 +30,6 @@ reader-in-spec =
     setting-in-requires
     add-expects-in
     expects-in-requires
-    add-held-in
-    held-in-requires
+    add-slots-in
+    slots-in-requires
     returns)

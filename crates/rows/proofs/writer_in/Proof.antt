@@ -16,11 +16,14 @@ expects-in-requires c κs = search needs
 counts-of-requires : tie.Need-counts-of-requires
 counts-of-requires c κs = search needs
 
-add-held-in : tie.Need-add-held-in
-add-held-in c = search needs
+add-slots-in : tie.Need-add-slots-in
+add-slots-in c = search needs
 
-held-in-requires : tie.Need-held-in-requires
-held-in-requires c κs = search needs
+slots-in-requires : tie.Need-slots-in-requires
+slots-in-requires c κs = search needs
+
+held-of-requires : tie.Need-held-of-requires
+held-of-requires c κs = search needs
 
 returns : tie.Need-returns
 unfolding writerIn
@@ -34,6 +37,7 @@ writer-in-spec =
     add-expects-in
     expects-in-requires
     counts-of-requires
-    add-held-in
-    held-in-requires
+    add-slots-in
+    slots-in-requires
+    held-of-requires
     returns)

@@ -1,0 +1,18 @@
+-- `rows::slot_in` meets its contract. What is held stands where the row has it.
+use Rattle.rows.specs.States.{slotIn}
+use borrow.Author.Needs.{needs}
+use Rattle.rows.proofs.slot_in.Statement.{statement}
+use Rattle.rows.proofs.slot_in.Tie as tie
+
+add-word-in : tie.Need-add-word-in
+add-word-in c = search needs
+
+word-in-requires : tie.Need-word-in-requires
+word-in-requires c κs = search needs
+
+returns : tie.Need-returns
+unfolding slotIn
+returns c = cc
+
+pub slot-in-spec : {M : Type 1} → statement M
+slot-in-spec = tie.close (tie.spec add-word-in word-in-requires returns)
