@@ -6,21 +6,22 @@ use lib.ListN.{length, getD, List·getD-eq-default}
 use native.Mathlib.Numerals.{add-one}
 use Rattle.rules.specs.declared.Lane.{Lane}
 use Rattle.rules.specs.declared.Setting.{Setting}
-use Rattle.rules.specs.Settings.{noLane, lane}
+use Rattle.rules.specs.declared.Slot.{Slot}
+use Rattle.rules.specs.Settings.{noLane, noSlot, lane}
 use Rattle.unpack_text.specs.Totals.{add, heldIn}
 
-pub held-next : (held : List ℕ) (i : ℕ) → heldIn held (i + 1) ≡ add (heldIn held i) (getD held i 0)
+pub held-next : (slots : List Slot) (i : ℕ) → heldIn slots (i + 1) ≡ add (heldIn slots i) ((getD slots i noSlot) .held)
 unfolding heldIn
-held-next held i = rw (add-one i)
+held-next slots i = rw (add-one i)
 
-pub held-none : (held : List ℕ) → heldIn held 0 ≡ 0
+pub held-none : (slots : List Slot) → heldIn slots 0 ≡ 0
 unfolding heldIn
-held-none held = refl
+held-none slots = refl
 
 -- ---- past the slots
 
-pub slot-out : (xs : List ℕ) (i : ℕ) → length xs ≤ i → 0 ≡ getD xs i 0
-slot-out xs i h = sym (List·getD-eq-default xs 0 h)
+pub slot-out : (xs : List Slot) (i : ℕ) → length xs ≤ i → 0 ≡ (getD xs i noSlot) .held
+slot-out xs i h = sym (ap (λ (x : Slot). x .held) (List·getD-eq-default xs noSlot h))
 
 pub lane-out : (s : Setting) (l : ℕ) → length (s .lanes) ≤ l → 0 ≡ (lane s l) .channel
 lane-out s l h = sym (ap (λ (x : Lane). x .channel) (List·getD-eq-default (s .lanes) noLane h))

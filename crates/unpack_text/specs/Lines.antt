@@ -96,4 +96,4 @@ unfoldable pub totalsText : Reader → Tally → List ℕ
 totalsText r t =
     laneLines (t .lanes) (r .setting .numbered)
     ++ channelLines (r .setting) (t .channels)
-    ++ totalLine t (heldIn (r .held) (r .setting .numbered))
+    ++ totalLine t (heldIn (r .slots) (r .setting .numbered))

@@ -6,8 +6,9 @@ use Rattle.rules.specs.declared.Answer.{Answer}
 use Rattle.rules.specs.declared.Class.{Class}
 use Rattle.rules.specs.declared.Class.the-variants.{Idle, Counted, Read, Refused}
 use Rattle.rules.specs.declared.Setting.{Setting}
+use Rattle.rules.specs.declared.Slot.{Slot}
 use Rattle.rules.specs.declared.Verdict.{Verdict}
-use Rattle.rules.specs.Settings.{lane}
+use Rattle.rules.specs.Settings.{noSlot, lane}
 use Rattle.unpack_text.specs.declared.Classes.{Classes}
 use Rattle.unpack_text.specs.declared.Sums.{Sums}
 use Rattle.unpack_text.specs.declared.LaneTally.{LaneTally}
@@ -88,6 +89,6 @@ noTally =
     }
 
 -- How many octets the first n lanes hold together.
-unfoldable pub heldIn : List ℕ → ℕ → ℕ
-heldIn held zero = 0
-heldIn held (suc n) = add (heldIn held n) (getD held n 0)
+unfoldable pub heldIn : List Slot → ℕ → ℕ
+heldIn slots zero = 0
+heldIn slots (suc n) = add (heldIn slots n) ((getD slots n noSlot) .held)

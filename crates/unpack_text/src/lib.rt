@@ -3,7 +3,7 @@ ghost use mathlib.Core.Path.{_≡_};
 ghost use mathlib.Core.List.{_++_};
 ghost use Prim.Native.Nat.{_+_, _≤_};
 ghost use lib.ListN.{length, getD};
-ghost use Rattle.rules.specs.Settings.{lane};
+ghost use Rattle.rules.specs.Settings.{noSlot, lane};
 ghost use Rattle.rules.specs.Frames.{vc};
 ghost use Rattle.rules.specs.Listing.{decimal};
 ghost use Rattle.unpack_text.specs.Totals.{add, classed, summed, laneAfter, channelAfter, inLane, inChannel, lanesAfter, channelsAfter, tallied, noTally, heldIn};
@@ -12,6 +12,7 @@ use rules::Answer;
 use rules::Class;
 use rules::Reader;
 use rules::Setting;
+use rules::Slot;
 use rules::Verdict;
 
 // How many frames there were, and how many of each class.
@@ -252,24 +253,25 @@ pub fn no_tally() -> Tally
     }
 }
 
-// How many octets a slot says; 0 where there is no such slot.
-fn slot(held: [usize; 8], i: usize) -> u64
-    ensures { λ r. ⌜ r ≡ getD held i 0 ⌝ }
+// How many octets lane i holds; 0 where there is no such lane.
+fn held_by(slots: [Slot; 8], i: usize) -> u64
+    ensures { λ r. ⌜ r ≡ (getD slots i noSlot) .held ⌝ }
 {
     if i < 8 {
-        return held[i] as u64;
+        let x = slots[i];
+        return x.held as u64;
     }
     0
 }
 
 // How many octets the first n lanes hold together.
-fn held_in(held: [usize; 8], n: usize) -> u64
-    ensures { λ r. ⌜ r ≡ heldIn held n ⌝ }
+fn held_in(slots: [Slot; 8], n: usize) -> u64
+    ensures { λ r. ⌜ r ≡ heldIn slots n ⌝ }
 {
     let mut sum: u64 = 0;
     let mut i: usize = 0;
     while i < n {
-        let x = slot(held, i);
+        let x = held_by(slots, i);
         sum = add(sum, x);
         i += 1;
     }
@@ -446,8 +448,8 @@ pub fn put_totals(area: &mut [u8], from: usize, r: Reader, t: Tally) -> usize
     let s = r.setting;
     let ls = t.lanes;
     let cs = t.channels;
-    let h = r.held;
-    let held = held_in(h, s.numbered);
+    let slots = r.slots;
+    let held = held_in(slots, s.numbered);
     let at = put_lanes(area, from, s.numbered, ls);
     let at = put_channels(area, at, s, cs);
     put_total(area, at, t, held)

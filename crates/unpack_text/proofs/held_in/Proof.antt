@@ -9,16 +9,16 @@ use Rattle.unpack_text.proofs.held_in.Statement.{statement}
 use Rattle.unpack_text.proofs.held_in.Tie as tie
 
 abbrev Inv-loop : tie.InvT-loop
-Inv-loop held n sum₀ i₀ sum i = (i ≤ n) × (sum ≡ heldIn held i)
+Inv-loop slots n sum₀ i₀ sum i = (i ≤ n) × (sum ≡ heldIn slots i)
 
 abbrev μ-loop : tie.MeasureT-loop
-μ-loop held n sum₀ i₀ sum i = n - i
+μ-loop slots n sum₀ i₀ sum i = n - i
 
 loop-holds : tie.Need-loop-holds Inv-loop μ-loop
 loop-holds c = (search needs, sym (held-none _))
 
-slot-requires : tie.Need-slot-requires Inv-loop μ-loop
-slot-requires c κs = search needs
+held-by-requires : tie.Need-held-by-requires Inv-loop μ-loop
+held-by-requires c κs = search needs
 
 add-requires : tie.Need-add-requires Inv-loop μ-loop
 add-requires c κs = search needs
@@ -32,7 +32,7 @@ loop-less c = search needs
 loop-again : tie.Need-loop-again Inv-loop μ-loop
 loop-again c =
     let l = c .before .before .before in
-    (search needs, c .add .ensures ∙ ap₂ add (l .loop .inv .1) (c .before .slot .ensures) ∙ sym (held-next _ (l .loop .i)))
+    (search needs, c .add .ensures ∙ ap₂ add (l .loop .inv .1) (c .before .held-by .ensures) ∙ sym (held-next _ (l .loop .i)))
 
 returns : tie.Need-returns Inv-loop μ-loop
 returns c =
@@ -47,7 +47,7 @@ held-in-spec =
     Inv-loop
     μ-loop
     loop-holds
-    slot-requires
+    held-by-requires
     add-requires
     add-i
     loop-less
