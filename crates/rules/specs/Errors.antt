@@ -14,7 +14,7 @@ use Rattle.rules.specs.declared.Place.the-variants.{At, Nowhere}
 use Rattle.rules.specs.Tests.{given}
 use Rattle.rules.specs.Octets.{checkOf}
 use Rattle.rules.specs.Settings.{noChannel, noLane, noReader, noWriter, freshReader}
-use Rattle.rules.specs.Reading.{Made, laneStep}
+use Rattle.rules.specs.Reading.{octetsOf, Made, laneStep}
 use Rattle.rules.specs.Refusals.{refusals}
 use Rattle.rules.specs.Calls.{refusalOf, classRefusal, Sent, write, Got, read}
 use Rattle.rules.specs.Worked.{worked, packetLane, Case, case, each, numbers, packet₀, packet₁, frame₀, frame₁, recounted, packetOf, reads}
@@ -92,7 +92,7 @@ answer o = classShown (o .taken .answer .class) ∷ numbers o
 
 -- The units that a lane hands out, what it then holds, and the idle, fill and dropped octets.
 unfoldable pub shown : Made → List (List ℕ)
-shown m = m .units ++ (m .held ∷ (m .idle ∷ m .fill ∷ m .dropped ∷ []) ∷ [])
+shown m = octetsOf (m .units) ++ (m .held ∷ (m .idle ∷ m .fill ∷ m .dropped ∷ []) ∷ [])
 
 -- A packet lane and an access lane whose longest units have 64 and 42 octets: what is held, what the pointer points to, the zone.
 abbrev pub ofPackets : List ℕ → Place → List ℕ → List (List ℕ)
