@@ -5,7 +5,7 @@ use Prim.Native.Nat.{ℕ, _+_, _*_, _≤_}
 use lib.ListN.{length}
 use Rattle.rules.specs.declared.Info.{Info}
 use Rattle.rules.specs.Areas.{laid, joined, recordSize, unitsSize}
-use Rattle.rules.specs.Reading.{Made, both, recordsFrom}
+use Rattle.rules.specs.Reading.{octetsOf, Made, both, recordsFrom}
 use Rattle.handing.specs.declared.Tally.{Tally}
 use Rattle.handing.specs.declared.Led.{Led}
 
@@ -13,7 +13,7 @@ use Rattle.handing.specs.declared.Led.{Led}
 
 -- The unit and record areas have room for what is still to be made, and no count grows too large.
 pub record Room (t : Tally) (u r : List ℕ) (m : Made) : Type 0 where
-  pub octets : t .octets + length (joined (m .units)) ≤ length u
+  pub octets : t .octets + length (joined (octetsOf (m .units))) ≤ length u
   pub records : recordSize * (t .count + length (m .units)) ≤ length r
   pub idle : t .idle + m .idle ≤ unitsSize
   pub fill : t .fill + m .fill ≤ unitsSize
@@ -21,10 +21,10 @@ pub record Room (t : Tally) (u r : List ℕ) (m : Made) : Type 0 where
 
 -- What was made is handed out: its units follow those of the tally, so do their records, and all is counted.
 pub record Handed (i : Info) (t : Tally) (u r : List ℕ) (m : Made) (t′ : Tally) (u′ r′ : List ℕ) : Type 0 where
-  pub unitArea : u′ ≡ laid u (t .octets) (joined (m .units))
+  pub unitArea : u′ ≡ laid u (t .octets) (joined (octetsOf (m .units)))
   pub recordArea : r′ ≡ laid r (recordSize * t .count) (recordsFrom i (t .octets) (m .units))
   pub count : t′ .count ≡ t .count + length (m .units)
-  pub octets : t′ .octets ≡ t .octets + length (joined (m .units))
+  pub octets : t′ .octets ≡ t .octets + length (joined (octetsOf (m .units)))
   pub idle : t′ .idle ≡ t .idle + m .idle
   pub fill : t′ .fill ≡ t .fill + m .fill
   pub dropped : t′ .dropped ≡ t .dropped + m .dropped

@@ -1,11 +1,10 @@
 // Units handed out into lent areas, and what becomes of held octets with those that follow them. Everything appends: a tally goes in
 // and comes out.
 ghost use mathlib.Core.Path.{_≡_};
-ghost use mathlib.Core.List.{_++_};
 ghost use Prim.Native.Nat.{_+_, _≤_};
 ghost use lib.ListN.{length, take};
 ghost use Rattle.rules.specs.Areas.{laid, recordSize};
-ghost use Rattle.rules.specs.Reading.{nothing, hands, become, recordOf};
+ghost use Rattle.rules.specs.Reading.{unitFrom, nothing, hands, become, recordOf};
 ghost use Rattle.handing.specs.Hands.{Room, Handed, Ready, Went};
 use rules::Fate;
 use rules::Info;
@@ -46,8 +45,8 @@ pub fn hand_out(
     units: &mut [u8],
     records: &mut [u8],
 ) -> Tally
-    requires { ⌜ Room t (now units) (now records) (hands (now first ++ now second) nothing) ⌝ }
-    ensures { λ r. ⌜ Handed info t (now (units .entry)) (now (records .entry)) (hands (now (first .entry) ++ now (second .entry)) nothing) r (now (units .exit)) (now (records .exit)) ⌝ }
+    requires { ⌜ Room t (now units) (now records) (hands (unitFrom (now first) (now second)) nothing) ⌝ }
+    ensures { λ r. ⌜ Handed info t (now (units .entry)) (now (records .entry)) (hands (unitFrom (now (first .entry)) (now (second .entry))) nothing) r (now (units .exit)) (now (records .exit)) ⌝ }
 {
     let start = t.octets;
     let middle = start + first.len();
@@ -81,8 +80,8 @@ pub fn settle(
     units: &mut [u8],
     records: &mut [u8],
 ) -> Led
-    requires { ⌜ Ready t (now units) (now records) (now part) h (now next) (become fate (take h (now part) ++ now next)) ⌝ }
-    ensures { λ r. ⌜ Went info t (now (units .entry)) (now (records .entry)) (now (part .entry)) (become fate (take h (now (part .entry)) ++ now (next .entry))) r (now (units .exit)) (now (records .exit)) (now (part .exit)) ⌝ }
+    requires { ⌜ Ready t (now units) (now records) (now part) h (now next) (become fate (unitFrom (take h (now part)) (now next))) ⌝ }
+    ensures { λ r. ⌜ Went info t (now (units .entry)) (now (records .entry)) (now (part .entry)) (become fate (unitFrom (take h (now (part .entry))) (now (next .entry)))) r (now (units .exit)) (now (records .exit)) (now (part .exit)) ⌝ }
 {
     let n = h + next.len();
     let mut s = t;
