@@ -14,7 +14,7 @@ use Rattle.rules.specs.declared.Fate.{Fate}
 use Rattle.rules.specs.declared.Info.{Info}
 use Rattle.rules.specs.Areas.{laid}
 use Rattle.rules.specs.Packets.{measure}
-use Rattle.rules.specs.Reading.{Made, drops, both, become, leadFate, lead, unitFate, followFate, portion, laneStep}
+use Rattle.rules.specs.Reading.{unitFrom, Made, drops, both, become, leadFate, lead, unitFate, followFate, portion, laneStep}
 use Rattle.rules.proofs.Areas.{laid-nil}
 use Rattle.rules.proofs.Lanes.{lead-cases, total, lane-total, lane-below, lane-few}
 use Rattle.handing.specs.declared.Tally.{Tally}
@@ -48,17 +48,17 @@ module _ {t : Tally} {u r d : List ℕ} {h : ℕ} {z : List ℕ} (a b : Made) (r
 
 module _ {t : Tally} {u r d : List ℕ} {h : ℕ} {x : List ℕ} {m : Made} (ready : Ready t u r d h x m) (longest : ℕ) {fate : Fate} where
   pub lead-is : (on : Bool) {k : Measure} → k ≡ measure (take h d ++ x) → fate ≡ leadFate longest on k h (length x)
-      → lead longest on (take h d) x ≡ become fate (take h d ++ x)
+      → lead longest on (take h d) x ≡ become fate (unitFrom (take h d) x)
   unfolding lead
   lead-is on e f = rw (f, e, held-length ready)
 
   pub begin-is : (finished : Bool) {begins : Bool} → begins ≡ true → fate ≡ unitFate longest finished (length x)
-      → portion longest finished begins (take h d) x ≡ both (drops h) (become fate x)
+      → portion longest finished begins (take h d) x ≡ both (drops h) (become fate (unitFrom [] x))
   unfolding portion
   begin-is finished e f = rw (e, held-length ready, f)
 
   pub follow-is : (finished : Bool) {begins : Bool} → begins ≡ false → fate ≡ followFate longest finished h (length x)
-      → portion longest finished begins (take h d) x ≡ become fate (take h d ++ x)
+      → portion longest finished begins (take h d) x ≡ become fate (unitFrom (take h d) x)
   unfolding portion
   follow-is finished e f = rw (e, held-length ready, f)
 
@@ -66,7 +66,7 @@ module _ {t : Tally} {u r d : List ℕ} {h : ℕ} {x : List ℕ} {m : Made} (rea
 pub lead-none : (longest : ℕ) (held xs : List ℕ) → (lead longest false held xs) .held ≡ []
 unfolding lead
 lead-none longest held xs =
-    lead-cases (λ (f : Fate). (become f (held ++ xs)) .held ≡ []) longest false held xs (λ h. refl) refl (λ e h. absurd (false≢true e)) refl
+    lead-cases (λ (f : Fate). (become f (unitFrom held xs)) .held ≡ []) longest false held xs (λ h. refl) refl (λ e h. absurd (false≢true e)) refl
 
 -- ---- the whole
 

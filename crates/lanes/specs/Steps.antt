@@ -7,7 +7,7 @@ use Rattle.rules.specs.declared.Kind.{Kind}
 use Rattle.rules.specs.declared.Place.{Place}
 use Rattle.rules.specs.declared.Info.{Info}
 use Rattle.rules.specs.Areas.{laid, joined, partSize, recordsSize, unitsSize}
-use Rattle.rules.specs.Reading.{Made, recordsFrom}
+use Rattle.rules.specs.Reading.{octetsOf, Made, recordsFrom}
 use Rattle.rules.specs.Valid.{least, Inside}
 use Rattle.handing.specs.declared.Led.{Led}
 
@@ -25,11 +25,11 @@ pub record Lent (k : Kind) (longest h : ℕ) (p : Place) (z d u r : List ℕ) : 
 -- What was made is laid out as a read's areas have it, and counted.
 pub record Stepped (i : Info) (m : Made) (d u r : List ℕ) (l : Led) (d′ u′ r′ : List ℕ) : Type 0 where
   pub part : d′ ≡ laid d 0 (m .held)
-  pub units : u′ ≡ laid u 0 (joined (m .units))
+  pub units : u′ ≡ laid u 0 (joined (octetsOf (m .units)))
   pub records : r′ ≡ laid r 0 (recordsFrom i 0 (m .units))
   pub held : l .held ≡ length (m .held)
   pub count : l .tally .count ≡ length (m .units)
-  pub octets : l .tally .octets ≡ length (joined (m .units))
+  pub octets : l .tally .octets ≡ length (joined (octetsOf (m .units)))
   pub idle : l .tally .idle ≡ m .idle
   pub fill : l .tally .fill ≡ m .fill
   pub dropped : l .tally .dropped ≡ m .dropped
