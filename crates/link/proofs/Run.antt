@@ -200,7 +200,8 @@ module _ (s : Setting) where
       (if-gone : (st : State) (x : Call) (rest : List Frame) → Ready st → Goes st x → kept (x .passage) ≡ false → Knows st (frame st x ∷ rest)
       → (dueIn s l (frame st x) (st .past) ≡ []) × Knows (afterGone st x) rest)
       (if-kept : (st : State) (x : Call) (rest : List Frame) → Ready st → Goes st x → length ((madeOf st x) .held) ≤ 8192 → kept (x .passage) ≡ true
-      → Knows st (frame st x ∷ rest) → (cond (x .lane =? l) (octetsOf ((madeOf st x) .units)) [] ≡ dueIn s l (frame st x) (st .past)) × Knows (afterKept st x) rest)
+      → Knows st (frame st x ∷ rest)
+      → (cond (x .lane =? l) (octetsOf ((madeOf st x) .units)) [] ≡ dueIn s l (frame st x) (st .past)) × Knows (afterKept st x) rest)
     where
       abbrev Says : State → List Frame → Type 0
       Says st fs = handedOut l (reads (hearer st) (st .area) (arrivals fs)) ≡ due s l (st .past) fs

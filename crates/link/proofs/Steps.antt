@@ -200,7 +200,8 @@ module _ (s : Setting) (g : Good s) (st : State) (x : Call) (r : Ready s st) (c 
 
 module _ (s : Setting) (g : Good s) (l : ℕ) where
   -- Another lane's frame hands out nothing on lane l, and nothing is due.
-  pub none-other : (st : State) (x : Call) → (x .lane ≡ l → ⊥) → cond (x .lane =? l) (octetsOf ((madeOf s st x) .units)) [] ≡ dueIn s l (frame s st x) (st .past)
+  pub none-other : (st : State) (x : Call) → (x .lane ≡ l → ⊥)
+      → cond (x .lane =? l) (octetsOf ((madeOf s st x) .units)) [] ≡ dueIn s l (frame s st x) (st .past)
   unfolding frameBy
   none-other st x n = ap (λ (t : Bool). cond t (octetsOf ((madeOf s st x) .units)) []) (ne-eqb (x .lane) l n) ∙ sym (due-not s l (frame s st x) (st .past) n)
 
