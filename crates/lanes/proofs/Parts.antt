@@ -17,11 +17,11 @@ use Rattle.rules.specs.Packets.{measure}
 use Rattle.rules.specs.Reading.{unitFrom, Made, drops, both, become, leadFate, lead, unitFate, followFate, portion, laneStep}
 use Rattle.rules.proofs.Areas.{laid-nil}
 use Rattle.rules.proofs.Lanes.{lead-cases, total, lane-total, lane-below, lane-few}
-use Rattle.handing.specs.declared.Tally.{Tally}
-use Rattle.handing.specs.declared.Led.{Led}
-use Rattle.handing.specs.Hands.{Handed, Ready, Went}
+use Rattle.units.specs.declared.Tally.{Tally}
+use Rattle.units.specs.declared.Led.{Led}
+use Rattle.units.specs.Hands.{Handed, Ready, Went}
 use Rattle.lanes.specs.Steps.{Lent, Stepped}
-use Rattle.handing.proofs.Laws.{room-first, room-second, went-after, held-length}
+use Rattle.units.proofs.Laws.{room-first, room-second, went-after, held-length}
 
 -- ---- two parts
 

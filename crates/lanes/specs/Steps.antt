@@ -9,7 +9,7 @@ use Rattle.rules.specs.declared.Info.{Info}
 use Rattle.rules.specs.Areas.{laid, joined, partSize, recordsSize, unitsSize}
 use Rattle.rules.specs.Reading.{octetsOf, Made, recordsFrom}
 use Rattle.rules.specs.Valid.{least, Inside}
-use Rattle.handing.specs.declared.Led.{Led}
+use Rattle.units.specs.declared.Led.{Led}
 
 -- What it is lent: areas of the paper's sizes, and a zone and held octets as a valid state and a frame that is Read have them.
 pub record Lent (k : Kind) (longest h : ℕ) (p : Place) (z d u r : List ℕ) : Type 0 where

@@ -6,15 +6,15 @@ ghost use lib.ListN.{length, getD, take};
 ghost use Rattle.rules.specs.Packets.{measure};
 ghost use Rattle.rules.specs.Reading.{lead, packetLane, portion, accessLane, laneStep};
 ghost use Rattle.rules.specs.Valid.{Inside};
-ghost use Rattle.handing.specs.Hands.{Ready, Went};
+ghost use Rattle.units.specs.Hands.{Ready, Went};
 ghost use Rattle.lanes.specs.Steps.{Lent, Stepped};
 ghost use Rattle.rules.specs.Areas.{unitsSize};
-use handing::Led;
-use handing::Tally;
 use rules::Info;
 use rules::Kind;
 use rules::Measure;
 use rules::Place;
+use units::Led;
+use units::Tally;
 
 // Octet i of two parts that follow each other, or 0 past their end.
 fn octet_of(first: &[u8], second: &[u8], i: usize) -> u8
@@ -59,7 +59,7 @@ fn lead_step(
 {
     let m = measure_of(&part[..h], next);
     let fate = fates::lead_fate(longest, on, m, h, next.len());
-    handing::settle(fate, part, h, next, info, t, units, records)
+    units::settle(fate, part, h, next, info, t, units, records)
 }
 
 // A packet lane's step: the lead, and the packets from the pointer on.
@@ -109,10 +109,10 @@ fn portion_step(
         let mut s = t;
         s.dropped = s.dropped + h;
         let fate = fates::unit_fate(longest, finished, next.len());
-        return handing::settle(fate, part, 0, next, info, s, units, records);
+        return units::settle(fate, part, 0, next, info, s, units, records);
     }
     let fate = fates::follow_fate(longest, finished, h, next.len());
-    handing::settle(fate, part, h, next, info, t, units, records)
+    units::settle(fate, part, h, next, info, t, units, records)
 }
 
 // An access lane's step: the unit's octets, and the fill after its last.

@@ -12,9 +12,9 @@ use Rattle.rules.specs.declared.Info.{Info}
 use Rattle.rules.specs.Packets.{measure}
 use Rattle.rules.specs.Reading.{unitFrom, Made, nothing, holds, drops, hands, idles, both, nextOf, front, walkUpTo, walk}
 use Rattle.rules.proofs.Lanes.{next-cases, walk-front}
-use Rattle.handing.specs.declared.Tally.{Tally}
-use Rattle.handing.specs.Hands.{Room, Handed, Begun}
-use Rattle.handing.proofs.Laws.{hands-both, idles-both, room-first, begun-none, begun-is, begun-on, begun-room}
+use Rattle.units.specs.declared.Tally.{Tally}
+use Rattle.units.specs.Hands.{Room, Handed, Begun}
+use Rattle.units.proofs.Laws.{hands-both, idles-both, room-first, begun-none, begun-is, begun-on, begun-room}
 
 -- The rest of a zone, as it is lent.
 pub rest-lent : (z : List ℕ) (at : ℕ) → take (length z - at) (drop at z) ≡ drop at z

@@ -4,12 +4,12 @@ ghost use Prim.Native.Nat.{_≤_};
 ghost use lib.ListN.{length, drop};
 ghost use Rattle.rules.specs.Packets.{measure};
 ghost use Rattle.rules.specs.Reading.{nextOf, walk};
-ghost use Rattle.handing.specs.Hands.{Room, Went};
+ghost use Rattle.units.specs.Hands.{Room, Went};
 ghost use Rattle.walks.specs.Ends.{Left};
-use handing::Led;
-use handing::Tally;
 use rules::Info;
 use rules::Next;
+use units::Led;
+use units::Tally;
 
 // Where a walk over a zone ends: with the zone, at a packet that the zone's end cuts, or at one that drops the rest with itself.
 pub enum Walk {
@@ -33,7 +33,7 @@ fn next_at(longest: usize, octets: &[u8]) -> Next
 }
 
 // From octet `from` on, reads one packet after another.
-fn read_on(
+fn walk_on(
     longest: usize,
     zone: &[u8],
     from: usize,
@@ -55,7 +55,7 @@ fn read_on(
         match next {
             Next::Give(n) => {
                 let e = at + n;
-                t = handing::hand_out(&zone[..0], &zone[at..e], info, t, units, records);
+                t = units::hand_out(&zone[..0], &zone[at..e], info, t, units, records);
                 at = e;
             }
             Next::Skip(n) => {
@@ -88,7 +88,7 @@ pub fn walk_step(
     ensures { λ r. ⌜ Went info t (now (units .entry)) (now (records .entry)) (now (part .entry)) (walk longest (drop from (now (zone .entry)))) r (now (units .exit)) (now (records .exit)) (now (part .exit)) ⌝ }
 {
     let n = zone.len();
-    let w = read_on(longest, zone, from, info, t, units, records);
+    let w = walk_on(longest, zone, from, info, t, units, records);
     let end = w.end;
     let mut s = w.tally;
     match end {

@@ -6,7 +6,7 @@ use lib.ListN.{length, take}
 use lib.Seq.{length-take-le}
 use borrow.Author.Needs.{needs}
 use Rattle.rules.specs.Reading.{accessLane}
-use Rattle.handing.proofs.Laws.{only-counted, went-after}
+use Rattle.units.proofs.Laws.{only-counted, went-after}
 use Rattle.lanes.proofs.Parts.{ready-second}
 use Rattle.lanes.proofs.access_step.Statement.{statement}
 use Rattle.lanes.proofs.access_step.Tie as tie

@@ -2,7 +2,7 @@
 use mathlib.Core.Path.{sym}
 use native.Mathlib.Omega.{arith}
 use borrow.Author.Needs.{needs}
-use Rattle.handing.proofs.Laws.{held-length}
+use Rattle.units.proofs.Laws.{held-length}
 use Rattle.lanes.proofs.Parts.{lead-is}
 use Rattle.lanes.proofs.lead_step.Statement.{statement}
 use Rattle.lanes.proofs.lead_step.Tie as tie

@@ -6,7 +6,7 @@ use lib.ListN.{length, take}
 use lib.Seq.{length-take-le}
 use borrow.Author.Needs.{needs}
 use Rattle.rules.specs.Reading.{packetLane}
-use Rattle.handing.proofs.Laws.{room-second}
+use Rattle.units.proofs.Laws.{room-second}
 use Rattle.lanes.proofs.Parts.{ready-first, went-both, lead-none}
 use Rattle.lanes.proofs.packet_step.Statement.{statement}
 use Rattle.lanes.proofs.packet_step.Tie as tie

@@ -2,7 +2,7 @@
 use mathlib.Core.Path.{refl}
 use native.Mathlib.Omega.{arith}
 use borrow.Author.Needs.{needs}
-use Rattle.handing.proofs.Laws.{only-counted, went-after}
+use Rattle.units.proofs.Laws.{only-counted, went-after}
 use Rattle.lanes.proofs.Parts.{ready-second, begin-is, follow-is}
 use Rattle.lanes.proofs.portion_step.Statement.{statement}
 use Rattle.lanes.proofs.portion_step.Tie as tie

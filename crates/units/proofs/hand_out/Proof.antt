@@ -8,9 +8,9 @@ use borrow.Author.Needs.{needs}
 use Rattle.rules.specs.Areas.{laid, recordSize}
 use Rattle.rules.specs.Reading.{recordOf}
 use Rattle.rules.proofs.Areas.{laid-laid}
-use Rattle.handing.proofs.Laws.{two-fit, one-handed}
-use Rattle.handing.proofs.hand_out.Statement.{statement}
-use Rattle.handing.proofs.hand_out.Tie as tie
+use Rattle.units.proofs.Laws.{two-fit, one-handed}
+use Rattle.units.proofs.hand_out.Statement.{statement}
+use Rattle.units.proofs.hand_out.Tie as tie
 
 add-middle : tie.Need-add-middle
 add-middle c = search needs

@@ -7,9 +7,9 @@ use native.Mathlib.Omega.{arith}
 use lib.ListN.{length}
 use borrow.Author.Needs.{needs}
 use Rattle.walks.proofs.Walks.{Walking, starts, finished, given, skipped, kept, lost, turn-room, turn-on}
-use Rattle.handing.proofs.Laws.{begun-units, begun-records, only-counted}
-use Rattle.walks.proofs.read_on.Statement.{statement}
-use Rattle.walks.proofs.read_on.Tie as tie
+use Rattle.units.proofs.Laws.{begun-units, begun-records, only-counted}
+use Rattle.walks.proofs.walk_on.Statement.{statement}
+use Rattle.walks.proofs.walk_on.Tie as tie
 
 abbrev Inv-loop : tie.InvT-loop
 Inv-loop longest zone from info units₀ records₀ at₀ t₀ units records at t = Walking longest zone from info t₀ units₀ records₀ at t units records
@@ -149,8 +149,8 @@ returns-3 c = record {
       (c .before .before .before .before .before .loop .inv) (c .before .before .next-at .ensures) (c .enum-told2 .given .1);
 }
 
-pub read-on-spec : {M : Type 1} → statement M
-read-on-spec =
+pub walk-on-spec : {M : Type 1} → statement M
+walk-on-spec =
     tie.close
     (tie.spec
     Inv-loop

@@ -5,7 +5,7 @@ ghost use Prim.Native.Nat.{_+_, _≤_};
 ghost use lib.ListN.{length, take};
 ghost use Rattle.rules.specs.Areas.{laid, recordSize};
 ghost use Rattle.rules.specs.Reading.{unitFrom, nothing, hands, become, recordOf};
-ghost use Rattle.handing.specs.Hands.{Room, Handed, Ready, Went};
+ghost use Rattle.units.specs.Hands.{Room, Handed, Ready, Went};
 use rules::Fate;
 use rules::Info;
 

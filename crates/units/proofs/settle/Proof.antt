@@ -3,9 +3,9 @@
 use mathlib.Core.Path.{refl, sym, _∙_}
 use native.Mathlib.Omega.{arith}
 use borrow.Author.Needs.{needs}
-use Rattle.handing.proofs.Laws.{held-length, only-counted, part-stays, follow-length, follow-laid}
-use Rattle.handing.proofs.settle.Statement.{statement}
-use Rattle.handing.proofs.settle.Tie as tie
+use Rattle.units.proofs.Laws.{held-length, only-counted, part-stays, follow-length, follow-laid}
+use Rattle.units.proofs.settle.Statement.{statement}
+use Rattle.units.proofs.settle.Tie as tie
 
 add-n : tie.Need-add-n
 add-n c = search needs

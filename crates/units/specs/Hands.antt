@@ -6,8 +6,8 @@ use lib.ListN.{length}
 use Rattle.rules.specs.declared.Info.{Info}
 use Rattle.rules.specs.Areas.{laid, joined, recordSize, unitsSize}
 use Rattle.rules.specs.Reading.{octetsOf, Made, both, recordsFrom}
-use Rattle.handing.specs.declared.Tally.{Tally}
-use Rattle.handing.specs.declared.Led.{Led}
+use Rattle.units.specs.declared.Tally.{Tally}
+use Rattle.units.specs.declared.Led.{Led}
 
 -- ---- handing out, from a tally on
 

@@ -13,9 +13,9 @@ use Rattle.rules.specs.Reading.{DataUnit, unitFrom, octetsOf, Made, nothing, ha
 use Rattle.rules.proofs.Octets.{length-be}
 use Rattle.rules.proofs.Areas.{laid-nil, laid-laid, length-laid}
 use Rattle.rules.proofs.Lanes.{octets-append, octets-both}
-use Rattle.handing.specs.declared.Tally.{Tally}
-use Rattle.handing.specs.declared.Led.{Led}
-use Rattle.handing.specs.Hands.{Room, Handed, Begun, Ready, Went}
+use Rattle.units.specs.declared.Tally.{Tally}
+use Rattle.units.specs.declared.Led.{Led}
+use Rattle.units.specs.Hands.{Room, Handed, Begun, Ready, Went}
 
 -- ---- records
 
