@@ -14,7 +14,7 @@ use Rattle.rules.proofs.Octets.{length-be}
 use Rattle.rules.proofs.Areas.{laid-nil, laid-laid, length-laid}
 use Rattle.rules.proofs.Lanes.{octets-append, octets-both}
 use Rattle.units.specs.declared.Tally.{Tally}
-use Rattle.units.specs.declared.Led.{Led}
+use Rattle.units.specs.declared.Stand.{Stand}
 use Rattle.units.specs.Hands.{Room, Handed, Begun, Ready, Went}
 
 -- ---- records
@@ -148,7 +148,7 @@ module _ {t : Tally} {u r : List ℕ} (a b : Made) (room : Room t u r (both a b)
           dropped = omega arith;
         }
 
-    pub went-after : {d : List ℕ} {l : Led} {u₂ r₂ d₂ : List ℕ} → Went i t₁ u₁ r₁ d b l u₂ r₂ d₂ → Went i t u r d (both a b) l u₂ r₂ d₂
+    pub went-after : {d : List ℕ} {s : Stand} {u₂ r₂ d₂ : List ℕ} → Went i t₁ u₁ r₁ d b s u₂ r₂ d₂ → Went i t u r d (both a b) s u₂ r₂ d₂
     unfolding both
     went-after second = record { handed = handed-both (second .handed); part = second .part; held = second .held }
 
@@ -199,7 +199,7 @@ module _ {i : Info} {t : Tally} {u r : List ℕ} {whole rest : Made} {t₁ : Tal
       }
 
   -- All of the rest is handed out, or held.
-  pub begun-went : {d : List ℕ} {l : Led} {u₂ r₂ d₂ : List ℕ} → Went i t₁ u₁ r₁ d rest l u₂ r₂ d₂ → Went i t u r d whole l u₂ r₂ d₂
+  pub begun-went : {d : List ℕ} {s : Stand} {u₂ r₂ d₂ : List ℕ} → Went i t₁ u₁ r₁ d rest s u₂ r₂ d₂ → Went i t u r d whole s u₂ r₂ d₂
   begun-went last = rw (begun .split) (went-after (begun .sofar) rest all-room (begun .handed) last)
 
 -- The rest, said otherwise.
@@ -257,13 +257,13 @@ part-stays {d = d} e h = record { handed = h; part = sym (ap (laid d 0) e ∙ la
 
 -- ---- held octets and those that follow them
 
-module _ {t : Tally} {u r d : List ℕ} {h : ℕ} {x : List ℕ} {m : Made} (ready : Ready t u r d h x m) where
-  pub held-length : length (take h d) ≡ h
-  held-length = length-take-le h d (ready .inside)
+module _ {s : Stand} {u r d x : List ℕ} {m : Made} (ready : Ready s u r d x m) where
+  pub held-length : length (take (s .held) d) ≡ s .held
+  held-length = length-take-le (s .held) d (ready .inside)
 
-  pub follow-length : length (take h d ++ x) ≡ h + length x
-  follow-length = length-append (take h d) x ∙ ap (λ (n : ℕ). n + length x) held-length
+  pub follow-length : length (take (s .held) d ++ x) ≡ s .held + length x
+  follow-length = length-append (take (s .held) d) x ∙ ap (λ (n : ℕ). n + length x) held-length
 
-  pub follow-laid : laid d h x ≡ laid d 0 (take h d ++ x)
+  pub follow-laid : laid d (s .held) x ≡ laid d 0 (take (s .held) d ++ x)
   unfolding laid
-  follow-laid = ap (λ (n : ℕ). take h d ++ x ++ drop n d) (sym (zero-add _ ∙ follow-length))
+  follow-laid = ap (λ (n : ℕ). take (s .held) d ++ x ++ drop n d) (sym (zero-add _ ∙ follow-length))

@@ -7,7 +7,7 @@ use Rattle.rules.specs.declared.Info.{Info}
 use Rattle.rules.specs.Areas.{laid, joined, recordSize, unitsSize}
 use Rattle.rules.specs.Reading.{octetsOf, Made, both, recordsFrom}
 use Rattle.units.specs.declared.Tally.{Tally}
-use Rattle.units.specs.declared.Led.{Led}
+use Rattle.units.specs.declared.Stand.{Stand}
 
 -- ---- handing out, from a tally on
 
@@ -37,15 +37,15 @@ pub record Begun (i : Info) (t : Tally) (u r : List ℕ) (whole rest : Made) (t�
 
 -- ---- a part of a lane's step, from a tally on
 
--- The lane holds h of the octets in its part, there is room for what is to be made of them and of z, and they are few enough to count.
-pub record Ready (t : Tally) (u r d : List ℕ) (h : ℕ) (z : List ℕ) (m : Made) : Type 0 where
-  pub room : Room t u r m
+-- What the lane holds is in its part, there is room for what is to be made of it and of z, and both are few enough to count.
+pub record Ready (s : Stand) (u r d z : List ℕ) (m : Made) : Type 0 where
+  pub room : Room (s .tally) u r m
   pub held : length (m .held) ≤ length d
-  pub inside : h ≤ length d
+  pub inside : s .held ≤ length d
   pub few : length d + length z ≤ unitsSize
 
 -- What was made is handed out, and what is held now stands at the front of the lane's part.
-pub record Went (i : Info) (t : Tally) (u r d : List ℕ) (m : Made) (l : Led) (u′ r′ d′ : List ℕ) : Type 0 where
-  pub handed : Handed i t u r m (l .tally) u′ r′
+pub record Went (i : Info) (t : Tally) (u r d : List ℕ) (m : Made) (s : Stand) (u′ r′ d′ : List ℕ) : Type 0 where
+  pub handed : Handed i t u r m (s .tally) u′ r′
   pub part : d′ ≡ laid d 0 (m .held)
-  pub held : l .held ≡ length (m .held)
+  pub held : s .held ≡ length (m .held)

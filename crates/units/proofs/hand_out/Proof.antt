@@ -38,7 +38,10 @@ lay-record-requires : tie.Need-lay-record-requires
 lay-record-requires c κs = search needs
 
 add-t10 : tie.Need-add-t10
-add-t10 c = search needs
+add-t10 c =
+    let c₈ = c .before .before .before .before .before .before .before .before in
+    let c₁₆ = c₈ .before .before .before .before .before .before .before .before in
+    let g = c₁₆ .before .before .good .1 .1 .1 .1 .1 in search needs
 
 same-length : tie.Need-same-length
 same-length c = search needs
