@@ -161,7 +161,7 @@ become-total Hold u = omega arith
 become-total Drop u = omega arith
 
 -- Only a lead that may go on is held.
-lead-held : (longest : ℕ) (held xs : List ℕ) → (lead longest false held xs) .held ≡ []
+pub lead-held : (longest : ℕ) (held xs : List ℕ) → (lead longest false held xs) .held ≡ []
 unfolding lead
 lead-held longest held xs =
     lead-cases (λ (f : Fate). (become f (unitFrom held xs)) .held ≡ []) longest false held xs (λ h. refl) refl (λ e h. absurd (false≢true e)) refl
