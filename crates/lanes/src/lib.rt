@@ -6,15 +6,15 @@ ghost use lib.ListN.{length, getD, take};
 ghost use Rattle.rules.specs.Packets.{measure};
 ghost use Rattle.rules.specs.Reading.{lead, packetLane, portion, accessLane, laneStep};
 ghost use Rattle.rules.specs.Valid.{Inside};
-ghost use Rattle.handing.specs.Hands.{Ready, Went};
+ghost use Rattle.units.specs.Hands.{Ready, Went};
 ghost use Rattle.lanes.specs.Steps.{Lent, Stepped};
 ghost use Rattle.rules.specs.Areas.{unitsSize};
-use handing::Led;
-use handing::Tally;
-use rules::Info;
 use rules::Kind;
 use rules::Measure;
 use rules::Place;
+use units::Stand;
+use units::Tally;
+use units::Terms;
 
 // Octet i of two parts that follow each other, or 0 past their end.
 fn octet_of(first: &[u8], second: &[u8], i: usize) -> u8
@@ -44,143 +44,128 @@ fn measure_of(first: &[u8], second: &[u8]) -> Measure
 
 // The lead after the held octets: the packet must end with it, or may go on.
 fn lead_step(
-    longest: usize,
+    terms: Terms,
+    s: Stand,
     on: bool,
     part: &mut [u8],
-    h: usize,
     next: &[u8],
-    info: Info,
-    t: Tally,
     units: &mut [u8],
     records: &mut [u8],
-) -> Led
-    requires { ⌜ Ready t (now units) (now records) (now part) h (now next) (lead longest on (take h (now part)) (now next)) ⌝ }
-    ensures { λ r. ⌜ Went info t (now (units .entry)) (now (records .entry)) (now (part .entry)) (lead longest on (take h (now (part .entry))) (now (next .entry))) r (now (units .exit)) (now (records .exit)) (now (part .exit)) ⌝ }
+) -> Stand
+    requires { ⌜ Ready s (now units) (now records) (now part) (now next) (lead (terms .longest) on (take (s .held) (now part)) (now next)) ⌝ }
+    ensures { λ r. ⌜ Went (terms .info) (s .tally) (now (units .entry)) (now (records .entry)) (now (part .entry)) (lead (terms .longest) on (take (s .held) (now (part .entry))) (now (next .entry))) r (now (units .exit)) (now (records .exit)) (now (part .exit)) ⌝ }
 {
+    let info = terms.info;
+    let h = s.held;
     let m = measure_of(&part[..h], next);
-    let fate = fates::lead_fate(longest, on, m, h, next.len());
-    handing::settle(fate, part, h, next, info, t, units, records)
+    let fate = fates::lead_fate(terms.longest, on, m, h, next.len());
+    units::settle(info, s, fate, part, next, units, records)
 }
 
 // A packet lane's step: the lead, and the packets from the pointer on.
 fn packet_step(
-    longest: usize,
+    terms: Terms,
+    s: Stand,
     place: Place,
     zone: &[u8],
     part: &mut [u8],
-    h: usize,
-    info: Info,
-    t: Tally,
     units: &mut [u8],
     records: &mut [u8],
-) -> Led
-    requires { ⌜ Inside (length (now zone)) place × (length (now zone) ≤ length (now part)) × Ready t (now units) (now records) (now part) h (now zone) (packetLane longest (take h (now part)) place (now zone)) ⌝ }
-    ensures { λ r. ⌜ Went info t (now (units .entry)) (now (records .entry)) (now (part .entry)) (packetLane longest (take h (now (part .entry))) place (now (zone .entry))) r (now (units .exit)) (now (records .exit)) (now (part .exit)) ⌝ }
+) -> Stand
+    requires { ⌜ Inside (length (now zone)) place × (length (now zone) ≤ length (now part)) × Ready s (now units) (now records) (now part) (now zone) (packetLane (terms .longest) (take (s .held) (now part)) place (now zone)) ⌝ }
+    ensures { λ r. ⌜ Went (terms .info) (s .tally) (now (units .entry)) (now (records .entry)) (now (part .entry)) (packetLane (terms .longest) (take (s .held) (now (part .entry))) place (now (zone .entry))) r (now (units .exit)) (now (records .exit)) (now (part .exit)) ⌝ }
 {
     match place {
         Place::At(p) => {
-            let led = lead_step(longest, false, part, h, &zone[..p], info, t, units, records);
-            let s = led.tally;
-            return walks::walk_step(longest, zone, p, part, info, s, units, records);
+            let led = lead_step(terms, s, false, part, &zone[..p], units, records);
+            let t = led.tally;
+            return walks::walk_step(terms, t, zone, p, part, units, records);
         }
         Place::Nowhere => {
-            return lead_step(longest, true, part, h, zone, info, t, units, records);
+            return lead_step(terms, s, true, part, zone, units, records);
         }
     }
 }
 
 // Octets of an access unit, which begin it or follow those held.
 fn portion_step(
-    longest: usize,
+    terms: Terms,
+    s: Stand,
     finished: bool,
     begins: bool,
     part: &mut [u8],
-    h: usize,
     next: &[u8],
-    info: Info,
-    t: Tally,
     units: &mut [u8],
     records: &mut [u8],
-) -> Led
-    requires { ⌜ Ready t (now units) (now records) (now part) h (now next) (portion longest finished begins (take h (now part)) (now next)) ⌝ }
-    ensures { λ r. ⌜ Went info t (now (units .entry)) (now (records .entry)) (now (part .entry)) (portion longest finished begins (take h (now (part .entry))) (now (next .entry))) r (now (units .exit)) (now (records .exit)) (now (part .exit)) ⌝ }
+) -> Stand
+    requires { ⌜ Ready s (now units) (now records) (now part) (now next) (portion (terms .longest) finished begins (take (s .held) (now part)) (now next)) ⌝ }
+    ensures { λ r. ⌜ Went (terms .info) (s .tally) (now (units .entry)) (now (records .entry)) (now (part .entry)) (portion (terms .longest) finished begins (take (s .held) (now (part .entry))) (now (next .entry))) r (now (units .exit)) (now (records .exit)) (now (part .exit)) ⌝ }
 {
+    let info = terms.info;
     if begins {
-        let mut s = t;
-        s.dropped = s.dropped + h;
-        let fate = fates::unit_fate(longest, finished, next.len());
-        return handing::settle(fate, part, 0, next, info, s, units, records);
+        let mut t = s.tally;
+        t.dropped = t.dropped + s.held;
+        let empty = Stand { tally: t, held: 0 };
+        let fate = fates::unit_fate(terms.longest, finished, next.len());
+        return units::settle(info, empty, fate, part, next, units, records);
     }
-    let fate = fates::follow_fate(longest, finished, h, next.len());
-    handing::settle(fate, part, h, next, info, t, units, records)
+    let fate = fates::follow_fate(terms.longest, finished, s.held, next.len());
+    units::settle(info, s, fate, part, next, units, records)
 }
 
 // An access lane's step: the unit's octets, and the fill after its last.
 fn access_step(
-    longest: usize,
-    begins: bool,
+    terms: Terms,
+    s: Stand,
     place: Place,
+    begins: bool,
     zone: &[u8],
     part: &mut [u8],
-    h: usize,
-    info: Info,
-    t: Tally,
     units: &mut [u8],
     records: &mut [u8],
-) -> Led
-    requires { ⌜ Inside (length (now zone)) place × Ready t (now units) (now records) (now part) h (now zone) (accessLane longest begins (take h (now part)) place (now zone)) ⌝ }
-    ensures { λ r. ⌜ Went info t (now (units .entry)) (now (records .entry)) (now (part .entry)) (accessLane longest begins (take h (now (part .entry))) place (now (zone .entry))) r (now (units .exit)) (now (records .exit)) (now (part .exit)) ⌝ }
+) -> Stand
+    requires { ⌜ Inside (length (now zone)) place × Ready s (now units) (now records) (now part) (now zone) (accessLane (terms .longest) begins (take (s .held) (now part)) place (now zone)) ⌝ }
+    ensures { λ r. ⌜ Went (terms .info) (s .tally) (now (units .entry)) (now (records .entry)) (now (part .entry)) (accessLane (terms .longest) begins (take (s .held) (now (part .entry))) place (now (zone .entry))) r (now (units .exit)) (now (records .exit)) (now (part .exit)) ⌝ }
 {
     match place {
         Place::At(p) => {
             let e = p + 1;
-            let mut s = t;
-            s.fill = s.fill + (zone.len() - e);
+            let mut t = s.tally;
+            t.fill = t.fill + (zone.len() - e);
+            let filled = Stand {
+                tally: t,
+                held: s.held,
+            };
             return portion_step(
-                longest,
+                terms,
+                filled,
                 true,
                 begins,
                 part,
-                h,
                 &zone[..e],
-                info,
-                s,
                 units,
                 records,
             );
         }
         Place::Nowhere => {
-            return portion_step(
-                longest,
-                false,
-                begins,
-                part,
-                h,
-                zone,
-                info,
-                t,
-                units,
-                records,
-            );
+            return portion_step(terms, s, false, begins, part, zone, units, records);
         }
     }
 }
 
 // A lane's step: its units and their records to the front of their areas, what it then holds to the front of its part of the held area.
 pub fn lane_step(
-    kind: Kind,
-    longest: usize,
+    terms: Terms,
+    h: usize,
     rule: u8,
     place: Place,
     zone: &[u8],
     part: &mut [u8],
-    h: usize,
-    info: Info,
     units: &mut [u8],
     records: &mut [u8],
-) -> Led
-    requires { ⌜ Lent kind longest h place (now zone) (now part) (now units) (now records) ⌝ }
-    ensures { λ r. ⌜ Stepped info (laneStep kind longest rule (take h (now (part .entry))) place (now (zone .entry))) (now (part .entry)) (now (units .entry)) (now (records .entry)) r (now (part .exit)) (now (units .exit)) (now (records .exit)) ⌝ }
+) -> Stand
+    requires { ⌜ Lent terms h place (now zone) (now part) (now units) (now records) ⌝ }
+    ensures { λ r. ⌜ Stepped (terms .info) (laneStep (terms .kind) (terms .longest) rule (take h (now (part .entry))) place (now (zone .entry))) (now (part .entry)) (now (units .entry)) (now (records .entry)) r (now (part .exit)) (now (units .exit)) (now (records .exit)) ⌝ }
 {
     let t = Tally {
         count: 0,
@@ -189,19 +174,10 @@ pub fn lane_step(
         fill: 0,
         dropped: 0,
     };
+    let s = Stand { tally: t, held: h };
+    let kind = terms.kind;
     match kind {
-        Kind::Packets => packet_step(longest, place, zone, part, h, info, t, units, records),
-        Kind::Access => access_step(
-            longest,
-            rule == 0b001,
-            place,
-            zone,
-            part,
-            h,
-            info,
-            t,
-            units,
-            records,
-        ),
+        Kind::Packets => packet_step(terms, s, place, zone, part, units, records),
+        Kind::Access => { access_step(terms, s, place, rule == 0b001, zone, part, units, records) }
     }
 }

@@ -14,10 +14,10 @@ use Rattle.rules.specs.declared.Fate.{Fate}
 use Rattle.rules.specs.declared.Fate.the-variants.{Hand, Hold}
 use Rattle.rules.specs.Tests.{_≤?_, _=?_}
 use Rattle.rules.specs.Writing.{zoneOf, ruleOf, inside}
-use Rattle.rules.specs.Reading.{Made, both, become, unitFate, followFate, portion, accessLane}
+use Rattle.rules.specs.Reading.{Made, both, unitFate, followFate, portion, accessLane}
 use Rattle.rules.proofs.Tests.{split}
 use Rattle.link.specs.Due.{spans, ending}
-use Rattle.link.proofs.Spans.{yields, yield, heldFrom, either, held-past, held-here, first-within, first-after}
+use Rattle.link.proofs.Spans.{yields, yield, becomes, become-is, heldFrom, either, held-past, held-here, first-within, first-after}
 
 module _ (longest z : ℕ) (zp : 0 < z) (j k : ℕ) (jk : j ≤ k) (b : List ℕ) (bl : length b ≤ longest) (kb : k * z < length b) where
   abbrev o : ℕ
@@ -38,16 +38,17 @@ module _ (longest z : ℕ) (zp : 0 < z) (j k : ℕ) (jk : j ≤ k) (b : List ℕ
   begun : Bool → Bool → List ℕ → Made
   begun finished t xs = portion longest finished begins (cond t (take o b) []) xs
 
-  first : k ≡ 0 → (finished : Bool) (xs : List ℕ) → yield (begun finished live xs) ≡ yield (become (unitFate longest finished (length xs)) xs)
+  first : k ≡ 0 → (finished : Bool) (xs : List ℕ) → yield (begun finished live xs) ≡ becomes (unitFate longest finished (length xs)) xs
   unfolding begun ruleOf portion both
   first e finished xs = rw (eq-eqb k 0 e)
 
   follows : 0 < k → (finished t : Bool) (xs : List ℕ)
-      → yield (begun finished t xs) ≡ cond t (yield (become (unitFate longest finished (length (take o b ++ xs))) (take o b ++ xs))) (yields [] [])
+      → yield (begun finished t xs) ≡ cond t (becomes (unitFate longest finished (length (take o b ++ xs))) (take o b ++ xs)) (yields [] [])
   unfolding begun ruleOf portion followFate
   follows h finished true xs =
       let p : 0 < length (take o b) = rw (length-take-le o b (omega arith)) (mul-pos h zp) in
       rw (ne-eqb k 0 (λ e. omega arith), ne-eqb (length (take o b)) 0 (λ e. omega arith), length-append (take o b) xs)
+      (become-is (unitFate longest finished (length (take o b) + length xs)) (record { octets = take o b ++ xs; earlier = true }))
   follows h finished false xs = rw (ne-eqb k 0 (λ e. omega arith))
 
   live-first : k ≡ 0 → live ≡ true
@@ -55,15 +56,15 @@ module _ (longest z : ℕ) (zp : 0 < z) (j k : ℕ) (jk : j ≤ k) (b : List ℕ
 
   -- Whichever it is, what becomes of the unit's octets so far, if it is not lost.
   so-far : (finished : Bool) (xs ys : List ℕ) → take o b ++ xs ≡ ys
-      → yield (begun finished live xs) ≡ cond live (yield (become (unitFate longest finished (length ys)) ys)) (yields [] [])
+      → yield (begun finished live xs) ≡ cond live (becomes (unitFate longest finished (length ys)) ys) (yields [] [])
   so-far finished xs ys e =
       split 1 k
-      (λ h. follows h finished live xs ∙ ap (λ (l : List ℕ). cond live (yield (become (unitFate longest finished (length l)) l)) (yields [] [])) e)
+      (λ h. follows h finished live xs ∙ ap (λ (l : List ℕ). cond live (becomes (unitFate longest finished (length l)) l) (yields [] [])) e)
       (λ h.
       let z₀ : k ≡ 0 = omega arith in
       let n : xs ≡ ys = sym (ap (λ (i : ℕ). take i b ++ xs) (ap (λ (i : ℕ). i * z) z₀ ∙ zero-mul z)) ∙ e in
-      first z₀ finished xs ∙ ap (λ (l : List ℕ). yield (become (unitFate longest finished (length l)) l)) n
-      ∙ sym (ap (λ (t : Bool). cond t (yield (become (unitFate longest finished (length ys)) ys)) (yields [] [])) (live-first z₀)))
+      first z₀ finished xs ∙ ap (λ (l : List ℕ). becomes (unitFate longest finished (length l)) l) n
+      ∙ sym (ap (λ (t : Bool). cond t (becomes (unitFate longest finished (length ys)) ys) (yields [] [])) (live-first z₀)))
 
   fate-ends : unitFate longest true (length b) ≡ Hand
   unfolding unitFate
@@ -110,7 +111,7 @@ module _ (longest z : ℕ) (zp : 0 < z) (j k : ℕ) (jk : j ≤ k) (b : List ℕ
       ap (λ (t : Bool). yield (accessLane longest begins before (cond t (At (length b - 1 - o)) Nowhere) (zoneOf Access z b k))) (lt-ltb _ _ p)
       ∙ ap (λ (xs : List ℕ). yield (begun true live xs)) (zone-ends h)
       ∙ so-far true (drop o b) b (take-append-drop o b)
-      ∙ ap (λ (f : Fate). cond live (yield (become f b)) (yields [] [])) fate-ends
+      ∙ ap (λ (f : Fate). cond live (becomes f b) (yields [] [])) fate-ends
       ∙ one-of live (b ∷ []) []
       ∙ sym
       (ap₂ yields (first-within z zp k (λ (i : ℕ). j ≤? i) b [] 0 (omega arith) (omega arith) ∙ append-nil (cond live (b ∷ []) []))
@@ -126,7 +127,7 @@ module _ (longest z : ℕ) (zp : 0 < z) (j k : ℕ) (jk : j ≤ k) (b : List ℕ
       ap (λ (t : Bool). yield (accessLane longest begins before (cond t (At (length b - 1 - o)) Nowhere) (zoneOf Access z b k))) (le-ltb _ _ p)
       ∙ ap (λ (xs : List ℕ). yield (begun false live xs)) (zone-goes h)
       ∙ so-far false (take z (drop o b)) (take (o + z) b) (sym (take-add o z b))
-      ∙ ap (λ (f : Fate). cond live (yield (become f (take (o + z) b))) (yields [] [])) (fate-goes h)
+      ∙ ap (λ (f : Fate). cond live (becomes f (take (o + z) b)) (yields [] [])) (fate-goes h)
       ∙ one-of live [] (take (o + z) b)
       ∙ ap (λ (us : List (List ℕ)). yields us (cond live (take (o + z) b) [])) (either live [])
       ∙ sym (ap₂ yields (first-after z zp k (λ (i : ℕ). j ≤? i) b [] 0 tt (omega arith)) (held-here z j 0 (o + z) b [] h))

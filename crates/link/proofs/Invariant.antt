@@ -15,7 +15,7 @@ use Rattle.rules.specs.declared.Expect.{Expect}
 use Rattle.rules.specs.Tests.{_≤?_, _<?_, _=?_}
 use Rattle.rules.specs.Frames.{pointsTo}
 use Rattle.rules.specs.Writing.{batchOk, unitsOf, frames, zoneOf, ruleOf, pointerOf, numberAfter, countAfter}
-use Rattle.rules.specs.Reading.{missing, expected, Made, laneStep}
+use Rattle.rules.specs.Reading.{missing, expected, octetsOf, Made, laneStep}
 use Rattle.rules.proofs.Tests.{same, and-left, and-right}
 use Rattle.rules.proofs.Counts.{missing-unknown, missing-gone, expected-below, one-further, none-further}
 use Rattle.rules.specs.Valid.{least}
@@ -213,7 +213,7 @@ module _ (kind : Kind) (longest z n : ℕ) (zp : 0 < z) (zl : z ≤ 4096) (enoug
       up-to i h = same i k (λ e. ap whole′ e ∙ now ∙ sym (le-leb (r .j) i (omega (arith, r .since)))) (λ e. else i e ∙ r .wholly i (omega arith))
 
       -- It hands out the units that end in this frame and lost none.
-      pub units-due : made .units ≡ ending k whole′ (spans z 0 (unitsOf kind b))
+      pub units-due : octetsOf (made .units) ≡ ending k whole′ (spans z 0 (unitsOf kind b))
       units-due =
           ap (λ (y : Yield). y .units) reads
           ∙ sym (ends-same z zp k whole′ (λ (i : ℕ). r .j ≤? i) up-to (unitsOf kind b) 0 (units kind longest b ok .filled))

@@ -6,7 +6,7 @@ use Prim.Native.Nat.{ℕ, zero, suc, _+_, _-_, _*_, _/_, _≤_, _<_}
 use native.Mathlib.Nat.{le-trans, not-suc-le-zero, zero-add, add-zero, add-sub-of-le, sub-self, sub-eq-zero-of-le, le-antisymm}
 use native.Mathlib.Omega.{arith}
 use mathlib.Core.Bool.{Bool, true, false, cond}
-use mathlib.Core.List.{List, [], _∷_, _++_, append-nil, append-assoc}
+use mathlib.Core.List.{List, [], _∷_, _++_, append-nil, append-assoc, map-append}
 use lib.ListN.{length, take, drop, replicate, length-append, length-take, length-drop, take-append-drop}
 use lib.Seq.{length-take-le, take-nil, take-at, drop-at, take-add, take-append-le, take-append-add, drop-append-le, drop-append-add, take-append-seam, drop-append-seam}
 use borrow.Author.Tests.{le-leb, lt-leb, lt-ltb, le-ltb, eq-eqb, ne-eqb}
@@ -21,13 +21,13 @@ use Rattle.rules.specs.Tests.{_≤?_}
 use Rattle.rules.specs.Areas.{joined}
 use Rattle.rules.specs.Packets.{measure}
 use Rattle.rules.specs.Writing.{startFrom, inside}
-use Rattle.rules.specs.Reading.{Made, hands, both, become, endFate, joinedFate, leadFate, lead, sizedNext, nextOf, front, walk, packetLane}
+use Rattle.rules.specs.Reading.{DataUnit, unitFrom, Made, hands, both, endFate, joinedFate, leadFate, lead, sizedNext, nextOf, front, walk, packetLane}
 use Rattle.rules.proofs.Tests.{split}
 use Rattle.rules.proofs.Measures.{measure-none, measure-fill}
 use Rattle.rules.proofs.Lanes.{walk-front}
 use Rattle.link.specs.Due.{spans, ending}
 use Rattle.link.proofs.Whole.{Whole, Wholes}
-use Rattle.link.proofs.Spans.{frame-from, Filled, Yield, yields, yield, heldFrom, either, held-past, held-here, first-before, first-within, first-after}
+use Rattle.link.proofs.Spans.{frame-from, Filled, Yield, yields, yield, becomes, become-is, heldFrom, either, held-past, held-here, first-before, first-within, first-after}
 
 pub wholes-filled : (longest : ℕ) (us : List (List ℕ)) → Wholes longest us → Filled us
 wholes-filled longest [] w = tt
@@ -49,10 +49,10 @@ module _ (longest : ℕ) (u : List ℕ) (w : Whole longest u) where
       rw (w .self ys, le-leb _ _ (w .fits), le-leb _ _ h)
 
   -- A packet at the front is given, and the walk goes on after it.
-  walk-whole : (ys : List ℕ) → yield (walk longest (u ++ ys)) ≡ yields (u ∷ (walk longest ys) .units) ((walk longest ys) .held)
+  walk-whole : (ys : List ℕ) → yield (walk longest (u ++ ys)) ≡ yields (u ∷ (yield (walk longest ys)) .units) ((walk longest ys) .held)
   walk-whole ys =
       ap yield (walk-front longest (u ++ ys) ∙ ap (λ (n : Next). front n (u ++ ys) (walk longest)) (next-whole ys))
-      ∙ ap₂ (λ (p q : List ℕ). yield (hands p (walk longest q))) (take-append-seam u ys) (drop-append-seam u ys)
+      ∙ ap₂ (λ (p q : List ℕ). yield (hands (unitFrom [] p) (walk longest q))) (take-append-seam u ys) (drop-append-seam u ys)
 
   next-part : (m : ℕ) → m < length u → nextOf longest (measure (take m u)) (length (take m u)) ≡ Keep
   unfolding nextOf sizedNext
@@ -93,11 +93,13 @@ module _ (longest : ℕ) (on : Bool) where
 
   -- "Otherwise the lead follows the held octets."
   lead-joined : (held xs ys : List ℕ) → 0 < length held → 0 < length xs → held ++ xs ≡ ys
-      → lead longest on held xs ≡ become (joinedFate longest on (measure ys) (length ys)) ys
+      → yield (lead longest on held xs) ≡ becomes (joinedFate longest on (measure ys) (length ys)) ys
   unfolding lead leadFate
   lead-joined held xs ys h k e =
       let n : length held + length xs ≡ length ys = sym (length-append held xs) ∙ ap length e in
-      rw (ne-eqb (length held) 0 (λ q. omega arith), ne-eqb (length xs) 0 (λ q. omega arith), e, n)
+      rw (ne-eqb (length held) 0 (λ q. omega arith), ne-eqb (length xs) 0 (λ q. omega arith))
+      (become-is (joinedFate longest on (measure (held ++ xs)) (length held + length xs)) (record { octets = held ++ xs; earlier = true })
+      ∙ ap₂ (λ (l : List ℕ) (i : ℕ). becomes (joinedFate longest on (measure l) i) l) e n)
 
 -- ---- the octets from the pointer on
 
@@ -211,19 +213,17 @@ module _ (longest z : ℕ) (zp : 0 < z) (j k : ℕ) (jk : j ≤ k) where
       -- What is left of it, or the whole of it where nothing was lost.
       lead-ends : (on t : Bool) → yield (lead longest on (cond t (take o u) []) (drop o u)) ≡ yields (cond t (u ∷ []) []) []
       lead-ends on true =
-          ap yield
-          (lead-joined longest on (take o u) (drop o u) u some-held (rw left-length (omega arith)) (take-append-drop o u)
-          ∙ ap (λ (f : Fate). become f u) (fate-ends longest u (w .0) on))
+          lead-joined longest on (take o u) (drop o u) u some-held (rw left-length (omega arith)) (take-append-drop o u)
+          ∙ ap (λ (f : Fate). becomes f u) (fate-ends longest u (w .0) on)
       lead-ends on false = lead-none longest on (drop o u)
 
       lead-goes : z < left → (t : Bool) → yield (lead longest true (cond t (take o u) []) (take z (drop o u))) ≡ yields [] (cond t (take (o + z) u) [])
       lead-goes h true =
           let l : length (take z (drop o u)) ≡ z = length-take-le z (drop o u) (rw left-length (omega arith)) in
           let m : length (take (o + z) u) ≡ o + z = length-take-le (o + z) u (omega arith) in
-          ap yield
-          (lead-joined longest true (take o u) (take z (drop o u)) (take (o + z) u) some-held (rw l zp) (sym (take-add o z u))
-          ∙ ap (λ (n : ℕ). become (joinedFate longest true (measure (take (o + z) u)) n) (take (o + z) u)) m
-          ∙ ap (λ (f : Fate). become f (take (o + z) u)) (fate-goes longest u (w .0) (o + z) (omega arith)))
+          lead-joined longest true (take o u) (take z (drop o u)) (take (o + z) u) some-held (rw l zp) (sym (take-add o z u))
+          ∙ ap (λ (n : ℕ). becomes (joinedFate longest true (measure (take (o + z) u)) n) (take (o + z) u)) m
+          ∙ ap (λ (f : Fate). becomes f (take (o + z) u)) (fate-goes longest u (w .0) (o + z) (omega arith))
       lead-goes h false = lead-none longest true (take z (drop o u))
 
       abbrev live : Bool
@@ -280,9 +280,9 @@ module _ (longest z : ℕ) (zp : 0 < z) (j k : ℕ) (jk : j ≤ k) where
       all-due h =
           sym (ap₂ yields (first-within z zp k (λ (i : ℕ). j ≤? i) u us a (omega arith) (omega arith)) (held-past z j a (o + z) u us (omega arith)))
 
-      both-yield : (x y : Made) → yield (both x y) ≡ yields (x .units ++ y .units) (y .held)
+      both-yield : (x y : Made) → yield (both x y) ≡ yields ((yield x) .units ++ (yield y) .units) (y .held)
       unfolding both
-      both-yield x y = refl
+      both-yield x y = ap (λ (us : List (List ℕ)). yields us (y .held)) (map-append (λ (u : DataUnit). u .octets) (x .units) (y .units))
 
       -- Before the frame's end.
       before-end : left < z → Says (cond live (take o u) []) (inside z left) (zoneFrom o (u ∷ us))

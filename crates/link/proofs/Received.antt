@@ -21,7 +21,7 @@ use Rattle.rules.specs.Areas.{laid, joined, part, heldSize, partSize, recordsSi
 use Rattle.rules.specs.Settings.{noLane, noExpect, lane, channelOf, zone, readerOk}
 use Rattle.rules.specs.Frames.{ruleIn, pointerIn, zoneIn, pointsTo}
 use Rattle.rules.specs.Writing.{zoneOf, ruleOf, pointerOf}
-use Rattle.rules.specs.Reading.{missing, expected, emptied, lanesOf, gapBy, gap, Made, laneStep}
+use Rattle.rules.specs.Reading.{missing, expected, emptied, lanesOf, gapBy, gap, octetsOf, Made, laneStep}
 use Rattle.rules.specs.Refusals.{refusals, judged, judge}
 use Rattle.rules.specs.Calls.{Got, areasShort, laidOut, madeBy, readOn, onVerdict, read}
 use Rattle.rules.proofs.Tests.{split, and-left, and-right}
@@ -177,7 +177,7 @@ pub record Taken (s : Setting) (es : List Expect) (hs h : List ℕ) (i v : ℕ) 
   pub state : o .taken .state
       ≡ reader s (set es (placeOf s i) (expected ((channelOf s i) .octets) v)) (set (gapped s es hs i v) i (length (m .held)))
   pub area : o .heldArea ≡ laid h (partSize * i) (m .held)
-  pub units : (l : ℕ) → handed l o ≡ cond (i =? l) (m .units) []
+  pub units : (l : ℕ) → handed l o ≡ cond (i =? l) (octetsOf (m .units)) []
   pub small : length (m .held) ≤ 8192
 
 module _ (s : Setting) (es : List Expect) (hs h : List ℕ) (a : Lent) (i v : ℕ) where
@@ -237,7 +237,7 @@ module _ (s : Setting) (es : List Expect) (hs h : List ℕ) (a : Lent) (i v : �
         gr : GoodReader (reader s es hs)
         gr = good-reader (reader s es hs) ok
 
-        fits : length (joined ((made b k) .units)) ≤ unitsSize
+        fits : length (joined (octetsOf ((made b k) .units))) ≤ unitsSize
         fits =
             subst (λ (o : Got). o .taken .answer .octets ≤ unitsSize)
             (read-is ∙ ap (λ (m : Made). laidOut g i v m h (a .units) (a .records)) made-is)

@@ -11,7 +11,7 @@ use Rattle.rules.specs.declared.Gap.{Gap}
 use Rattle.rules.specs.Tests.{_=?_}
 use Rattle.rules.specs.Octets.{be}
 use Rattle.rules.specs.Areas.{laid, joined, unitsSize}
-use Rattle.rules.specs.Reading.{Made, recordOf, recordsFrom, infoOf}
+use Rattle.rules.specs.Reading.{DataUnit, octetsOf, Made, recordOf, recordsFrom, infoOf}
 use Rattle.rules.specs.Calls.{laidOut}
 use Rattle.rules.proofs.Octets.{num-be-below}
 use Rattle.link.specs.Link.{unitBy, unitsBy, handed}
@@ -31,26 +31,28 @@ module _ (i : Info) (l : ℕ) where
       ap₂ (λ (n m : ℕ). take n (drop m (pre ++ (u ++ post)))) (num-be-below 4 (length u) (omega arith)) (num-be-below 4 start (omega arith))
       ∙ ap (take (length u)) (drop-at pre (u ++ post) start e) ∙ take-at u post (length u) refl
 
-  by-records : (us : List (List ℕ)) (start : ℕ) (pre post rest : List ℕ) → length pre ≡ start → start + length (joined us) < 256 ^ 4
-      → unitsBy l (length us) (recordsFrom i start us ++ rest) (pre ++ (joined us ++ post)) ≡ cond (i .lane =? l) us []
+  by-records : (ds : List DataUnit) (start : ℕ) (pre post rest : List ℕ) → length pre ≡ start → start + length (joined (octetsOf ds)) < 256 ^ 4
+      → unitsBy l (length ds) (recordsFrom i start ds ++ rest) (pre ++ (joined (octetsOf ds) ++ post)) ≡ cond (i .lane =? l) (octetsOf ds) []
   unfolding unitsBy recordsFrom joined recordOf be
   by-records [] start pre post rest e h = sym (either (i .lane =? l) [])
-  by-records (u ∷ us) start pre post rest e h =
+  by-records (d ∷ ds) start pre post rest e h =
+      let u : List ℕ = d .octets in
+      let us : List (List ℕ) = octetsOf ds in
       let n : length (u ++ joined us) ≡ length u + length (joined us) = length-append u (joined us) in
-      let more : List ℕ = recordsFrom i (start + length u) us in
+      let more : List ℕ = recordsFrom i (start + length u) ds in
       let a : (u ++ joined us) ++ post ≡ u ++ (joined us ++ post) = append-assoc u (joined us) post in
       let b : pre ++ (u ++ (joined us ++ post)) ≡ (pre ++ u) ++ (joined us ++ post) = sym (append-assoc pre u (joined us ++ post)) in
       ap₂ _++_
       (ap₂ (λ (x y : List ℕ). cond (i .lane =? l) (unitBy x (pre ++ y) ∷ []) []) (append-assoc (recordOf i start (length u)) more rest) a
       ∙ ap (λ (x : List ℕ). cond (i .lane =? l) (x ∷ []) []) (first-unit start u pre (joined us ++ post) (more ++ rest) e (omega (arith, n))))
-      (ap (λ (y : List ℕ). unitsBy l (length us) (more ++ rest) y) (ap (λ (y : List ℕ). pre ++ y) a ∙ b)
-      ∙ by-records us (start + length u) (pre ++ u) post rest (length-append pre u ∙ ap (λ (m : ℕ). m + length u) e) (omega (arith, n)))
+      (ap (λ (y : List ℕ). unitsBy l (length ds) (more ++ rest) y) (ap (λ (y : List ℕ). pre ++ y) a ∙ b)
+      ∙ by-records ds (start + length u) (pre ++ u) post rest (length-append pre u ∙ ap (λ (m : ℕ). m + length u) e) (omega (arith, n)))
       ∙ pick-append (i .lane =? l) (u ∷ []) us
 
 -- What a read that lays a lane's units and records out hands out on lane l.
-pub handed-laid : (l : ℕ) (g : Gap) (ours count : ℕ) (m : Made) (h u c : List ℕ) → length (joined (m .units)) ≤ unitsSize
-    → handed l (laidOut g ours count m h u c) ≡ cond (ours =? l) (m .units) []
+pub handed-laid : (l : ℕ) (g : Gap) (ours count : ℕ) (m : Made) (h u c : List ℕ) → length (joined (octetsOf (m .units))) ≤ unitsSize
+    → handed l (laidOut g ours count m h u c) ≡ cond (ours =? l) (octetsOf (m .units)) []
 unfolding handed laidOut laid infoOf
 handed-laid l g ours count m h u c b =
-    by-records (infoOf (g .state .setting) ours count) l (m .units) 0 [] (drop (0 + length (joined (m .units))) u)
+    by-records (infoOf (g .state .setting) ours count) l (m .units) 0 [] (drop (0 + length (joined (octetsOf (m .units)))) u)
     (drop (0 + length (recordsFrom (infoOf (g .state .setting) ours count) 0 (m .units))) c) refl (omega arith)

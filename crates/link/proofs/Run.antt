@@ -16,7 +16,7 @@ use Rattle.rules.specs.Tests.{_=?_, _≠?_, given}
 use Rattle.rules.specs.Areas.{laid, heldSize, partSize}
 use Rattle.rules.specs.Settings.{channelOf, zone, readerOk}
 use Rattle.rules.specs.Writing.{frames, numberAfter, countAfter, writerAfter}
-use Rattle.rules.specs.Reading.{expected, Made}
+use Rattle.rules.specs.Reading.{expected, octetsOf, Made}
 use Rattle.rules.specs.Refusals.{refusals}
 use Rattle.rules.specs.Calls.{writeRefusals, written, write, Got, read}
 use Rattle.rules.proofs.Tests.{and-left, and-right}
@@ -200,7 +200,8 @@ module _ (s : Setting) where
       (if-gone : (st : State) (x : Call) (rest : List Frame) → Ready st → Goes st x → kept (x .passage) ≡ false → Knows st (frame st x ∷ rest)
       → (dueIn s l (frame st x) (st .past) ≡ []) × Knows (afterGone st x) rest)
       (if-kept : (st : State) (x : Call) (rest : List Frame) → Ready st → Goes st x → length ((madeOf st x) .held) ≤ 8192 → kept (x .passage) ≡ true
-      → Knows st (frame st x ∷ rest) → (cond (x .lane =? l) ((madeOf st x) .units) [] ≡ dueIn s l (frame st x) (st .past)) × Knows (afterKept st x) rest)
+      → Knows st (frame st x ∷ rest)
+      → (cond (x .lane =? l) (octetsOf ((madeOf st x) .units)) [] ≡ dueIn s l (frame st x) (st .past)) × Knows (afterKept st x) rest)
     where
       abbrev Says : State → List Frame → Type 0
       Says st fs = handedOut l (reads (hearer st) (st .area) (arrivals fs)) ≡ due s l (st .past) fs

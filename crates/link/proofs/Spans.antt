@@ -8,9 +8,11 @@ use mathlib.Core.Bool.{Bool, true, false, cond, _&&_}
 use mathlib.Core.List.{List, [], _∷_, _++_}
 use lib.ListN.{length, take, length-append}
 use borrow.Author.Tests.{le-leb, lt-leb, eqb-true, eq-eqb, ne-eqb}
+use Rattle.rules.specs.declared.Fate.{Fate}
+use Rattle.rules.specs.declared.Fate.the-variants.{Hand, Blank, Hold, Drop}
 use Rattle.rules.specs.Tests.{_≤?_, _=?_}
 use Rattle.rules.specs.Areas.{joined}
-use Rattle.rules.specs.Reading.{Made}
+use Rattle.rules.specs.Reading.{DataUnit, unitFrom, octetsOf, Made, become}
 use Rattle.rules.proofs.Tests.{split}
 use Rattle.link.specs.Due.{Span, spans, ending}
 
@@ -48,7 +50,17 @@ abbrev pub yields : List (List ℕ) → List ℕ → Yield
 yields us h = record { units = us; held = h }
 
 abbrev pub yield : Made → Yield
-yield m = yields (m .units) (m .held)
+yield m = yields (octetsOf (m .units)) (m .held)
+
+-- What octets become, whether or not some of them were held.
+abbrev pub becomes : Fate → List ℕ → Yield
+becomes f xs = yield (become f (unitFrom [] xs))
+
+pub become-is : (f : Fate) (u : DataUnit) → yield (become f u) ≡ becomes f (u .octets)
+become-is Hand u = refl
+become-is Blank u = refl
+become-is Hold u = refl
+become-is Drop u = refl
 
 -- ---- held octets
 

@@ -14,7 +14,7 @@ use Rattle.rules.specs.Tests.{_=?_}
 use Rattle.rules.specs.Settings.{noExpect, channel, lane, channelOf, zone}
 use Rattle.rules.specs.Frames.{pointsTo}
 use Rattle.rules.specs.Writing.{frames, zoneOf, ruleOf, pointerOf}
-use Rattle.rules.specs.Reading.{missing, expected, Made, laneStep}
+use Rattle.rules.specs.Reading.{missing, expected, octetsOf, Made, laneStep}
 use Rattle.rules.proofs.Tests.{same}
 use Rattle.rules.specs.Valid.{Good, least}
 use Rattle.rules.proofs.Valid.{good-channelOf}
@@ -177,11 +177,11 @@ module _ (s : Setting) (g : Good s) (st : State) (x : Call) (r : Ready s st) (c 
       (zoneOf ((lane s own) .kind) (zone s (channelOf s own)) (x .batch) (numberOf s st x)))
       (gap-on s g own lh st x r c small refl)
 
-  own-due : cond (own =? own) ((madeOf s st x) .units) [] ≡ dueIn s own (frame s st x) (st .past)
+  own-due : cond (own =? own) (octetsOf ((madeOf s st x) .units)) [] ≡ dueIn s own (frame s st x) (st .past)
   unfolding dueIn frameBy view did
   own-due =
       rw (eq-eqb own own refl)
-      (ap (λ (m : Made). m .units) did-is
+      (ap (λ (m : Made). octetsOf (m .units)) did-is
       ∙ units-due _ _ _ _ _ _ _ (view s own st) (clean s own (st .past)) flags known (x .batch) (c .takes .batch) in-turn in-batch whole now else)
 
   own-next : Knows s g own lh (afterKept s st x) rest
@@ -200,18 +200,19 @@ module _ (s : Setting) (g : Good s) (st : State) (x : Call) (r : Ready s st) (c 
 
 module _ (s : Setting) (g : Good s) (l : ℕ) where
   -- Another lane's frame hands out nothing on lane l, and nothing is due.
-  pub none-other : (st : State) (x : Call) → (x .lane ≡ l → ⊥) → cond (x .lane =? l) ((madeOf s st x) .units) [] ≡ dueIn s l (frame s st x) (st .past)
+  pub none-other : (st : State) (x : Call) → (x .lane ≡ l → ⊥)
+      → cond (x .lane =? l) (octetsOf ((madeOf s st x) .units)) [] ≡ dueIn s l (frame s st x) (st .past)
   unfolding frameBy
-  none-other st x n = ap (λ (t : Bool). cond t ((madeOf s st x) .units) []) (ne-eqb (x .lane) l n) ∙ sym (due-not s l (frame s st x) (st .past) n)
+  none-other st x n = ap (λ (t : Bool). cond t (octetsOf ((madeOf s st x) .units)) []) (ne-eqb (x .lane) l n) ∙ sym (due-not s l (frame s st x) (st .past) n)
 
   pub if-kept : (lh : l < s .numbered) (st : State) (x : Call) (rest : List Frame) → Ready s st → Goes s st x → length ((madeOf s st x) .held) ≤ 8192
       → kept (x .passage) ≡ true → Knows s g l lh st (frame s st x ∷ rest)
-      → (cond (x .lane =? l) ((madeOf s st x) .units) [] ≡ dueIn s l (frame s st x) (st .past)) × Knows s g l lh (afterKept s st x) rest
+      → (cond (x .lane =? l) (octetsOf ((madeOf s st x) .units)) [] ≡ dueIn s l (frame s st x) (st .past)) × Knows s g l lh (afterKept s st x) rest
   if-kept lh st x rest r c small q k =
       same (x .lane) l
       (λ e.
       subst
       (λ (i : ℕ). (h : i < s .numbered) → Knows s g i h st (frame s st x ∷ rest)
-      → (cond (x .lane =? i) ((madeOf s st x) .units) [] ≡ dueIn s i (frame s st x) (st .past)) × Knows s g i h (afterKept s st x) rest)
+      → (cond (x .lane =? i) (octetsOf ((madeOf s st x) .units)) [] ≡ dueIn s i (frame s st x) (st .past)) × Knows s g i h (afterKept s st x) rest)
       e (λ h k. (own-due s g st x r c small rest q h k, own-next s g st x r c small rest q h k)) lh k)
       (λ n. (none-other st x n, if-other s g l lh st x r c small rest q n k))

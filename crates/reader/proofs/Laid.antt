@@ -19,7 +19,7 @@ use Rattle.rules.specs.Calls.{laidOut, madeBy, readOn}
 use Rattle.rules.proofs.Areas.{laid-part}
 use Rattle.rules.specs.Valid.{GoodKind}
 use Rattle.rules.proofs.Lanes.{lane-total, lane-below, total}
-use Rattle.handing.specs.declared.Led.{Led}
+use Rattle.units.specs.declared.Led.{Led}
 use Rattle.lanes.specs.Steps.{Lent, Stepped}
 use Rattle.reader.specs.Reads.{takenOf, infoFor, OnLane}
 use Rattle.judge.specs.declared.Sight.{Sight}

@@ -20,7 +20,7 @@ use Rattle.judge.specs.declared.Sight.{Sight}
 use Rattle.judge.specs.declared.Sighting.the-variants.{Seen}
 use Rattle.judge.specs.Sights.{sightOf}
 use Rattle.rules.specs.Valid.{GoodReader, Reads}
-use Rattle.handing.specs.declared.Led.{Led}
+use Rattle.units.specs.declared.Led.{Led}
 use Rattle.rules.specs.Areas.{heldSize, recordsSize, unitsSize}
 
 -- The paper's record fields of lane l, lane a on channel ch, and a count.

@@ -7,7 +7,6 @@ ghost use Rattle.rules.specs.Promises.{ReaderStarts, ReadGives};
 ghost use Rattle.judge.specs.Sights.{readSight, sightOf, Fitting};
 ghost use Rattle.reader.specs.Reads.{infoFor, takenOf, countedOf, shortOf, verdictOf, OnLane, SeenOn};
 ghost use Rattle.rules.specs.Areas.{heldSize, unitsSize};
-use handing::Led;
 use judge::Sight;
 use judge::Sighting;
 use rules::Answer;
@@ -23,6 +22,7 @@ use rules::Reader;
 use rules::Setting;
 use rules::Taken;
 use rules::Verdict;
+use units::Led;
 
 // ---- what a lane makes of a frame
 

@@ -22,7 +22,7 @@ use Rattle.rules.specs.Areas.{joined, part, recordSize, recordsSize, uni
 use Rattle.rules.specs.Settings.{channel, lane, channelOf, heldBy, number, zoneAt, zoneFor, zone, ocfOctets, settingOk, readerOk, writerOk, freshReader, freshWriter, noReader, noWriter}
 use Rattle.rules.specs.Frames.{countIn, ruleIn, pointerIn, zoneIn, pointsTo}
 use Rattle.rules.specs.Writing.{batchOk, frames}
-use Rattle.rules.specs.Reading.{gap, Made}
+use Rattle.rules.specs.Reading.{gap, octetsOf, Made}
 use Rattle.rules.specs.Refusals.{refusals, judged, judge}
 use Rattle.rules.specs.Calls.{setUpReader, setUpWriter, writeRefusals, written, write, areasShort, bare, laidOut, madeBy, readOn, onVerdict, readRefusals, verdict, read}
 use Rattle.rules.proofs.Tests.{or-none, given-zero}
@@ -193,7 +193,7 @@ module _ (r : Reader) (f h : List ℕ) (l : ℕ) (g : GoodReader r) (lh : l < r 
 
   -- Its units and their records fit.
   pub record Fits (m : Made) : Type 0 where
-    pub octets : length (joined (m .units)) ≤ unitsSize
+    pub octets : length (joined (octetsOf (m .units))) ≤ unitsSize
     pub records : recordSize * length (m .units) ≤ recordsSize
 
   few-held : length (take (heldBy (after .state) l) (part l h)) ≤ 8191

@@ -4,7 +4,7 @@ use Prim.Native.Nat.{ℕ, zero, suc, _+_, _-_, _*_, _≤_, _<_}
 use native.Mathlib.Nat.{not-suc-le-zero, le-refl, add-zero}
 use native.Mathlib.Omega.{arith}
 use mathlib.Core.Bool.{Bool, true, false, cond, false≢true}
-use mathlib.Core.List.{List, [], _∷_, _++_, append-nil}
+use mathlib.Core.List.{List, [], _∷_, _++_, append-nil, map-append}
 use lib.ListN.{length, take, drop, length-append, length-take, length-drop, take-append-drop}
 use lib.Seq.{length-take-le}
 use borrow.Author.Tests.{leb-true, leb-false, ltb-true, eqb-true}
@@ -20,7 +20,7 @@ use Rattle.rules.specs.declared.Fate.the-variants.{Hand, Blank, Hold, Dr
 use Rattle.rules.specs.Tests.{_≤?_, _<?_, _=?_}
 use Rattle.rules.specs.Areas.{joined}
 use Rattle.rules.specs.Packets.{measure}
-use Rattle.rules.specs.Reading.{Made, nothing, drops, fills, hands, idles, both, become, endFate, joinedFate, leadFate, lead, sizedNext, nextOf, front, walkUpTo, walk, packetLane, unitFate, followFate, portion, accessLane, laneStep}
+use Rattle.rules.specs.Reading.{DataUnit, unitFrom, octetsOf, Made, nothing, drops, fills, hands, idles, both, become, endFate, joinedFate, leadFate, lead, sizedNext, nextOf, front, walkUpTo, walk, packetLane, unitFate, followFate, portion, accessLane, laneStep}
 use Rattle.rules.proofs.Areas.{joined-append}
 use Rattle.rules.proofs.Measures.{measure-cases, measure-none}
 use Rattle.rules.specs.Valid.{least}
@@ -112,7 +112,7 @@ module _ (longest : ℕ) where
       → front (nextOf longest (measure xs) (length xs)) xs f ≡ front (nextOf longest (measure xs) (length xs)) xs g
   front-same xs f g h =
       next-cases (λ (s : Next). front s xs f ≡ front s xs g) longest xs
-      (λ n a b c. ap (hands (take n xs)) (h (drop n xs) (rw length-drop (omega arith))))
+      (λ n a b c. ap (hands (unitFrom [] (take n xs))) (h (drop n xs) (rw length-drop (omega arith))))
       (λ n a b c. ap (idles n) (h (drop n xs) (rw length-drop (omega arith)))) (λ k. refl) refl
 
   none-left : (n : ℕ) (xs : List ℕ) → length xs ≤ 0 → walkUpTo longest n xs ≡ nothing
@@ -137,28 +137,34 @@ module _ (longest : ℕ) where
 
 -- All octets that something is said of.
 unfoldable pub total : Made → ℕ
-total m = length (joined (m .units)) + (length (m .held) + (m .idle + (m .fill + m .dropped)))
+total m = length (joined (octetsOf (m .units))) + (length (m .held) + (m .idle + (m .fill + m .dropped)))
+
+-- Units one after the other, back to back.
+pub octets-append : (us vs : List DataUnit) → joined (octetsOf (us ++ vs)) ≡ joined (octetsOf us) ++ joined (octetsOf vs)
+octets-append us vs = ap joined (map-append (λ (u : DataUnit). u .octets) us vs) ∙ joined-append (octetsOf us) (octetsOf vs)
+
+pub octets-both : (us vs : List DataUnit) → length (joined (octetsOf (us ++ vs))) ≡ length (joined (octetsOf us)) + length (joined (octetsOf vs))
+octets-both us vs = ap length (octets-append us vs) ∙ length-append (joined (octetsOf us)) (joined (octetsOf vs))
 
 both-total : (a b : Made) → a .held ≡ [] → total (both a b) ≡ total a + total b
 unfolding total both
 both-total a b h =
     let z : length (a .held) ≡ 0 = ap length h in
-    let j : length (joined (a .units ++ b .units)) ≡ length (joined (a .units)) + length (joined (b .units)) = ap length (joined-append (a .units) (b .units))
-    ∙ length-append (joined (a .units)) (joined (b .units)) in
+    let j = octets-both (a .units) (b .units) in
     omega arith
 
-become-total : (f : Fate) (xs : List ℕ) → total (become f xs) ≡ length xs
+become-total : (f : Fate) (u : DataUnit) → total (become f u) ≡ length (u .octets)
 unfolding total joined
-become-total Hand xs = ap (λ (x : List ℕ). length x + 0) (append-nil xs) ∙ add-zero (length xs)
-become-total Blank xs = omega arith
-become-total Hold xs = omega arith
-become-total Drop xs = omega arith
+become-total Hand u = ap (λ (x : List ℕ). length x + 0) (append-nil (u .octets)) ∙ add-zero (length (u .octets))
+become-total Blank u = omega arith
+become-total Hold u = omega arith
+become-total Drop u = omega arith
 
 -- Only a lead that may go on is held.
-lead-held : (longest : ℕ) (held xs : List ℕ) → (lead longest false held xs) .held ≡ []
+pub lead-held : (longest : ℕ) (held xs : List ℕ) → (lead longest false held xs) .held ≡ []
 unfolding lead
 lead-held longest held xs =
-    lead-cases (λ (f : Fate). (become f (held ++ xs)) .held ≡ []) longest false held xs (λ h. refl) refl (λ e h. absurd (false≢true e)) refl
+    lead-cases (λ (f : Fate). (become f (unitFrom held xs)) .held ≡ []) longest false held xs (λ h. refl) refl (λ e h. absurd (false≢true e)) refl
 
 module _ (longest : ℕ) where
   front-total : (xs : List ℕ) (rest : List ℕ → Made) → ((ys : List ℕ) → length ys < length xs → total (rest ys) ≡ length ys)
@@ -168,7 +174,7 @@ module _ (longest : ℕ) where
       next-cases (λ (s : Next). total (front s xs rest) ≡ length xs) longest xs
       (λ n a b c.
       let q = h (drop n xs) (rw length-drop (omega arith)) in
-      let t = length-append (take n xs) (joined ((rest (drop n xs)) .units)) in
+      let t = length-append (take n xs) (joined (octetsOf ((rest (drop n xs)) .units))) in
       let u = length-take-le n xs b in
       let v = length-drop n xs in
       omega (arith, q, t, u, v))
@@ -185,7 +191,8 @@ module _ (longest : ℕ) where
 
   lead-total : (on : Bool) (held xs : List ℕ) → total (lead longest on held xs) ≡ length held + length xs
   unfolding lead
-  lead-total on held xs = become-total (leadFate longest on (measure (held ++ xs)) (length held) (length xs)) (held ++ xs) ∙ length-append held xs
+  lead-total on held xs =
+      become-total (leadFate longest on (measure (held ++ xs)) (length held) (length xs)) (unitFrom held xs) ∙ length-append held xs
 
   packet-total : (held : List ℕ) (p : Place) (z : List ℕ) → total (packetLane longest held p z) ≡ length held + length z
   unfolding packetLane walk
@@ -200,9 +207,10 @@ module _ (longest : ℕ) where
   portion-total : (finished begins : Bool) (held xs : List ℕ) → total (portion longest finished begins held xs) ≡ length held + length xs
   unfolding portion total
   portion-total finished true held xs =
-      both-total (drops (length held)) (become (unitFate longest finished (length xs)) xs) refl
-      ∙ ap₂ _+_ (become-total Drop held) (become-total (unitFate longest finished (length xs)) xs)
-  portion-total finished false held xs = become-total (followFate longest finished (length held) (length xs)) (held ++ xs) ∙ length-append held xs
+      both-total (drops (length held)) (become (unitFate longest finished (length xs)) (unitFrom [] xs)) refl
+      ∙ ap₂ _+_ (become-total Drop (unitFrom [] held)) (become-total (unitFate longest finished (length xs)) (unitFrom [] xs))
+  portion-total finished false held xs =
+      become-total (followFate longest finished (length held) (length xs)) (unitFrom held xs) ∙ length-append held xs
 
   access-total : (begins : Bool) (held : List ℕ) (p : Place) (z : List ℕ) → total (accessLane longest begins held p z) ≡ length held + length z
   unfolding accessLane total joined
@@ -233,7 +241,7 @@ module _ (longest : ℕ) (seven : 7 ≤ longest) where
   unfolding lead
   lead-below on held xs =
       let e = length-append held xs in
-      lead-cases (λ (f : Fate). length ((become f (held ++ xs)) .held) < longest) longest on held xs (λ h. omega arith) (omega arith)
+      lead-cases (λ (f : Fate). length ((become f (unitFrom held xs)) .held) < longest) longest on held xs (λ h. omega arith) (omega arith)
       (λ g h. let l : length held + length xs < longest = h seven in omega (arith, e)) (omega arith)
 
   packet-below : (held : List ℕ) (p : Place) (z : List ℕ) → length ((packetLane longest held p z) .held) < longest
@@ -245,11 +253,11 @@ module _ (longest : ℕ) (one : 1 ≤ longest) where
   portion-below : (finished begins : Bool) (held xs : List ℕ) → length ((portion longest finished begins held xs) .held) < longest
   unfolding portion both
   portion-below finished true held xs =
-      unit-cases (λ (f : Fate). length ((become f xs) .held) < longest) longest finished (length xs) (λ h. omega arith) (λ h. h) (omega arith)
+      unit-cases (λ (f : Fate). length ((become f (unitFrom [] xs)) .held) < longest) longest finished (length xs) (λ h. omega arith) (λ h. h) (omega arith)
   portion-below finished false held xs =
       let e = length-append held xs in
-      follow-cases (λ (f : Fate). length ((become f (held ++ xs)) .held) < longest) longest finished (length held) (length xs) (λ h. omega arith)
-      (λ h. omega (arith, e)) (omega arith)
+      follow-cases (λ (f : Fate). length ((become f (unitFrom held xs)) .held) < longest) longest finished (length held) (length xs)
+      (λ h. omega arith) (λ h. omega (arith, e)) (omega arith)
 
   access-below : (begins : Bool) (held : List ℕ) (p : Place) (z : List ℕ) → length ((accessLane longest begins held p z) .held) < longest
   unfolding accessLane both
@@ -264,11 +272,11 @@ lane-below Access longest rule held p z h = access-below longest h (rule =? 0b00
 
 -- ---- few units: each from the pointer on has seven octets, and the lead ends one
 
-become-few : (f : Fate) (xs : List ℕ) → length ((become f xs) .units) ≤ 1
-become-few Hand xs = omega arith
-become-few Blank xs = omega arith
-become-few Hold xs = omega arith
-become-few Drop xs = omega arith
+become-few : (f : Fate) (u : DataUnit) → length ((become f u) .units) ≤ 1
+become-few Hand u = omega arith
+become-few Blank u = omega arith
+become-few Hold u = omega arith
+become-few Drop u = omega arith
 
 upTo-few : (longest n : ℕ) (xs : List ℕ) → 7 * length ((walkUpTo longest n xs) .units) ≤ length xs
 unfolding walkUpTo
@@ -280,19 +288,19 @@ upTo-few longest (suc n) xs =
 
 portion-few : (longest : ℕ) (finished begins : Bool) (held xs : List ℕ) → length ((portion longest finished begins held xs) .units) ≤ 1
 unfolding portion both
-portion-few longest finished true held xs = become-few (unitFate longest finished (length xs)) xs
-portion-few longest finished false held xs = become-few (followFate longest finished (length held) (length xs)) (held ++ xs)
+portion-few longest finished true held xs = become-few (unitFate longest finished (length xs)) (unitFrom [] xs)
+portion-few longest finished false held xs = become-few (followFate longest finished (length held) (length xs)) (unitFrom held xs)
 
 pub lane-few : (k : Kind) (longest rule : ℕ) (held : List ℕ) (p : Place) (z : List ℕ)
     → 7 * length ((laneStep k longest rule held p z) .units) ≤ 7 + length z
 unfolding laneStep packetLane accessLane lead walk both
 lane-few Packets longest rule held (At p) z =
-    let a = become-few (leadFate longest false (measure (held ++ take p z)) (length held) (length (take p z))) (held ++ take p z) in
+    let a = become-few (leadFate longest false (measure (held ++ take p z)) (length held) (length (take p z))) (unitFrom held (take p z)) in
     let b = upTo-few longest (length (drop p z)) (drop p z) in
     let c = length-drop p z in
     let d = length-append ((lead longest false held (take p z)) .units) ((walk longest (drop p z)) .units) in
     omega (arith, a, b, c, d)
 lane-few Packets longest rule held Nowhere z =
-    let a = become-few (leadFate longest true (measure (held ++ z)) (length held) (length z)) (held ++ z) in omega (arith, a)
+    let a = become-few (leadFate longest true (measure (held ++ z)) (length held) (length z)) (unitFrom held z) in omega (arith, a)
 lane-few Access longest rule held (At p) z = let a = portion-few longest true (rule =? 0b001) held (take (p + 1) z) in omega (arith, a)
 lane-few Access longest rule held Nowhere z = let a = portion-few longest false (rule =? 0b001) held z in omega (arith, a)

@@ -13,6 +13,7 @@ use Rattle.rules.specs.declared.Class.{Class}
 use Rattle.rules.specs.declared.Answer.{Answer}
 use Rattle.rules.specs.Tests.{given}
 use Rattle.rules.specs.Areas.{laid, joined, heldSize, recordsSize, unitsSize}
+use Rattle.rules.specs.Reading.{octetsOf}
 use Rattle.rules.specs.Settings.{lane, count, number}
 use Rattle.rules.specs.Writing.{frameOf}
 use Rattle.rules.specs.Calls.{setUpReader, setUpWriter, Sent, writeRefusals, Got, readRefusals, read}
@@ -69,7 +70,7 @@ refused-3 : given (readRefusals fresh [] held₀ units₀ records₀) ≡ 3
 unfolding rules fresh held₀ units₀ records₀
 refused-3 = refl
 
-first-octet : getD (laid units₀ 0 (joined ((madeIn fresh frame₀ held₀) .units))) 0 0 ≡ 0
+first-octet : getD (laid units₀ 0 (joined (octetsOf ((madeIn fresh frame₀ held₀) .units)))) 0 0 ≡ 0
 unfolding rules fresh held₀ units₀ madeIn gapIn laneIn channelIn countOf
 first-octet = refl
 
@@ -88,7 +89,7 @@ second-read : classIn (after .taken .state .setting) frame₁ ≡ Class.Read
 unfolding rules fresh held₀ units₀ records₀ after classIn channelIn
 second-read = refl
 
-second-octet : getD (laid units₀ 0 (joined ((madeIn (after .taken .state) frame₁ (after .heldArea)) .units))) 0 0 ≡ 0
+second-octet : getD (laid units₀ 0 (joined (octetsOf ((madeIn (after .taken .state) frame₁ (after .heldArea)) .units)))) 0 0 ≡ 0
 unfolding rules fresh held₀ units₀ records₀ after madeIn gapIn laneIn channelIn countOf
 second-octet = refl
 
@@ -146,7 +147,7 @@ pub reader-as-found : (says : OfRead Answer) → ReaderAllowed (readerAsFound sa
 unfolding readerAsFound classArea
 reader-as-found says ok =
     let o = ok fresh frame₀ held₀ units₀ records₀ in
-    let e : units₀ ≡ laid units₀ 0 (joined ((madeIn fresh frame₀ held₀) .units)) = rw (o .class accepted ∙ class-read) at (o .units) in
+    let e : units₀ ≡ laid units₀ 0 (joined (octetsOf ((madeIn fresh frame₀ held₀) .units))) = rw (o .class accepted ∙ class-read) at (o .units) in
     let z : getD units₀ 0 0 ≡ 0 = ap (λ (xs : List ℕ). getD xs 0 0) e ∙ first-octet in
     omega (arith, z, units-octet)
 

@@ -22,7 +22,7 @@ use Rattle.rules.specs.Areas.{laid, joined, part, heldSize, partSize, re
 use Rattle.rules.specs.Settings.{channel, lane, channelOf, heldBy, withSlot, count, number, zone, ocfOctets, settingOk, readerOk, writerOk, freshReader, freshWriter, noReader, noWriter}
 use Rattle.rules.specs.Frames.{countIn, ruleIn, pointerIn, zoneIn, pointsTo}
 use Rattle.rules.specs.Writing.{batchOk, frames, frameOf, writerAfter}
-use Rattle.rules.specs.Reading.{gap, Made, keeps, laneStep, recordsFrom, infoOf}
+use Rattle.rules.specs.Reading.{gap, octetsOf, Made, keeps, laneStep, recordsFrom, infoOf}
 use Rattle.rules.specs.Refusals.{refusals, judged}
 
 -- ---- the paper's number for each case of an answer; 0 where none is refused
@@ -113,7 +113,7 @@ laidOut g l k m h u c =
                 record {
                   class = Class.Read;
                   units = length (m .units);
-                  octets = length (joined (m .units));
+                  octets = length (joined (octetsOf (m .units)));
                   missing = g .missing;
                   idle = m .idle;
                   fill = m .fill;
@@ -122,7 +122,7 @@ laidOut g l k m h u c =
             state = withSlot (g .state) l (keeps m);
           };
       heldArea = laid h (partSize * l) (m .held);
-      unitArea = laid u 0 (joined (m .units));
+      unitArea = laid u 0 (joined (octetsOf (m .units)));
       recordArea = laid c 0 (recordsFrom (infoOf (g .state .setting) l k) 0 (m .units));
     }
 

@@ -2,7 +2,7 @@
 -- worked out by hand from the paper.
 use Prim.Native.Nat.{ℕ, zero, suc, _+_, _*_, _/_, _%_}
 use mathlib.Core.Bool.{true, false}
-use mathlib.Core.List.{List, [], _∷_, _++_}
+use mathlib.Core.List.{List, [], _∷_, _++_, map}
 use lib.ListN.{length, take, drop, set, replicate}
 use Rattle.rules.specs.declared.Kind.the-variants.{Packets, Access}
 use Rattle.rules.specs.declared.Setting.{Setting}
@@ -12,9 +12,9 @@ use Rattle.rules.specs.declared.Class.{Class}
 use Rattle.rules.specs.declared.Place.{Place}
 use Rattle.rules.specs.declared.Place.the-variants.{At, Nowhere}
 use Rattle.rules.specs.Tests.{given}
-use Rattle.rules.specs.Octets.{checkOf}
+use Rattle.rules.specs.Octets.{flag, checkOf}
 use Rattle.rules.specs.Settings.{noChannel, noLane, noReader, noWriter, freshReader}
-use Rattle.rules.specs.Reading.{Made, laneStep}
+use Rattle.rules.specs.Reading.{DataUnit, octetsOf, Made, laneStep}
 use Rattle.rules.specs.Refusals.{refusals}
 use Rattle.rules.specs.Calls.{refusalOf, classRefusal, Sent, write, Got, read}
 use Rattle.rules.specs.Worked.{worked, packetLane, Case, case, each, numbers, packet₀, packet₁, frame₀, frame₁, recounted, packetOf, reads}
@@ -92,7 +92,11 @@ answer o = classShown (o .taken .answer .class) ∷ numbers o
 
 -- The units that a lane hands out, what it then holds, and the idle, fill and dropped octets.
 unfoldable pub shown : Made → List (List ℕ)
-shown m = m .units ++ (m .held ∷ (m .idle ∷ m .fill ∷ m .dropped ∷ []) ∷ [])
+shown m = octetsOf (m .units) ++ (m .held ∷ (m .idle ∷ m .fill ∷ m .dropped ∷ []) ∷ [])
+
+-- Of each unit, whether it was begun in a frame before.
+abbrev pub begunBefore : Made → List ℕ
+begunBefore m = map (λ (u : DataUnit). flag (u .earlier)) (m .units)
 
 -- A packet lane and an access lane whose longest units have 64 and 42 octets: what is held, what the pointer points to, the zone.
 abbrev pub ofPackets : List ℕ → Place → List ℕ → List (List ℕ)
@@ -178,7 +182,14 @@ edges =
     ∷ case 14
     (ofPackets [] (At 0) ((0x03 ∷ 0xFF ∷ drop 2 (packetOf 10)) ++ replicate 11 0xE0)
     ++ ofPackets [] (At 0) ((0x07 ∷ 0xFE ∷ drop 2 (packetOf 10)) ++ replicate 11 0xE0))
-    ((0x03 ∷ 0xFF ∷ drop 2 (packetOf 10)) ∷ [] ∷ (11 ∷ 0 ∷ 0 ∷ []) ∷ (0x07 ∷ 0xFE ∷ drop 2 (packetOf 10)) ∷ [] ∷ (11 ∷ 0 ∷ 0 ∷ []) ∷ []) ∷ []
+    ((0x03 ∷ 0xFF ∷ drop 2 (packetOf 10)) ∷ [] ∷ (11 ∷ 0 ∷ 0 ∷ []) ∷ (0x07 ∷ 0xFE ∷ drop 2 (packetOf 10)) ∷ [] ∷ (11 ∷ 0 ∷ 0 ∷ []) ∷ [])
+    -- The packet that the lead ends was begun before, the one from the pointer on was not; nor was a unit by 001, but one by 010 was.
+    ∷ case 15
+    (begunBefore (laneStep Packets 64 0b000 (take 3 packet₀) (At 7) (drop 3 packet₀ ++ packet₀ ++ replicate 4 0xE0))
+    ∷ begunBefore (laneStep Access 42 0b001 data21 (At 20) data21)
+    ∷ begunBefore (laneStep Access 42 0b010 data21 (At 20) data21)
+    ∷ [])
+    ((1 ∷ 0 ∷ []) ∷ (0 ∷ []) ∷ (1 ∷ []) ∷ []) ∷ []
 
 -- ---- edges of the frame and of the calls
 

@@ -24,7 +24,7 @@ use Rattle.rules.specs.Areas.{laid, joined, partSize}
 use Rattle.rules.specs.Settings.{channel, lane, withSlot, count, number, settingOk, freshReader, freshWriter, noReader, noWriter}
 use Rattle.rules.specs.Frames.{vc, map, bypass, command, countIn}
 use Rattle.rules.specs.Writing.{frameOf, writerAfter}
-use Rattle.rules.specs.Reading.{gap, Made, keeps, recordsFrom, infoOf}
+use Rattle.rules.specs.Reading.{gap, octetsOf, Made, keeps, recordsFrom, infoOf}
 use Rattle.rules.specs.Refusals.{channelAt, laneAt}
 use Rattle.rules.specs.Calls.{refusalOf, classRefusal, writeRefusals, readRefusals, madeBy}
 
@@ -137,7 +137,7 @@ classValues Class.Counted g m = record { units = 0; octets = 0; missing = g .mis
 classValues Class.Read g m =
     record {
       units = length (m .units);
-      octets = length (joined (m .units));
+      octets = length (joined (octetsOf (m .units)));
       missing = g .missing;
       idle = m .idle;
       fill = m .fill;
@@ -169,7 +169,7 @@ pub record ReadGives (r : Reader) (f h u c : List ℕ) (o : Taken) (h′ u′ c�
   -- "In the held area only the octets that the Read lane holds after the call may change."
   pub held : h′ ≡ classArea (o .answer .class) h (laid h (partSize * laneIn (r .setting) f) ((madeIn r f h) .held))
   -- "Units stand back to back from the start of the unit area, each with one 16-octet record." "Areas past these are untouched."
-  pub units : u′ ≡ classArea (o .answer .class) u (laid u 0 (joined ((madeIn r f h) .units)))
+  pub units : u′ ≡ classArea (o .answer .class) u (laid u 0 (joined (octetsOf ((madeIn r f h) .units))))
   pub records :
       c′
       ≡ classArea (o .answer .class) c

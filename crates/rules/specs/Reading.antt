@@ -1,7 +1,7 @@
 -- "Reading": counts, then what a lane makes of a zone, then the records.
 use Prim.Native.Nat.{ℕ, zero, suc, _+_, _-_, _%_, _^_}
 use mathlib.Core.Bool.{Bool, true, false, cond}
-use mathlib.Core.List.{List, [], _∷_, _++_}
+use mathlib.Core.List.{List, [], _∷_, _++_, map}
 use lib.ListN.{length, take, drop}
 use Rattle.rules.specs.declared.Kind.{Kind}
 use Rattle.rules.specs.declared.Kind.the-variants.{Packets, Access}
@@ -20,7 +20,7 @@ use Rattle.rules.specs.declared.Fate.{Fate}
 use Rattle.rules.specs.declared.Fate.the-variants.{Hand, Blank, Hold, Drop}
 use Rattle.rules.specs.declared.Gap.{Gap}
 use Rattle.rules.specs.declared.Info.{Info}
-use Rattle.rules.specs.Tests.{_≤?_, _<?_, _=?_}
+use Rattle.rules.specs.Tests.{_≤?_, _<?_, _=?_, _≠?_}
 use Rattle.rules.specs.Octets.{be}
 use Rattle.rules.specs.Settings.{noSlot, channel, lane, channelOf, expect, withExpect}
 use Rattle.rules.specs.Packets.{measure}
@@ -66,11 +66,26 @@ unfoldable pub gap : Reader → ℕ → ℕ → Gap
 gap r c k =
     gapBy (withExpect r c (expected ((channel (r .setting) c) .octets) k)) c (missing ((channel (r .setting) c) .octets) (expect r c) k)
 
+-- ---- units
+
+-- A unit that a lane hands out: its octets, and whether it was begun in a frame before.
+pub record DataUnit : Type 0 where
+  pub octets : List ℕ
+  pub earlier : Bool
+
+-- Held octets, and those of this frame that follow them. Where none are held, it is wholly in this frame.
+abbrev pub unitFrom : List ℕ → List ℕ → DataUnit
+unitFrom held xs = record { octets = held ++ xs; earlier = length held ≠? 0 }
+
+-- The octets of each.
+abbrev pub octetsOf : List DataUnit → List (List ℕ)
+octetsOf us = map (λ (u : DataUnit). u .octets) us
+
 -- ---- what a lane makes of octets
 
 -- The units that it hands out, what it holds afterwards, and how many octets were idle, fill or dropped.
 pub record Made : Type 0 where
-  pub units : List (List ℕ)
+  pub units : List DataUnit
   pub held : List ℕ
   pub idle : ℕ
   pub fill : ℕ
@@ -93,7 +108,7 @@ abbrev pub fills : ℕ → Made
 fills n = record { units = []; held = []; idle = 0; fill = n; dropped = 0 }
 
 -- A unit, and then what is made of the octets after it.
-abbrev pub hands : List ℕ → Made → Made
+abbrev pub hands : DataUnit → Made → Made
 hands u m = record { units = u ∷ m .units; held = m .held; idle = m .idle; fill = m .fill; dropped = m .dropped }
 
 -- Idle octets, and then what is made of those after them.
@@ -111,12 +126,12 @@ both a b =
       dropped = a .dropped + b .dropped;
     }
 
--- What octets become, all of them together.
-abbrev pub become : Fate → List ℕ → Made
-become Hand xs = hands xs nothing
-become Blank xs = idles (length xs) nothing
-become Hold xs = holds xs
-become Drop xs = drops (length xs)
+-- What a unit's octets become, all of them together.
+abbrev pub become : Fate → DataUnit → Made
+become Hand u = hands u nothing
+become Blank u = idles (length (u .octets)) nothing
+become Hold u = holds (u .octets)
+become Drop u = drops (length (u .octets))
 
 -- ---- "Packet lane": held octets and lead
 
@@ -140,7 +155,7 @@ unfoldable pub leadFate : ℕ → Bool → Measure → ℕ → ℕ → Fate
 leadFate longest on m h n = cond (h =? 0) Drop (cond (n =? 0) Drop (joinedFate longest on m (h + n)))
 
 unfoldable pub lead : ℕ → Bool → List ℕ → List ℕ → Made
-lead longest on held xs = become (leadFate longest on (measure (held ++ xs)) (length held) (length xs)) (held ++ xs)
+lead longest on held xs = become (leadFate longest on (measure (held ++ xs)) (length held) (length xs)) (unitFrom held xs)
 
 -- ---- "Packet lane": the packets from the pointer on
 
@@ -158,7 +173,7 @@ nextOf longest Unreadable n = Lose
 
 -- The packet at the front, and then what the octets after it make.
 abbrev pub front : Next → List ℕ → (List ℕ → Made) → Made
-front (Give n) xs rest = hands (take n xs) (rest (drop n xs))
+front (Give n) xs rest = hands (unitFrom [] (take n xs)) (rest (drop n xs))
 front (Skip n) xs rest = idles n (rest (drop n xs))
 front Keep xs rest = holds xs
 front Lose xs rest = drops (length xs)
@@ -190,8 +205,8 @@ followFate longest finished h n = cond (h =? 0) Drop (unitFate longest finished 
 
 -- "Rule 001 drops what is held and begins."
 unfoldable pub portion : ℕ → Bool → Bool → List ℕ → List ℕ → Made
-portion longest finished true held xs = both (drops (length held)) (become (unitFate longest finished (length xs)) xs)
-portion longest finished false held xs = become (followFate longest finished (length held) (length xs)) (held ++ xs)
+portion longest finished true held xs = both (drops (length held)) (become (unitFate longest finished (length xs)) (unitFrom [] xs))
+portion longest finished false held xs = become (followFate longest finished (length held) (length xs)) (unitFrom held xs)
 
 -- "Octets after the last are fill." Told where the unit's last octet is, or that it goes on.
 unfoldable pub accessLane : ℕ → Bool → List ℕ → Place → List ℕ → Made
@@ -211,9 +226,9 @@ unfoldable pub recordOf : Info → ℕ → ℕ → List ℕ
 recordOf i start size = i .lane ∷ i .vc ∷ i .map ∷ i .service ∷ be 4 start ++ be 4 size ++ be 4 (i .count)
 
 -- "Units stand back to back from the start of the unit area, each with one 16-octet record."
-unfoldable pub recordsFrom : Info → ℕ → List (List ℕ) → List ℕ
+unfoldable pub recordsFrom : Info → ℕ → List DataUnit → List ℕ
 recordsFrom i start [] = []
-recordsFrom i start (u ∷ us) = recordOf i start (length u) ++ recordsFrom i (start + length u) us
+recordsFrom i start (u ∷ us) = recordOf i start (length (u .octets)) ++ recordsFrom i (start + length (u .octets)) us
 
 unfoldable pub infoOf : Setting → ℕ → ℕ → Info
 infoOf s l k =

@@ -10,11 +10,11 @@ use Rattle.rules.specs.declared.Next.{Next}
 use Rattle.rules.specs.declared.Next.the-variants.{Give, Skip, Keep, Lose}
 use Rattle.rules.specs.declared.Info.{Info}
 use Rattle.rules.specs.Packets.{measure}
-use Rattle.rules.specs.Reading.{Made, nothing, holds, drops, hands, idles, both, nextOf, front, walkUpTo, walk}
+use Rattle.rules.specs.Reading.{unitFrom, Made, nothing, holds, drops, hands, idles, both, nextOf, front, walkUpTo, walk}
 use Rattle.rules.proofs.Lanes.{next-cases, walk-front}
-use Rattle.handing.specs.declared.Tally.{Tally}
-use Rattle.handing.specs.Hands.{Room, Handed, Begun}
-use Rattle.handing.proofs.Laws.{hands-both, idles-both, room-first, begun-none, begun-is, begun-on, begun-room}
+use Rattle.units.specs.declared.Tally.{Tally}
+use Rattle.units.specs.Hands.{Room, Handed, Begun}
+use Rattle.units.proofs.Laws.{hands-both, idles-both, room-first, begun-none, begun-is, begun-on, begun-room}
 
 -- The rest of a zone, as it is lent.
 pub rest-lent : (z : List ℕ) (at : ℕ) → take (length z - at) (drop at z) ≡ drop at z
@@ -68,7 +68,7 @@ module _ {longest : ℕ} {z : List ℕ} {from : ℕ} {i : Info} {t : Tally} {u r
         (next-cases (Passed (length (drop at z))) longest (drop at z) (λ n a b c. (omega arith, b)) (λ n a b c. (a, b)) (λ h. tt) tt)
 
     -- A packet is lent from where it starts to where it ends.
-    pub given : {n : ℕ} → s ≡ Give n → Turn longest z at n (hands (take (at + n - at) (drop at z)) nothing)
+    pub given : {n : ℕ} → s ≡ Give n → Turn longest z at n (hands (unitFrom [] (take (at + n - at) (drop at z))) nothing)
     given {n} e =
         let q : Passed (length z - at) (Give n) = rw e at passed in
         let k : n ≡ at + n - at = omega arith in
@@ -76,8 +76,8 @@ module _ {longest : ℕ} {z : List ℕ} {from : ℕ} {i : Info} {t : Tally} {u r
           some = q .0;
           inside = q .1;
           split =
-              rw e at here ∙ hands-both (take n (drop at z)) (walk longest (drop n (drop at z)))
-              ∙ ap₂ (λ (i : ℕ) (xs : List ℕ). both (hands (take i (drop at z)) nothing) (walk longest xs)) k (drop-drop n at z);
+              rw e at here ∙ hands-both (unitFrom [] (take n (drop at z))) (walk longest (drop n (drop at z)))
+              ∙ ap₂ (λ (i : ℕ) (xs : List ℕ). both (hands (unitFrom [] (take i (drop at z))) nothing) (walk longest xs)) k (drop-drop n at z);
         }
 
     pub skipped : {n : ℕ} → s ≡ Skip n → Turn longest z at n (idles n nothing)

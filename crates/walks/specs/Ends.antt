@@ -4,8 +4,8 @@ use Prim.Native.Nat.{ℕ, _≤_}
 use lib.ListN.{length, drop}
 use Rattle.rules.specs.declared.Info.{Info}
 use Rattle.rules.specs.Reading.{Made, nothing, holds, drops}
-use Rattle.handing.specs.declared.Tally.{Tally}
-use Rattle.handing.specs.Hands.{Begun}
+use Rattle.units.specs.declared.Tally.{Tally}
+use Rattle.units.specs.Hands.{Begun}
 use Rattle.walks.specs.declared.Walk.{Walk}
 use Rattle.walks.specs.declared.Walk.the-variants.{Finished, Held, Dropped}
 use Rattle.walks.specs.declared.Walked.{Walked}

@@ -4,12 +4,12 @@ ghost use Prim.Native.Nat.{_≤_};
 ghost use lib.ListN.{length, drop};
 ghost use Rattle.rules.specs.Packets.{measure};
 ghost use Rattle.rules.specs.Reading.{nextOf, walk};
-ghost use Rattle.handing.specs.Hands.{Room, Went};
+ghost use Rattle.units.specs.Hands.{Room, Went};
 ghost use Rattle.walks.specs.Ends.{Left};
-use handing::Led;
-use handing::Tally;
-use rules::Info;
 use rules::Next;
+use units::Stand;
+use units::Tally;
+use units::Terms;
 
 // Where a walk over a zone ends: with the zone, at a packet that the zone's end cuts, or at one that drops the rest with itself.
 pub enum Walk {
@@ -33,29 +33,29 @@ fn next_at(longest: usize, octets: &[u8]) -> Next
 }
 
 // From octet `from` on, reads one packet after another.
-fn read_on(
-    longest: usize,
+fn walk_on(
+    terms: Terms,
+    t0: Tally,
     zone: &[u8],
     from: usize,
-    info: Info,
-    t0: Tally,
     units: &mut [u8],
     records: &mut [u8],
 ) -> Walked
-    requires { ⌜ (from ≤ length (now zone)) × Room t0 (now units) (now records) (walk longest (drop from (now zone))) ⌝ }
-    ensures { λ r. ⌜ Left info t0 (now (units .entry)) (now (records .entry)) (now (zone .entry)) (walk longest (drop from (now (zone .entry)))) r (now (units .exit)) (now (records .exit)) ⌝ }
+    requires { ⌜ (from ≤ length (now zone)) × Room t0 (now units) (now records) (walk (terms .longest) (drop from (now zone))) ⌝ }
+    ensures { λ r. ⌜ Left (terms .info) t0 (now (units .entry)) (now (records .entry)) (now (zone .entry)) (walk (terms .longest) (drop from (now (zone .entry)))) r (now (units .exit)) (now (records .exit)) ⌝ }
 {
+    let info = terms.info;
     let mut at = from;
     let mut t = t0;
     let end = loop {
         if zone.len() <= at {
             break Walk::Finished;
         }
-        let next = next_at(longest, &zone[at..]);
+        let next = next_at(terms.longest, &zone[at..]);
         match next {
             Next::Give(n) => {
                 let e = at + n;
-                t = handing::hand_out(&zone[..0], &zone[at..e], info, t, units, records);
+                t = units::hand_out(info, t, &zone[..0], &zone[at..e], units, records);
                 at = e;
             }
             Next::Skip(n) => {
@@ -75,37 +75,36 @@ fn read_on(
 
 // The packets from the pointer on: a tail that the zone's end cuts goes to the lane's part of the held area.
 pub fn walk_step(
-    longest: usize,
+    terms: Terms,
+    t: Tally,
     zone: &[u8],
     from: usize,
     part: &mut [u8],
-    info: Info,
-    t: Tally,
     units: &mut [u8],
     records: &mut [u8],
-) -> Led
-    requires { ⌜ (from ≤ length (now zone)) × (length (now zone) ≤ length (now part)) × Room t (now units) (now records) (walk longest (drop from (now zone))) ⌝ }
-    ensures { λ r. ⌜ Went info t (now (units .entry)) (now (records .entry)) (now (part .entry)) (walk longest (drop from (now (zone .entry)))) r (now (units .exit)) (now (records .exit)) (now (part .exit)) ⌝ }
+) -> Stand
+    requires { ⌜ (from ≤ length (now zone)) × (length (now zone) ≤ length (now part)) × Room t (now units) (now records) (walk (terms .longest) (drop from (now zone))) ⌝ }
+    ensures { λ r. ⌜ Went (terms .info) t (now (units .entry)) (now (records .entry)) (now (part .entry)) (walk (terms .longest) (drop from (now (zone .entry)))) r (now (units .exit)) (now (records .exit)) (now (part .exit)) ⌝ }
 {
     let n = zone.len();
-    let w = read_on(longest, zone, from, info, t, units, records);
+    let w = walk_on(terms, t, zone, from, units, records);
     let end = w.end;
     let mut s = w.tally;
     match end {
         Walk::Finished => {
-            return Led { tally: s, held: 0 };
+            return Stand { tally: s, held: 0 };
         }
         Walk::Held(at) => {
             let rest = n - at;
             octets::lay(part, 0, &zone[at..]);
-            return Led {
+            return Stand {
                 tally: s,
                 held: rest,
             };
         }
         Walk::Dropped(at) => {
             s.dropped = s.dropped + (n - at);
-            return Led { tally: s, held: 0 };
+            return Stand { tally: s, held: 0 };
         }
     }
 }

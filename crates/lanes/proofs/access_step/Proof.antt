@@ -6,7 +6,7 @@ use lib.ListN.{length, take}
 use lib.Seq.{length-take-le}
 use borrow.Author.Needs.{needs}
 use Rattle.rules.specs.Reading.{accessLane}
-use Rattle.handing.proofs.Laws.{only-counted, went-after}
+use Rattle.units.proofs.Laws.{only-counted, went-after}
 use Rattle.lanes.proofs.Parts.{ready-second}
 use Rattle.lanes.proofs.access_step.Statement.{statement}
 use Rattle.lanes.proofs.access_step.Tie as tie
@@ -17,29 +17,29 @@ enum-known-place c = search needs
 add-e : tie.Need-add-e
 add-e c = let q = rw (c .before .place .given .1) at (c .before .before .before .before .before .before .before .pre .0) in search needs
 
-sub-s : tie.Need-sub-s
-sub-s c = let q = rw (c .before .place .given .1) at (c .before .before .before .before .before .before .before .pre .0) in search needs
+sub-t : tie.Need-sub-t
+sub-t c = let q = rw (c .before .before .place .given .1) at (c .before .before .before .before .before .before .before .before .pre .0) in search needs
 
-add-s : tie.Need-add-s
-add-s c = search needs
+add-t : tie.Need-add-t
+add-t c = search needs
 
 slice-aggregate-portion-step : tie.Need-slice-aggregate-portion-step
 slice-aggregate-portion-step c =
     let c₈ = c .before .before .before .before .before .before .before .before in
-    let q = rw (c .before .before .before .before .place .given .1) at (c₈ .before .before .pre .0) in sym (length-take-le _ _ (omega arith))
+    let q = rw (c .before .before .before .before .before .place .given .1) at (c₈ .before .before .before .pre .0) in sym (length-take-le _ _ (omega arith))
 
 portion-step-requires : tie.Need-portion-step-requires
 unfolding accessLane
 portion-step-requires c κs =
     let c₈ = c .before .before .before .before .before .before .before .before in
-    let a = c₈ .before .before .before .before .args in
-    let p = c .before .before .before .before .before .before .place .given .0 .0 in
-    let q : p < length (a .zone .now) = rw (c .before .before .before .before .before .before .place .given .1) at
-    (c₈ .before .before .before .before .pre .0) in
+    let a = c₈ .before .before .before .before .before .args in
+    let p = c .before .before .before .before .before .before .before .place .given .0 .0 in
+    let q : p < length (a .zone .now) = rw (c .before .before .before .before .before .before .before .place .given .1) at
+    (c₈ .before .before .before .before .before .pre .0) in
     let n : length (take (p + 1) (a .zone .now)) ≡ p + 1 = length-take-le (p + 1) (a .zone .now) (omega arith) in
-    ready-second _ _ (rw (c .before .before .before .before .before .before .place .given .1) at (c₈ .before .before .before .before .pre .1)) (a .h)
-    (take (p + 1) (a .zone .now)) (c₈ .before .before .before .before .pre .1 .inside) (omega arith)
-    (only-counted {i = a .info} refl refl refl (omega arith) refl (omega arith))
+    ready-second _ _ (rw (c .before .before .before .before .before .before .before .place .given .1) at (c₈ .before .before .before .before .before .pre .1))
+    (take (p + 1) (a .zone .now)) (c₈ .before .before .before .before .before .pre .1 .inside) (omega arith)
+    (only-counted {i = a .terms .info} refl refl refl (omega arith) refl (omega arith))
 
 same-length : tie.Need-same-length
 same-length c = search needs
@@ -55,8 +55,8 @@ unfolding accessLane
 returns c =
     let c₈ = c .before .before .before .before .before .before .before .before in
     let c₁₆ = c₈ .before .before .before .before .before .before .before .before in
-    rw (c₈ .before .before .before .before .before .place .given .1)
-    (went-after _ _ (rw (c₈ .before .before .before .before .before .place .given .1) at (c₁₆ .before .before .before .pre .1 .room))
+    rw (c₈ .before .before .before .before .before .before .place .given .1)
+    (went-after _ _ (rw (c₈ .before .before .before .before .before .before .place .given .1) at (c₁₆ .before .before .before .before .pre .1 .room))
     (only-counted refl refl refl (omega arith) refl (omega arith)) (c .before .before .before .before .before .before .portion-step .ensures))
 
 enum-told : tie.Need-enum-told
@@ -89,8 +89,8 @@ access-step-spec =
     (tie.spec
     enum-known-place
     add-e
-    sub-s
-    add-s
+    sub-t
+    add-t
     slice-aggregate-portion-step
     portion-step-requires
     same-length

@@ -2,7 +2,7 @@
 use mathlib.Core.Path.{sym}
 use native.Mathlib.Omega.{arith}
 use borrow.Author.Needs.{needs}
-use Rattle.handing.proofs.Laws.{held-length}
+use Rattle.units.proofs.Laws.{held-length}
 use Rattle.lanes.proofs.Parts.{lead-is}
 use Rattle.lanes.proofs.lead_step.Statement.{statement}
 use Rattle.lanes.proofs.lead_step.Tie as tie
@@ -11,10 +11,10 @@ slice-reshare-prefix-measure-of : tie.Need-slice-reshare-prefix-measure-of
 slice-reshare-prefix-measure-of c = search needs
 
 slice-aggregate-measure-of : tie.Need-slice-aggregate-measure-of
-slice-aggregate-measure-of c = sym (held-length (c .before .before .before .before .before .pre))
+slice-aggregate-measure-of c = sym (held-length (c .before .before .before .before .before .before .pre))
 
 measure-of-requires : tie.Need-measure-of-requires
-measure-of-requires c κs = omega (arith, held-length (c .before .before .before .before .before .pre), c .before .before .before .before .before .pre)
+measure-of-requires c κs = omega (arith, held-length (c .before .before .before .before .before .before .pre), c .before .before .before .before .before .before .pre)
 
 lead-fate-requires : tie.Need-lead-fate-requires
 lead-fate-requires c κs = search needs
@@ -22,8 +22,8 @@ lead-fate-requires c κs = search needs
 settle-requires : tie.Need-settle-requires
 settle-requires c κs =
     let c₈ = c .before .before .before .before .before .before .before .before in
-    rw (lead-is (c₈ .before .before .pre) _ _ (c .before .before .before .before .measure-of .ensures) (c .before .before .before .lead-fate .ensures)) at
-    (c₈ .before .before .pre)
+    rw (lead-is (c₈ .before .before .before .pre) _ _ (c .before .before .before .before .measure-of .ensures) (c .before .before .before .lead-fate .ensures)) at
+    (c₈ .before .before .before .pre)
 
 same-length : tie.Need-same-length
 same-length c = search needs
@@ -38,7 +38,7 @@ returns : tie.Need-returns
 returns c =
     let c₈ = c .before .before .before .before .before .before .before .before in
     let c₁₆ = c₈ .before .before .before .before .before .before .before .before in
-    rw (lead-is (c₁₆ .before .pre) _ _ (c₈ .before .before .before .measure-of .ensures) (c₈ .before .before .lead-fate .ensures))
+    rw (lead-is (c₁₆ .before .before .pre) _ _ (c₈ .before .before .before .measure-of .ensures) (c₈ .before .before .lead-fate .ensures))
     (c .before .before .before .before .before .before .settle .ensures)
 
 pub lead-step-spec : {M : Type 1} → statement M

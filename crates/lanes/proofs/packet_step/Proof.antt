@@ -6,8 +6,9 @@ use lib.ListN.{length, take}
 use lib.Seq.{length-take-le}
 use borrow.Author.Needs.{needs}
 use Rattle.rules.specs.Reading.{packetLane}
-use Rattle.handing.proofs.Laws.{room-second}
-use Rattle.lanes.proofs.Parts.{ready-first, went-both, lead-none}
+use Rattle.units.proofs.Laws.{room-second}
+use Rattle.rules.proofs.Lanes.{lead-held}
+use Rattle.lanes.proofs.Parts.{ready-first, went-both}
 use Rattle.lanes.proofs.packet_step.Statement.{statement}
 use Rattle.lanes.proofs.packet_step.Tie as tie
 
@@ -28,16 +29,16 @@ lead-step-requires c κs =
     let q : p < length (a .zone .now) = rw (c .before .before .before .before .before .place .given .1) at (c₈ .before .before .before .pre .0) in
     let n : length (take p (a .zone .now)) ≡ p = length-take-le p (a .zone .now) (omega arith) in
     ready-first _ _ (rw (c .before .before .before .before .before .place .given .1) at (c₈ .before .before .before .pre .2)) (take p (a .zone .now))
-    (lead-none _ _ _) (omega arith)
+    (lead-held _ _ _) (omega arith)
 
 walk-step-requires : tie.Need-walk-step-requires
 unfolding packetLane
 walk-step-requires c κs =
     let c₈ = c .before .before .before .before .before .before .before .before in
     let c₁₆ = c₈ .before .before .before .before .before .before .before .before in
-    let q = rw (c₈ .before .before .before .before .before .before .before .before .place .given .1) at
+    let q = rw (c₁₆ .place .given .1) at
     (c₁₆ .before .before .before .before .before .before .pre .0) in
-    let r = rw (c₈ .before .before .before .before .before .before .before .before .place .given .1) at
+    let r = rw (c₁₆ .place .given .1) at
     (c₁₆ .before .before .before .before .before .before .pre .2 .room) in
     (omega arith, search needs, room-second _ _ r (c₈ .before .before .lead-step .ensures .handed))
 
@@ -58,7 +59,7 @@ returns c =
     let c₂₄ = c₁₆ .before .before .before .before .before .before .before .before in
     rw (c₁₆ .before .before .before .before .before .before .before .place .given .1)
     (went-both _ _ (rw (c₁₆ .before .before .before .before .before .before .before .place .given .1) at
-    (c₂₄ .before .before .before .before .before .pre .2)) (lead-none _ _ _) (c₁₆ .before .lead-step .ensures)
+    (c₂₄ .before .before .before .before .before .pre .2)) (lead-held _ _ _) (c₁₆ .before .lead-step .ensures)
     (c .before .before .before .before .before .before .walk-step .ensures))
 
 enum-told : tie.Need-enum-told

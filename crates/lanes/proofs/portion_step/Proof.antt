@@ -2,13 +2,13 @@
 use mathlib.Core.Path.{refl}
 use native.Mathlib.Omega.{arith}
 use borrow.Author.Needs.{needs}
-use Rattle.handing.proofs.Laws.{only-counted, went-after}
+use Rattle.units.proofs.Laws.{only-counted, went-after}
 use Rattle.lanes.proofs.Parts.{ready-second, begin-is, follow-is}
 use Rattle.lanes.proofs.portion_step.Statement.{statement}
 use Rattle.lanes.proofs.portion_step.Tie as tie
 
-add-s : tie.Need-add-s
-add-s c = search needs
+add-t : tie.Need-add-t
+add-t c = search needs
 
 unit-fate-requires : tie.Need-unit-fate-requires
 unit-fate-requires c κs = search needs
@@ -16,9 +16,10 @@ unit-fate-requires c κs = search needs
 settle-requires : tie.Need-settle-requires
 settle-requires c κs =
     let c₈ = c .before .before .before .before .before .before .before .before in
-    let e = begin-is (c₈ .before .before .pre) _ _ (c .before .before .before .before .before .if1 .taken) (c .before .before .before .unit-fate .ensures) in
-    ready-second _ _ (rw e at (c₈ .before .before .pre)) 0 (c₈ .before .before .args .next .now) (omega arith) (omega arith)
-    (only-counted {i = c₈ .before .before .args .info} refl refl refl (omega arith) (omega arith) refl)
+    let e = begin-is (c₈ .before .before .before .before .before .pre) _ _ (c .before .before .before .before .before .before .before .if1 .taken) (c .before .before .before .unit-fate .ensures) in
+    ready-second _ _ (rw e at (c₈ .before .before .before .before .before .pre))
+    (c₈ .before .before .before .before .before .args .next .now) (omega arith) (omega arith)
+    (only-counted {i = c₈ .before .before .before .before .before .args .terms .info} refl refl refl (omega arith) (omega arith) refl)
 
 same-length : tie.Need-same-length
 same-length c = search needs
@@ -33,8 +34,8 @@ returns : tie.Need-returns
 returns c =
     let c₈ = c .before .before .before .before .before .before .before .before in
     let c₁₆ = c₈ .before .before .before .before .before .before .before .before in
-    let e = begin-is (c₁₆ .before .pre) _ _ (c₈ .before .before .before .before .if1 .taken) (c₈ .before .before .unit-fate .ensures) in
-    rw e (went-after _ _ (rw e at (c₁₆ .before .pre .room)) (only-counted refl refl refl (omega arith) (omega arith) refl)
+    let e = begin-is (c₁₆ .before .before .before .before .pre) _ _ (c₈ .before .before .before .before .before .before .if1 .taken) (c₈ .before .before .unit-fate .ensures) in
+    rw e (went-after _ _ (rw e at (c₁₆ .before .before .before .before .pre .room)) (only-counted refl refl refl (omega arith) (omega arith) refl)
     (c .before .before .before .before .before .before .settle .ensures))
 
 follow-fate-requires : tie.Need-follow-fate-requires
@@ -43,7 +44,7 @@ follow-fate-requires c κs = search needs
 settle-requires-2 : tie.Need-settle-requires-2
 settle-requires-2 c κs =
     let c₈ = c .before .before .before .before .before .before .before .before in
-    rw (follow-is (c₈ .before .pre) _ _ (c .before .before .before .before .if1 .left) (c .before .before .before .follow-fate .ensures)) at (c₈ .before .pre)
+    rw (follow-is (c₈ .before .before .pre) _ _ (c .before .before .before .before .if1 .left) (c .before .before .before .follow-fate .ensures)) at (c₈ .before .before .pre)
 
 same-length-4 : tie.Need-same-length-4
 same-length-4 c = search needs
@@ -57,14 +58,15 @@ same-length-6 c = search needs
 returns-2 : tie.Need-returns-2
 returns-2 c =
     let c₈ = c .before .before .before .before .before .before .before .before in
-    rw (follow-is (c₈ .before .before .before .before .before .before .before .before .pre) _ _ (c₈ .before .before .before .if1 .left)
+    let c₁₆ = c₈ .before .before .before .before .before .before .before .before in
+    rw (follow-is (c₁₆ .before .pre) _ _ (c₈ .before .before .before .if1 .left)
     (c₈ .before .before .follow-fate .ensures)) (c .before .before .before .before .before .before .settle2 .ensures)
 
 pub portion-step-spec : {M : Type 1} → statement M
 portion-step-spec =
     tie.close
     (tie.spec
-    add-s
+    add-t
     unit-fate-requires
     settle-requires
     same-length

@@ -4,13 +4,13 @@ use native.Mathlib.Omega.{arith}
 use lib.ListN.{length-drop}
 use borrow.Author.Needs.{needs}
 use Rattle.rules.specs.Areas.{laid}
-use Rattle.handing.proofs.Laws.{begun-room, begun-went, only-counted, part-stays}
+use Rattle.units.proofs.Laws.{begun-room, begun-went, only-counted, part-stays}
 use Rattle.walks.proofs.Walks.{rest-lent}
 use Rattle.walks.proofs.walk_step.Statement.{statement}
 use Rattle.walks.proofs.walk_step.Tie as tie
 
-read-on-requires : tie.Need-read-on-requires
-read-on-requires c κs = search needs
+walk-on-requires : tie.Need-walk-on-requires
+walk-on-requires c κs = search needs
 
 enum-told : tie.Need-enum-told
 enum-told c = search needs
@@ -25,25 +25,25 @@ returns : tie.Need-returns
 returns c =
     let c₈ = c .before .before .before .before .before .before .before .before in
     begun-went (c₈ .before .before .before .before .before .before .pre .2)
-    (rw (c .enum-told .given .1) at (c .before .before .before .before .before .before .before .read-on .ensures .begun))
+    (rw (c .enum-told .given .1) at (c .before .before .before .before .before .before .before .walk-on .ensures .begun))
     (part-stays refl (only-counted refl refl refl (omega arith) (omega arith) (omega arith)))
 
 enum-known-end : tie.Need-enum-known-end
 enum-known-end c = search needs
 
 sub-rest : tie.Need-sub-rest
-sub-rest c = let q = rw (c .before .end .given .1) at (c .before .before .before .before .before .before .before .before .read-on .ensures .within)
+sub-rest c = let q = rw (c .before .end .given .1) at (c .before .before .before .before .before .before .before .before .walk-on .ensures .within)
     in search needs
 
 sub-lay : tie.Need-sub-lay
 sub-lay c =
     let c₈ = c .before .before .before .before .before .before .before .before in
-    let q = rw (c .before .before .end .given .1) at (c₈ .before .read-on .ensures .within) in search needs
+    let q = rw (c .before .before .end .given .1) at (c₈ .before .walk-on .ensures .within) in search needs
 
 part-lay-start : tie.Need-part-lay-start
 part-lay-start c =
     let c₈ = c .before .before .before .before .before .before .before .before in
-    rw (c .before .before .end .given .1) at (c₈ .before .read-on .ensures .within)
+    rw (c .before .before .end .given .1) at (c₈ .before .walk-on .ensures .within)
 
 part-lay-end : tie.Need-part-lay-end
 part-lay-end c = search needs
@@ -67,7 +67,7 @@ returns-2 c =
     let a = c₁₆ .before .before .before .before .args in
     let from = c .before .before .before .before .before .before .end .given .0 .0 in
     begun-went (c₁₆ .before .before .before .before .pre .2) (rw (c .before .before .before .before .before .before .end .given .1) at
-    (c₈ .before .before .before .before .before .read-on .ensures .begun))
+    (c₈ .before .before .before .before .before .walk-on .ensures .begun))
     (record {
       handed = only-counted refl refl refl (omega arith) (omega arith) (omega arith);
       part = c .before .before .lay .ensures ∙ ap (laid (a .part .now) 0) (rest-lent (a .zone .now) from);
@@ -78,7 +78,7 @@ enum-known-end-2 : tie.Need-enum-known-end-2
 enum-known-end-2 c = search needs
 
 sub-s : tie.Need-sub-s
-sub-s c = let q = rw (c .before .end2 .given .1) at (c .before .before .before .before .before .before .before .before .read-on .ensures .within)
+sub-s c = let q = rw (c .before .end2 .given .1) at (c .before .before .before .before .before .before .before .before .walk-on .ensures .within)
     in search needs
 
 add-s : tie.Need-add-s
@@ -86,7 +86,7 @@ add-s c =
     let c₈ = c .before .before .before .before .before .before .before .before in
     let n = length-drop (c .before .before .end2 .given .0 .0) (c₈ .before .before .before .before .before .before .before .before .args .zone .now) in
     let q = begun-room (c₈ .before .before .before .before .before .before .before .before .pre .2)
-    (rw (c .before .before .end2 .given .1) at (c₈ .before .read-on .ensures .begun)) in
+    (rw (c .before .before .end2 .given .1) at (c₈ .before .walk-on .ensures .begun)) in
     search needs
 
 same-length-6 : tie.Need-same-length-6
@@ -100,14 +100,14 @@ returns-3 c =
     let c₈ = c .before .before .before .before .before .before .before .before in
     let n = length-drop (c .before .before .end2 .given .0 .0) (c₈ .before .before .before .before .before .before .before .before .args .zone .now) in
     begun-went (c₈ .before .before .before .before .before .before .before .before .pre .2)
-    (rw (c .before .before .end2 .given .1) at (c₈ .before .read-on .ensures .begun))
+    (rw (c .before .before .end2 .given .1) at (c₈ .before .walk-on .ensures .begun))
     (part-stays refl (only-counted refl refl refl (omega arith) (omega arith) (omega arith)))
 
 pub walk-step-spec : {M : Type 1} → statement M
 walk-step-spec =
     tie.close
     (tie.spec
-    read-on-requires
+    walk-on-requires
     enum-told
     same-length
     same-length-2

@@ -7,18 +7,18 @@ use native.Mathlib.Omega.{arith}
 use lib.ListN.{length}
 use borrow.Author.Needs.{needs}
 use Rattle.walks.proofs.Walks.{Walking, starts, finished, given, skipped, kept, lost, turn-room, turn-on}
-use Rattle.handing.proofs.Laws.{begun-units, begun-records, only-counted}
-use Rattle.walks.proofs.read_on.Statement.{statement}
-use Rattle.walks.proofs.read_on.Tie as tie
+use Rattle.units.proofs.Laws.{begun-units, begun-records, only-counted}
+use Rattle.walks.proofs.walk_on.Statement.{statement}
+use Rattle.walks.proofs.walk_on.Tie as tie
 
 abbrev Inv-loop : tie.InvT-loop
-Inv-loop longest zone from info units₀ records₀ at₀ t₀ units records at t = Walking longest zone from info t₀ units₀ records₀ at t units records
+Inv-loop terms zone from units₀ records₀ info at₀ t₀ units records at t = Walking (terms .longest) zone from (terms .info) t₀ units₀ records₀ at t units records
 
 abbrev μ-loop : tie.MeasureT-loop
-μ-loop longest zone from info units₀ records₀ at₀ t₀ units records at t = length zone - at
+μ-loop terms zone from units₀ records₀ info at₀ t₀ units records at t = length zone - at
 
 loop-holds : tie.Need-loop-holds Inv-loop μ-loop
-loop-holds c = starts (c .before .before .before .pre .0)
+loop-holds c = starts (c .before .before .before .before .pre .0)
 
 sub-next-at : tie.Need-sub-next-at Inv-loop μ-loop
 sub-next-at c = search needs
@@ -55,7 +55,7 @@ part-hand-out-end c = let turn = given (c .before .before .before .before .befor
 hand-out-requires : tie.Need-hand-out-requires Inv-loop μ-loop
 hand-out-requires c κs =
     let c₈ = c .before .before .before .before .before .before .before .before in
-    turn-room (c₈ .before .before .loop .inv) (c₈ .before .before .before .before .before .before .pre .1)
+    turn-room (c₈ .before .before .loop .inv) (c₈ .before .before .before .before .before .before .before .pre .1)
     (given (c₈ .before .before .loop .inv) (c .before .before .before .before .before .before .before .next-at .ensures)
     (c .before .before .before .before .before .next .given .1))
 
@@ -69,7 +69,7 @@ loop-again : tie.Need-loop-again Inv-loop μ-loop
 loop-again c =
     let c₈ = c .before .before .before .before .before .before .before .before in
     let c₁₆ = c₈ .before .before .before .before .before .before .before .before in
-    turn-on (c₈ .before .before .before .before .before .before .before .loop .inv) (c₁₆ .before .before .before .pre .1)
+    turn-on (c₈ .before .before .before .before .before .before .before .loop .inv) (c₁₆ .before .before .before .before .pre .1)
     (given (c₈ .before .before .before .before .before .before .before .loop .inv) (c₈ .before .before .before .before .next-at .ensures)
     (c₈ .before .before .next .given .1)) (c .before .before .before .before .hand-out .ensures)
 
@@ -79,7 +79,7 @@ enum-known-next-2 c = search needs
 add-t : tie.Need-add-t Inv-loop μ-loop
 add-t c =
     let c₈ = c .before .before .before .before .before .before .before .before in
-    let room = turn-room (c .before .before .before .before .before .before .before .loop .inv) (c₈ .before .before .before .pre .1)
+    let room = turn-room (c .before .before .before .before .before .before .before .loop .inv) (c₈ .before .before .before .before .pre .1)
     (skipped (c .before .before .before .before .before .before .before .loop .inv) (c .before .before .before .before .next-at .ensures)
     (c .before .before .next2 .given .1)) in
     search needs
@@ -95,7 +95,7 @@ loop-less-2 c = let turn = skipped (c .before .before .before .before .before .b
 loop-again-2 : tie.Need-loop-again-2 Inv-loop μ-loop
 loop-again-2 c =
     let c₈ = c .before .before .before .before .before .before .before .before in
-    turn-on (c .before .before .before .before .before .before .before .loop .inv) (c₈ .before .before .before .pre .1)
+    turn-on (c .before .before .before .before .before .before .before .loop .inv) (c₈ .before .before .before .before .pre .1)
     (skipped (c .before .before .before .before .before .before .before .loop .inv) (c .before .before .before .before .next-at .ensures)
     (c .before .before .next2 .given .1))
     (only-counted refl refl refl (omega arith) (omega arith) (omega arith))
@@ -107,10 +107,10 @@ enum-told-2 : tie.Need-enum-told-2 Inv-loop μ-loop
 enum-told-2 c = search needs
 
 same-length : tie.Need-same-length Inv-loop μ-loop
-same-length c = begun-units (c .before .before .before .before .before .pre .1) (c .before .loop .inv .begun)
+same-length c = begun-units (c .before .before .before .before .before .before .pre .1) (c .before .loop .inv .begun)
 
 same-length-2 : tie.Need-same-length-2 Inv-loop μ-loop
-same-length-2 c = begun-records (c .before .before .before .before .before .pre .1) (c .before .loop .inv .begun)
+same-length-2 c = begun-records (c .before .before .before .before .before .before .pre .1) (c .before .loop .inv .begun)
 
 returns : tie.Need-returns Inv-loop μ-loop
 returns c = record { within = tt; begun = finished (c .before .loop .inv) (c .if1 .taken) }
@@ -118,12 +118,12 @@ returns c = record { within = tt; begun = finished (c .before .loop .inv) (c .if
 same-length-3 : tie.Need-same-length-3 Inv-loop μ-loop
 same-length-3 c =
     let c₈ = c .before .before .before .before .before .before .before .before in
-    begun-units (c₈ .before .pre .1) (c .before .before .before .before .before .loop .inv .begun)
+    begun-units (c₈ .before .before .pre .1) (c .before .before .before .before .before .loop .inv .begun)
 
 same-length-4 : tie.Need-same-length-4 Inv-loop μ-loop
 same-length-4 c =
     let c₈ = c .before .before .before .before .before .before .before .before in
-    begun-records (c₈ .before .pre .1) (c .before .before .before .before .before .loop .inv .begun)
+    begun-records (c₈ .before .before .pre .1) (c .before .before .before .before .before .loop .inv .begun)
 
 returns-2 : tie.Need-returns-2 Inv-loop μ-loop
 returns-2 c = record {
@@ -135,12 +135,12 @@ returns-2 c = record {
 same-length-5 : tie.Need-same-length-5 Inv-loop μ-loop
 same-length-5 c =
     let c₈ = c .before .before .before .before .before .before .before .before in
-    begun-units (c₈ .before .pre .1) (c .before .before .before .before .before .loop .inv .begun)
+    begun-units (c₈ .before .before .pre .1) (c .before .before .before .before .before .loop .inv .begun)
 
 same-length-6 : tie.Need-same-length-6 Inv-loop μ-loop
 same-length-6 c =
     let c₈ = c .before .before .before .before .before .before .before .before in
-    begun-records (c₈ .before .pre .1) (c .before .before .before .before .before .loop .inv .begun)
+    begun-records (c₈ .before .before .pre .1) (c .before .before .before .before .before .loop .inv .begun)
 
 returns-3 : tie.Need-returns-3 Inv-loop μ-loop
 returns-3 c = record {
@@ -149,8 +149,8 @@ returns-3 c = record {
       (c .before .before .before .before .before .loop .inv) (c .before .before .next-at .ensures) (c .enum-told2 .given .1);
 }
 
-pub read-on-spec : {M : Type 1} → statement M
-read-on-spec =
+pub walk-on-spec : {M : Type 1} → statement M
+walk-on-spec =
     tie.close
     (tie.spec
     Inv-loop

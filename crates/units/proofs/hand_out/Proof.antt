@@ -8,9 +8,9 @@ use borrow.Author.Needs.{needs}
 use Rattle.rules.specs.Areas.{laid, recordSize}
 use Rattle.rules.specs.Reading.{recordOf}
 use Rattle.rules.proofs.Areas.{laid-laid}
-use Rattle.handing.proofs.Laws.{two-fit, one-handed}
-use Rattle.handing.proofs.hand_out.Statement.{statement}
-use Rattle.handing.proofs.hand_out.Tie as tie
+use Rattle.units.proofs.Laws.{two-fit, one-handed}
+use Rattle.units.proofs.hand_out.Statement.{statement}
+use Rattle.units.proofs.hand_out.Tie as tie
 
 add-middle : tie.Need-add-middle
 add-middle c = search needs
@@ -38,7 +38,10 @@ lay-record-requires : tie.Need-lay-record-requires
 lay-record-requires c κs = search needs
 
 add-t10 : tie.Need-add-t10
-add-t10 c = search needs
+add-t10 c =
+    let c₈ = c .before .before .before .before .before .before .before .before in
+    let c₁₆ = c₈ .before .before .before .before .before .before .before .before in
+    let g = c₁₆ .before .before .good .1 .1 .1 .1 .1 in search needs
 
 same-length : tie.Need-same-length
 same-length c = search needs

@@ -1,14 +1,14 @@
 // Units handed out into lent areas, and what becomes of held octets with those that follow them. Everything appends: a tally goes in
 // and comes out.
 ghost use mathlib.Core.Path.{_≡_};
-ghost use mathlib.Core.List.{_++_};
 ghost use Prim.Native.Nat.{_+_, _≤_};
 ghost use lib.ListN.{length, take};
 ghost use Rattle.rules.specs.Areas.{laid, recordSize};
-ghost use Rattle.rules.specs.Reading.{nothing, hands, become, recordOf};
-ghost use Rattle.handing.specs.Hands.{Room, Handed, Ready, Went};
+ghost use Rattle.rules.specs.Reading.{unitFrom, nothing, hands, become, recordOf};
+ghost use Rattle.units.specs.Hands.{Room, Handed, Ready, Went};
 use rules::Fate;
 use rules::Info;
+use rules::Kind;
 
 // How many units were handed out, how many octets they have, and how many octets were idle, fill or dropped.
 pub struct Tally {
@@ -19,10 +19,17 @@ pub struct Tally {
     pub dropped: usize,
 }
 
-// The tally after a step, and how many octets the lane then holds.
-pub struct Led {
+// How a lane stands in its step: the tally so far, and how many octets it holds.
+pub struct Stand {
     pub tally: Tally,
     pub held: usize,
+}
+
+// What a lane brings to its step: its kind and longest unit, and what the records of the frame have in common.
+pub struct Terms {
+    pub info: Info,
+    pub longest: usize,
+    pub kind: Kind,
 }
 
 // Lays the record of a unit of `size` octets from octet `start` on into `area` from octet `from` on.
@@ -39,15 +46,15 @@ fn lay_record(area: &mut [u8], from: usize, info: Info, start: usize, size: usiz
 
 // Hands out a unit of two parts: its octets, its record, and the tally with it.
 pub fn hand_out(
-    first: &[u8],
-    second: &[u8],
     info: Info,
     t: Tally,
+    first: &[u8],
+    second: &[u8],
     units: &mut [u8],
     records: &mut [u8],
 ) -> Tally
-    requires { ⌜ Room t (now units) (now records) (hands (now first ++ now second) nothing) ⌝ }
-    ensures { λ r. ⌜ Handed info t (now (units .entry)) (now (records .entry)) (hands (now (first .entry) ++ now (second .entry)) nothing) r (now (units .exit)) (now (records .exit)) ⌝ }
+    requires { ⌜ Room t (now units) (now records) (hands (unitFrom (now first) (now second)) nothing) ⌝ }
+    ensures { λ r. ⌜ Handed info t (now (units .entry)) (now (records .entry)) (hands (unitFrom (now (first .entry)) (now (second .entry))) nothing) r (now (units .exit)) (now (records .exit)) ⌝ }
 {
     let start = t.octets;
     let middle = start + first.len();
@@ -70,38 +77,38 @@ pub fn hand_out(
     }
 }
 
-// Does with h held octets and those that follow them what is to become of them.
+// Does with the held octets and those that follow them what is to become of them.
 pub fn settle(
+    info: Info,
+    s: Stand,
     fate: Fate,
     part: &mut [u8],
-    h: usize,
     next: &[u8],
-    info: Info,
-    t: Tally,
     units: &mut [u8],
     records: &mut [u8],
-) -> Led
-    requires { ⌜ Ready t (now units) (now records) (now part) h (now next) (become fate (take h (now part) ++ now next)) ⌝ }
-    ensures { λ r. ⌜ Went info t (now (units .entry)) (now (records .entry)) (now (part .entry)) (become fate (take h (now (part .entry)) ++ now (next .entry))) r (now (units .exit)) (now (records .exit)) (now (part .exit)) ⌝ }
+) -> Stand
+    requires { ⌜ Ready s (now units) (now records) (now part) (now next) (become fate (unitFrom (take (s .held) (now part)) (now next))) ⌝ }
+    ensures { λ r. ⌜ Went info (s .tally) (now (units .entry)) (now (records .entry)) (now (part .entry)) (become fate (unitFrom (take (s .held) (now (part .entry))) (now (next .entry)))) r (now (units .exit)) (now (records .exit)) (now (part .exit)) ⌝ }
 {
+    let h = s.held;
     let n = h + next.len();
-    let mut s = t;
+    let mut t = s.tally;
     match fate {
         Fate::Hand => {
-            s = hand_out(&part[..h], next, info, t, units, records);
-            return Led { tally: s, held: 0 };
+            t = hand_out(info, t, &part[..h], next, units, records);
+            return Stand { tally: t, held: 0 };
         }
         Fate::Blank => {
-            s.idle = s.idle + n;
-            return Led { tally: s, held: 0 };
+            t.idle = t.idle + n;
+            return Stand { tally: t, held: 0 };
         }
         Fate::Hold => {
             octets::lay(part, h, next);
-            return Led { tally: s, held: n };
+            return Stand { tally: t, held: n };
         }
         Fate::Drop => {
-            s.dropped = s.dropped + n;
-            return Led { tally: s, held: 0 };
+            t.dropped = t.dropped + n;
+            return Stand { tally: t, held: 0 };
         }
     }
 }

@@ -9,12 +9,13 @@ use lib.Seq.{length-take-le}
 use Rattle.rules.specs.declared.Info.{Info}
 use Rattle.rules.specs.Octets.{be}
 use Rattle.rules.specs.Areas.{laid, joined, recordSize}
-use Rattle.rules.specs.Reading.{Made, nothing, hands, idles, both, recordOf, recordsFrom}
+use Rattle.rules.specs.Reading.{DataUnit, unitFrom, octetsOf, Made, nothing, hands, idles, both, recordOf, recordsFrom}
 use Rattle.rules.proofs.Octets.{length-be}
-use Rattle.rules.proofs.Areas.{joined-append, laid-nil, laid-laid, length-laid}
-use Rattle.handing.specs.declared.Tally.{Tally}
-use Rattle.handing.specs.declared.Led.{Led}
-use Rattle.handing.specs.Hands.{Room, Handed, Begun, Ready, Went}
+use Rattle.rules.proofs.Areas.{laid-nil, laid-laid, length-laid}
+use Rattle.rules.proofs.Lanes.{octets-append, octets-both}
+use Rattle.units.specs.declared.Tally.{Tally}
+use Rattle.units.specs.declared.Stand.{Stand}
+use Rattle.units.specs.Hands.{Room, Handed, Begun, Ready, Went}
 
 -- ---- records
 
@@ -22,23 +23,25 @@ pub length-record : (i : Info) (start size : ℕ) → length (recordOf i start s
 unfolding recordOf be
 length-record i start size = refl
 
-length-records : (i : Info) (start : ℕ) (us : List (List ℕ)) → length (recordsFrom i start us) ≡ recordSize * length us
+length-records : (i : Info) (start : ℕ) (us : List DataUnit) → length (recordsFrom i start us) ≡ recordSize * length us
 unfolding recordsFrom
 length-records i start [] = refl
 length-records i start (u ∷ us) =
-    length-append (recordOf i start (length u)) (recordsFrom i (start + length u) us)
-    ∙ ap₂ _+_ (length-record i start (length u)) (length-records i (start + length u) us) ∙ omega arith
+    length-append (recordOf i start (length (u .octets))) (recordsFrom i (start + length (u .octets)) us)
+    ∙ ap₂ _+_ (length-record i start (length (u .octets))) (length-records i (start + length (u .octets)) us) ∙ omega arith
 
-records-append : (i : Info) (start : ℕ) (es bs : List (List ℕ))
-    → recordsFrom i start (es ++ bs) ≡ recordsFrom i start es ++ recordsFrom i (start + length (joined es)) bs
+records-append : (i : Info) (start : ℕ) (es bs : List DataUnit)
+    → recordsFrom i start (es ++ bs) ≡ recordsFrom i start es ++ recordsFrom i (start + length (joined (octetsOf es))) bs
 unfolding recordsFrom joined
 records-append i start [] bs = ap (λ (n : ℕ). recordsFrom i n bs) (sym (add-zero start))
 records-append i start (e ∷ es) bs =
-    let n : start + length e + length (joined es) ≡ start + length (e ++ joined es) = add-assoc start (length e) (length (joined es)) ∙ ap
-    (λ (k : ℕ). start + k) (sym (length-append e (joined es))) in
-    ap (λ (x : List ℕ). recordOf i start (length e) ++ x)
-    (records-append i (start + length e) es bs ∙ ap (λ (k : ℕ). recordsFrom i (start + length e) es ++ recordsFrom i k bs) n)
-    ∙ sym (append-assoc (recordOf i start (length e)) (recordsFrom i (start + length e) es) (recordsFrom i (start + length (e ++ joined es)) bs))
+    let x = e .octets in
+    let xs = joined (octetsOf es) in
+    let n : start + length x + length xs ≡ start + length (x ++ xs) = add-assoc start (length x) (length xs) ∙ ap (λ (k : ℕ). start + k)
+    (sym (length-append x xs)) in
+    ap (λ (y : List ℕ). recordOf i start (length x) ++ y)
+    (records-append i (start + length x) es bs ∙ ap (λ (k : ℕ). recordsFrom i (start + length x) es ++ recordsFrom i k bs) n)
+    ∙ sym (append-assoc (recordOf i start (length x)) (recordsFrom i (start + length x) es) (recordsFrom i (start + length (x ++ xs)) bs))
 
 -- Four octets and three numbers of four, laid one after another, are a record.
 pub record-laid : (area : List ℕ) (from : ℕ) (i : Info) (start size : ℕ) → from + recordSize ≤ length area
@@ -60,7 +63,7 @@ record-laid area from i start size room =
 
 -- ---- one after the other, of what is made
 
-made-same : {us vs : List (List ℕ)} {h : List ℕ} {i j f g d e : ℕ} → us ≡ vs → i ≡ j → f ≡ g → d ≡ e
+made-same : {us vs : List DataUnit} {h : List ℕ} {i j f g d e : ℕ} → us ≡ vs → i ≡ j → f ≡ g → d ≡ e
     → _≡_ {A = Made} (record { units = us; held = h; idle = i; fill = f; dropped = d }) (record { units = vs; held = h; idle = j; fill = g; dropped = e })
 made-same a b c d = rw (a, b, c, d)
 
@@ -72,7 +75,7 @@ both-both : (a b c : Made) → both a (both b c) ≡ both (both a b) c
 unfolding both
 both-both a b c = made-same (sym (append-assoc (a .units) (b .units) (c .units))) (omega arith) (omega arith) (omega arith)
 
-pub hands-both : (x : List ℕ) (m : Made) → hands x m ≡ both (hands x nothing) m
+pub hands-both : (x : DataUnit) (m : Made) → hands x m ≡ both (hands x nothing) m
 unfolding both
 hands-both x m = made-same refl (sym (zero-add _)) (sym (zero-add _)) (sym (zero-add _))
 
@@ -80,16 +83,13 @@ pub idles-both : (n : ℕ) (m : Made) → idles n m ≡ both (idles n nothing) m
 unfolding both
 idles-both n m = made-same refl (omega arith) (sym (zero-add _)) (sym (zero-add _))
 
-joined-both : (es bs : List (List ℕ)) → length (joined (es ++ bs)) ≡ length (joined es) + length (joined bs)
-joined-both es bs = ap length (joined-append es bs) ∙ length-append (joined es) (joined bs)
-
 -- ---- one after the other, in the areas
 
 module _ {t : Tally} {u r : List ℕ} (a b : Made) (room : Room t u r (both a b)) where
   pub room-first : Room t u r a
   unfolding both
   room-first =
-      let j = joined-both (a .units) (b .units) in
+      let j = octets-both (a .units) (b .units) in
       let n = length-append (a .units) (b .units) in
       record {
         octets = omega arith;
@@ -102,7 +102,7 @@ module _ {t : Tally} {u r : List ℕ} (a b : Made) (room : Room t u r (both a b)
   module _ {i : Info} {t₁ : Tally} {u₁ r₁ : List ℕ} (first : Handed i t u r a t₁ u₁ r₁) where
     -- The areas keep their lengths.
     pub units-stay : length u₁ ≡ length u
-    units-stay = ap length (first .unitArea) ∙ length-laid u (t .octets) (joined (a .units)) (room-first .octets)
+    units-stay = ap length (first .unitArea) ∙ length-laid u (t .octets) (joined (octetsOf (a .units))) (room-first .octets)
 
     pub records-stay : length r₁ ≡ length r
     records-stay =
@@ -113,7 +113,7 @@ module _ {t : Tally} {u r : List ℕ} (a b : Made) (room : Room t u r (both a b)
     pub room-second : Room t₁ u₁ r₁ b
     unfolding both
     room-second =
-        let j = joined-both (a .units) (b .units) in
+        let j = octets-both (a .units) (b .units) in
         let n = length-append (a .units) (b .units) in
         record {
           octets = omega (arith, units-stay);
@@ -126,15 +126,15 @@ module _ {t : Tally} {u r : List ℕ} (a b : Made) (room : Room t u r (both a b)
     pub handed-both : {t₂ : Tally} {u₂ r₂ : List ℕ} → Handed i t₁ u₁ r₁ b t₂ u₂ r₂ → Handed i t u r (both a b) t₂ u₂ r₂
     unfolding both
     handed-both second =
-        let j = joined-both (a .units) (b .units) in
+        let j = octets-both (a .units) (b .units) in
         let n = length-append (a .units) (b .units) in
         let k = length-records i (t .octets) (a .units) in
         let at : recordSize * t₁ .count ≡ recordSize * t .count + length (recordsFrom i (t .octets) (a .units)) = omega arith in
         record {
           unitArea =
-              second .unitArea ∙ ap₂ (λ (x : List ℕ) (n : ℕ). laid x n (joined (b .units))) (first .unitArea) (first .octets)
-              ∙ laid-laid u (t .octets) (joined (a .units)) (room-first .octets) (joined (b .units))
-              ∙ ap (laid u (t .octets)) (sym (joined-append (a .units) (b .units)));
+              second .unitArea ∙ ap₂ (λ (x : List ℕ) (n : ℕ). laid x n (joined (octetsOf (b .units)))) (first .unitArea) (first .octets)
+              ∙ laid-laid u (t .octets) (joined (octetsOf (a .units))) (room-first .octets) (joined (octetsOf (b .units)))
+              ∙ ap (laid u (t .octets)) (sym (octets-append (a .units) (b .units)));
           recordArea =
               second .recordArea ∙ ap₂ (λ (x : List ℕ) (n : ℕ). laid x n (recordsFrom i (t₁ .octets) (b .units))) (first .recordArea) at
               ∙ laid-laid r (recordSize * t .count) (recordsFrom i (t .octets) (a .units)) (omega (arith, room-first .records))
@@ -148,7 +148,7 @@ module _ {t : Tally} {u r : List ℕ} (a b : Made) (room : Room t u r (both a b)
           dropped = omega arith;
         }
 
-    pub went-after : {d : List ℕ} {l : Led} {u₂ r₂ d₂ : List ℕ} → Went i t₁ u₁ r₁ d b l u₂ r₂ d₂ → Went i t u r d (both a b) l u₂ r₂ d₂
+    pub went-after : {d : List ℕ} {s : Stand} {u₂ r₂ d₂ : List ℕ} → Went i t₁ u₁ r₁ d b s u₂ r₂ d₂ → Went i t u r d (both a b) s u₂ r₂ d₂
     unfolding both
     went-after second = record { handed = handed-both (second .handed); part = second .part; held = second .held }
 
@@ -199,7 +199,7 @@ module _ {i : Info} {t : Tally} {u r : List ℕ} {whole rest : Made} {t₁ : Tal
       }
 
   -- All of the rest is handed out, or held.
-  pub begun-went : {d : List ℕ} {l : Led} {u₂ r₂ d₂ : List ℕ} → Went i t₁ u₁ r₁ d rest l u₂ r₂ d₂ → Went i t u r d whole l u₂ r₂ d₂
+  pub begun-went : {d : List ℕ} {s : Stand} {u₂ r₂ d₂ : List ℕ} → Went i t₁ u₁ r₁ d rest s u₂ r₂ d₂ → Went i t u r d whole s u₂ r₂ d₂
   begun-went last = rw (begun .split) (went-after (begun .sofar) rest all-room (begun .handed) last)
 
 -- The rest, said otherwise.
@@ -215,10 +215,10 @@ pub only-counted : {i : Info} {t : Tally} {u r : List ℕ} {m : Made} {t′ : Ta
 unfolding joined recordsFrom
 only-counted {i} {t} {u} {r} {m} e count octets idle fill dropped =
     let n : length (m .units) ≡ 0 = ap length e in
-    let j : length (joined (m .units)) ≡ 0 = ap (λ (us : List (List ℕ)). length (joined us)) e in
+    let j : length (joined (octetsOf (m .units))) ≡ 0 = ap (λ (us : List DataUnit). length (joined (octetsOf us))) e in
     record {
-      unitArea = sym (ap (λ (us : List (List ℕ)). laid u (t .octets) (joined us)) e ∙ laid-nil u (t .octets));
-      recordArea = sym (ap (λ (us : List (List ℕ)). laid r (recordSize * t .count) (recordsFrom i (t .octets) us)) e ∙ laid-nil r (recordSize * t .count));
+      unitArea = sym (ap (λ (us : List DataUnit). laid u (t .octets) (joined (octetsOf us))) e ∙ laid-nil u (t .octets));
+      recordArea = sym (ap (λ (us : List DataUnit). laid r (recordSize * t .count) (recordsFrom i (t .octets) us)) e ∙ laid-nil r (recordSize * t .count));
       count = omega arith;
       octets = omega arith;
       idle = idle;
@@ -227,15 +227,15 @@ only-counted {i} {t} {u} {r} {m} e count octets idle fill dropped =
     }
 
 -- One unit, with its record.
-pub one-handed : {i : Info} {t : Tally} {u r x : List ℕ} {t′ : Tally} {u′ r′ : List ℕ} → u′ ≡ laid u (t .octets) x
-    → r′ ≡ laid r (recordSize * t .count) (recordOf i (t .octets) (length x)) → t′ .count ≡ t .count + 1 → t′ .octets ≡ t .octets + length x
+pub one-handed : {i : Info} {t : Tally} {u r : List ℕ} {x : DataUnit} {t′ : Tally} {u′ r′ : List ℕ} → u′ ≡ laid u (t .octets) (x .octets)
+    → r′ ≡ laid r (recordSize * t .count) (recordOf i (t .octets) (length (x .octets))) → t′ .count ≡ t .count + 1 → t′ .octets ≡ t .octets + length (x .octets)
     → t′ .idle ≡ t .idle → t′ .fill ≡ t .fill → t′ .dropped ≡ t .dropped → Handed i t u r (hands x nothing) t′ u′ r′
 unfolding joined recordsFrom
 one-handed {i} {t} {u} {r} {x} a b count octets idle fill dropped =
-    let n : length (x ++ []) ≡ length x = ap length (append-nil x) in
+    let n : length (x .octets ++ []) ≡ length (x .octets) = ap length (append-nil (x .octets)) in
     record {
-      unitArea = a ∙ ap (laid u (t .octets)) (sym (append-nil x));
-      recordArea = b ∙ ap (laid r (recordSize * t .count)) (sym (append-nil (recordOf i (t .octets) (length x))));
+      unitArea = a ∙ ap (laid u (t .octets)) (sym (append-nil (x .octets)));
+      recordArea = b ∙ ap (laid r (recordSize * t .count)) (sym (append-nil (recordOf i (t .octets) (length (x .octets)))));
       count = omega arith;
       octets = omega arith;
       idle = omega arith;
@@ -244,7 +244,7 @@ one-handed {i} {t} {u} {r} {x} a b count octets idle fill dropped =
     }
 
 -- There is room for a unit of two parts.
-pub two-fit : {t : Tally} {u r : List ℕ} (x y : List ℕ) → Room t u r (hands (x ++ y) nothing) → t .octets + length x + length y ≤ length u
+pub two-fit : {t : Tally} {u r : List ℕ} (x y : List ℕ) → Room t u r (hands (unitFrom x y) nothing) → t .octets + length x + length y ≤ length u
 unfolding joined
 two-fit x y room =
     let n : length (x ++ y ++ []) ≡ length x + length y = ap length (append-nil (x ++ y)) ∙ length-append x y in
@@ -257,13 +257,13 @@ part-stays {d = d} e h = record { handed = h; part = sym (ap (laid d 0) e ∙ la
 
 -- ---- held octets and those that follow them
 
-module _ {t : Tally} {u r d : List ℕ} {h : ℕ} {x : List ℕ} {m : Made} (ready : Ready t u r d h x m) where
-  pub held-length : length (take h d) ≡ h
-  held-length = length-take-le h d (ready .inside)
+module _ {s : Stand} {u r d x : List ℕ} {m : Made} (ready : Ready s u r d x m) where
+  pub held-length : length (take (s .held) d) ≡ s .held
+  held-length = length-take-le (s .held) d (ready .inside)
 
-  pub follow-length : length (take h d ++ x) ≡ h + length x
-  follow-length = length-append (take h d) x ∙ ap (λ (n : ℕ). n + length x) held-length
+  pub follow-length : length (take (s .held) d ++ x) ≡ s .held + length x
+  follow-length = length-append (take (s .held) d) x ∙ ap (λ (n : ℕ). n + length x) held-length
 
-  pub follow-laid : laid d h x ≡ laid d 0 (take h d ++ x)
+  pub follow-laid : laid d (s .held) x ≡ laid d 0 (take (s .held) d ++ x)
   unfolding laid
-  follow-laid = ap (λ (n : ℕ). take h d ++ x ++ drop n d) (sym (zero-add _ ∙ follow-length))
+  follow-laid = ap (λ (n : ℕ). take (s .held) d ++ x ++ drop n d) (sym (zero-add _ ∙ follow-length))

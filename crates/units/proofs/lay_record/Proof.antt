@@ -5,9 +5,9 @@ use Prim.Native.Nat.{ℕ, _+_}
 use borrow.Author.Needs.{needs}
 use Rattle.rules.specs.Octets.{be}
 use Rattle.rules.specs.Areas.{laid}
-use Rattle.handing.proofs.Laws.{record-laid}
-use Rattle.handing.proofs.lay_record.Statement.{statement}
-use Rattle.handing.proofs.lay_record.Tie as tie
+use Rattle.units.proofs.Laws.{record-laid}
+use Rattle.units.proofs.lay_record.Statement.{statement}
+use Rattle.units.proofs.lay_record.Tie as tie
 
 slice-aggregate-lay : tie.Need-slice-aggregate-lay
 slice-aggregate-lay c = search needs
