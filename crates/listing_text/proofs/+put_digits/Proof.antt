@@ -3,13 +3,15 @@ use borrow.Author.Needs.{needs}
 use native.Mathlib.Omega.{arith}
 use Prim.Native.Nat.{ℕ, _-_, _/_, _<_}
 use Rattle.listing_text.proofs.Laws.{length-digits, put-no-digits, put-short, put-long}
-use borrow.Fn.Kinds.{In}
+use borrow.Fn.Kinds.{In, Out}
 use borrow.Fn.PlainCycle.{Measures, is, falls, and}
 use Rattle.listing_text.proofs.put_digits.Reads as put-digits
 use Rattle.listing_text.proofs.put_digits.Kinds as put-digits-kinds
 use Rattle.listing_text.proofs.+put_digits.Lts-put_digits as put-digits-lts
 use Rattle.listing_text.proofs.digit.Reads as digit-reads
+use Rattle.listing_text.proofs.digit.Kinds as digit-kinds
 use Rattle.listing_text.proofs.put_octet.Reads as put-octet-reads
+use Rattle.listing_text.proofs.put_octet.Kinds as put-octet-kinds
 use Rattle.listing_text.proofs.+put_digits.{statement}
 use Rattle.listing_text.proofs.+put_digits.Tie.{close}
 
@@ -24,122 +26,50 @@ abbrev put-digits-below : ℕ → In 1 put-digits-kinds.ps
 put-digits-below t =
     and 1 put-digits-kinds.ps (falls 1 put-digits-kinds.ps _<_ μ-put-digits t) put-digits.Pre
 
-put-digits-returns : (t : ℕ) → put-digits-lts.Need-returns (
-  digit-reads.Asked,
-  digit-reads.Learnt,
-  put-octet-reads.Asked,
-  put-octet-reads.Learnt,
-  put-digits-below t,
-  put-digits.Post,
-) (put-digits-at t) put-digits.Post
+-- What is asked of each callee, and learnt from it; of itself, below t.
+abbrev known : ℕ → In 0 digit-kinds.ps × Out 0 digit-kinds.ps digit-kinds.r × In 1 put-octet-kinds.ps × Out 1 put-octet-kinds.ps put-octet-kinds.r
+    × In 1 put-digits-kinds.ps × Out 1 put-digits-kinds.ps put-digits-kinds.r
+known t = (digit-reads.Asked, digit-reads.Learnt, put-octet-reads.Asked, put-octet-reads.Learnt, put-digits-below t, put-digits.Post)
+
+put-digits-returns : (t : ℕ) → put-digits-lts.Need-returns (known t) (put-digits-at t) put-digits.Post
 put-digits-returns t c =
     let a = c .before .before .args in
     put-no-digits (a .n) (a .v) (a .area .now) (a .from) (search needs)
 
-put-digits-digit-requires : (t : ℕ) → put-digits-lts.Need-digit-requires (
-  digit-reads.Asked,
-  digit-reads.Learnt,
-  put-octet-reads.Asked,
-  put-octet-reads.Learnt,
-  put-digits-below t,
-  put-digits.Post,
-) (put-digits-at t) put-digits.Post
+put-digits-digit-requires : (t : ℕ) → put-digits-lts.Need-digit-requires (known t) (put-digits-at t) put-digits.Post
 put-digits-digit-requires t c κs = search needs
 
-put-digits-put-octet-requires : (t : ℕ) → put-digits-lts.Need-put-octet-requires (
-  digit-reads.Asked,
-  digit-reads.Learnt,
-  put-octet-reads.Asked,
-  put-octet-reads.Learnt,
-  put-digits-below t,
-  put-digits.Post,
-) (put-digits-at t) put-digits.Post
+put-digits-put-octet-requires : (t : ℕ) → put-digits-lts.Need-put-octet-requires (known t) (put-digits-at t) put-digits.Post
 put-digits-put-octet-requires t c κs = search needs
 
-put-digits-same-length : (t : ℕ) → put-digits-lts.Need-same-length (
-  digit-reads.Asked,
-  digit-reads.Learnt,
-  put-octet-reads.Asked,
-  put-octet-reads.Learnt,
-  put-digits-below t,
-  put-digits.Post,
-) (put-digits-at t) put-digits.Post
+put-digits-same-length : (t : ℕ) → put-digits-lts.Need-same-length (known t) (put-digits-at t) put-digits.Post
 put-digits-same-length t c = search needs
 
-put-digits-returns-2 : (t : ℕ) → put-digits-lts.Need-returns-2 (
-  digit-reads.Asked,
-  digit-reads.Learnt,
-  put-octet-reads.Asked,
-  put-octet-reads.Learnt,
-  put-digits-below t,
-  put-digits.Post,
-) (put-digits-at t) put-digits.Post
+put-digits-returns-2 : (t : ℕ) → put-digits-lts.Need-returns-2 (known t) (put-digits-at t) put-digits.Post
 put-digits-returns-2 t c =
     let a = c .before .before .before .before .before .before .before .before .args in
     put-short (a .n) (a .v) (a .area .now) (a .from) _ _ _ (search needs) (search needs) (c .before .before .before .before .digit .ensures)
     (c .before .before .put-octet .ensures)
 
-put-digits-sub-put-digits : (t : ℕ) → put-digits-lts.Need-sub-put-digits (
-  digit-reads.Asked,
-  digit-reads.Learnt,
-  put-octet-reads.Asked,
-  put-octet-reads.Learnt,
-  put-digits-below t,
-  put-digits.Post,
-) (put-digits-at t) put-digits.Post
+put-digits-sub-put-digits : (t : ℕ) → put-digits-lts.Need-sub-put-digits (known t) (put-digits-at t) put-digits.Post
 put-digits-sub-put-digits t c = search needs
 
-put-digits-put-digits-requires : (t : ℕ) → put-digits-lts.Need-put-digits-requires (
-  digit-reads.Asked,
-  digit-reads.Learnt,
-  put-octet-reads.Asked,
-  put-octet-reads.Learnt,
-  put-digits-below t,
-  put-digits.Post,
-) (put-digits-at t) put-digits.Post
+put-digits-put-digits-requires : (t : ℕ) → put-digits-lts.Need-put-digits-requires (known t) (put-digits-at t) put-digits.Post
 put-digits-put-digits-requires t c κs = search needs
 
-put-digits-digit-requires-2 : (t : ℕ) → put-digits-lts.Need-digit-requires-2 (
-  digit-reads.Asked,
-  digit-reads.Learnt,
-  put-octet-reads.Asked,
-  put-octet-reads.Learnt,
-  put-digits-below t,
-  put-digits.Post,
-) (put-digits-at t) put-digits.Post
+put-digits-digit-requires-2 : (t : ℕ) → put-digits-lts.Need-digit-requires-2 (known t) (put-digits-at t) put-digits.Post
 put-digits-digit-requires-2 t c κs = search needs
 
-put-digits-put-octet-requires-2 : (t : ℕ) → put-digits-lts.Need-put-octet-requires-2 (
-  digit-reads.Asked,
-  digit-reads.Learnt,
-  put-octet-reads.Asked,
-  put-octet-reads.Learnt,
-  put-digits-below t,
-  put-digits.Post,
-) (put-digits-at t) put-digits.Post
+put-digits-put-octet-requires-2 : (t : ℕ) → put-digits-lts.Need-put-octet-requires-2 (known t) (put-digits-at t) put-digits.Post
 put-digits-put-octet-requires-2 t c κs =
     let c₈ = c .before .before .before .before .before .before .before .before in
     let a = c₈ .before .args in
     omega (arith, length-digits (a .n - 1) (a .v / 10), c .before .before .before .before .put-digits .ensures .ends)
 
-put-digits-same-length-2 : (t : ℕ) → put-digits-lts.Need-same-length-2 (
-  digit-reads.Asked,
-  digit-reads.Learnt,
-  put-octet-reads.Asked,
-  put-octet-reads.Learnt,
-  put-digits-below t,
-  put-digits.Post,
-) (put-digits-at t) put-digits.Post
+put-digits-same-length-2 : (t : ℕ) → put-digits-lts.Need-same-length-2 (known t) (put-digits-at t) put-digits.Post
 put-digits-same-length-2 t c = search needs
 
-put-digits-returns-3 : (t : ℕ) → put-digits-lts.Need-returns-3 (
-  digit-reads.Asked,
-  digit-reads.Learnt,
-  put-octet-reads.Asked,
-  put-octet-reads.Learnt,
-  put-digits-below t,
-  put-digits.Post,
-) (put-digits-at t) put-digits.Post
+put-digits-returns-3 : (t : ℕ) → put-digits-lts.Need-returns-3 (known t) (put-digits-at t) put-digits.Post
 put-digits-returns-3 t c =
     let c₈ = c .before .before .before .before .before .before .before .before in
     let a = c₈ .before .before .before .before .args in
@@ -148,14 +78,7 @@ put-digits-returns-3 t c =
     (c .before .before .put-octet2 .ensures)
 
 pub +put-digits-spec : {M : Type 1} → statement M
-+put-digits-spec = close μ-put-digits λ t. put-digits-lts.spec (
-  digit-reads.Asked,
-  digit-reads.Learnt,
-  put-octet-reads.Asked,
-  put-octet-reads.Learnt,
-  put-digits-below t,
-  put-digits.Post,
-)
++put-digits-spec = close μ-put-digits λ t. put-digits-lts.spec (known t)
     (put-digits-at t)
     put-digits.Post
     (put-digits-returns t)
