@@ -205,23 +205,15 @@ pub fn reader_in(s: &[u8], k: usize) -> Reader
 fn held_of(x: [Slot; 8]) -> [usize; 8]
     ensures { λ r. ⌜ r ≡ heldOf x ⌝ }
 {
-    let a = x[0];
-    let b = x[1];
-    let c = x[2];
-    let d = x[3];
-    let e = x[4];
-    let f = x[5];
-    let g = x[6];
-    let h = x[7];
     [
-        a.held,
-        b.held,
-        c.held,
-        d.held,
-        e.held,
-        f.held,
-        g.held,
-        h.held,
+        x[0].held,
+        x[1].held,
+        x[2].held,
+        x[3].held,
+        x[4].held,
+        x[5].held,
+        x[6].held,
+        x[7].held,
     ]
 }
 

@@ -366,23 +366,15 @@ fn counts_ok(s: Setting, counts: [u64; 8]) -> bool
 pub fn counts_of(x: [Expect; 8]) -> [u64; 8]
     ensures { λ r. ⌜ r ≡ countsOf x ⌝ }
 {
-    let a = x[0];
-    let b = x[1];
-    let c = x[2];
-    let d = x[3];
-    let e = x[4];
-    let f = x[5];
-    let g = x[6];
-    let h = x[7];
     [
-        a.count,
-        b.count,
-        c.count,
-        d.count,
-        e.count,
-        f.count,
-        g.count,
-        h.count,
+        x[0].count,
+        x[1].count,
+        x[2].count,
+        x[3].count,
+        x[4].count,
+        x[5].count,
+        x[6].count,
+        x[7].count,
     ]
 }
 
