@@ -12,8 +12,7 @@ enum-told c = search needs
 packet-step-requires : tie.Need-packet-step-requires
 unfolding laneStep
 packet-step-requires c κs =
-    let c₈ = c .before .before .before .before .before .before .before .before in
-    (
+    let c₈ = c .before .before .before .before .before .before .before .before in (
       c₈ .before .pre .inside,
       omega (arith, c₈ .before .pre .zone, c₈ .before .pre .part),
       rw (c .before .before .before .enum-told .given .1) at
