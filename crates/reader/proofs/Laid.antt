@@ -19,7 +19,7 @@ use Rattle.rules.specs.Calls.{laidOut, madeBy, readOn}
 use Rattle.rules.proofs.Areas.{laid-part}
 use Rattle.rules.specs.Valid.{GoodKind}
 use Rattle.rules.proofs.Lanes.{lane-total, lane-below, total}
-use Rattle.units.specs.declared.Led.{Led}
+use Rattle.units.specs.declared.Stand.{Stand}
 use Rattle.lanes.specs.Steps.{Lent, Stepped}
 use Rattle.reader.specs.Reads.{takenOf, infoFor, OnLane}
 use Rattle.judge.specs.declared.Sight.{Sight}
@@ -27,7 +27,7 @@ use Rattle.judge.specs.Sights.{readSight}
 use Rattle.judge.proofs.Places.{Fits, fits, lane-eight}
 
 -- A step, laid out: the answer, the state and the three areas of a read. The lane's part is cut out as n octets.
-pub step-laid : (g : Gap) (l k n : ℕ) (m : Made) (h u c : List ℕ) (led : Led) (d′ u′ c′ : List ℕ) → n ≡ partSize → partSize * l + partSize ≤ length h → length
+pub step-laid : (g : Gap) (l k n : ℕ) (m : Made) (h u c : List ℕ) (led : Stand) (d′ u′ c′ : List ℕ) → n ≡ partSize → partSize * l + partSize ≤ length h → length
     (m .held) ≤ 8192
     → Stepped (infoOf (g .state .setting) l k) m (take n (drop (partSize * l) h)) u c led d′ u′ c′
     → (t : Taken) → t ≡ takenOf g l led
@@ -92,8 +92,9 @@ module _ (g : Gap) (l : ℕ) (f h u c : List ℕ) (o : OnLane g l f h u c) where
     unfolding zone
     inside = rw ex (omega (arith, here .inside, o .reads .whole))
 
-    pub lent-here : Lent (lane s l .kind) (lane s l .longest) (heldBy (g .state) l) (x .place) zone-cut part-cut u c
-    lent-here =
+    pub lent-here : (i : Info)
+        → Lent (record { info = i; longest = lane s l .longest; kind = lane s l .kind }) (heldBy (g .state) l) (x .place) zone-cut part-cut u c
+    lent-here i =
         record {
           units = o .units;
           records = o .records;
@@ -120,7 +121,7 @@ module _ (g : Gap) (l : ℕ) (f h u c : List ℕ) (o : OnLane g l f h u c) where
         omega arith
 
     -- The whole read, from the step's own promise.
-    pub laid-here : (i : Info) (led : Led) (d′ u′ c′ : List ℕ) (t : Taken) → i ≡ infoFor (lane s l) (channel s (x .channel)) l (x .count)
+    pub laid-here : (i : Info) (led : Stand) (d′ u′ c′ : List ℕ) (t : Taken) → i ≡ infoFor (lane s l) (channel s (x .channel)) l (x .count)
         → Stepped i made part-cut u c led d′ u′ c′ → t ≡ takenOf g l led
         → record { taken = t; heldArea = take (partSize * l) h ++ (d′ ++ drop n (drop (partSize * l) h)); unitArea = u′; recordArea = c′ }
         ≡ readOn g l its f h u c

@@ -20,7 +20,7 @@ use Rattle.judge.specs.declared.Sight.{Sight}
 use Rattle.judge.specs.declared.Sighting.the-variants.{Seen}
 use Rattle.judge.specs.Sights.{sightOf}
 use Rattle.rules.specs.Valid.{GoodReader, Reads}
-use Rattle.units.specs.declared.Led.{Led}
+use Rattle.units.specs.declared.Stand.{Stand}
 use Rattle.rules.specs.Areas.{heldSize, recordsSize, unitsSize}
 
 -- The paper's record fields of lane l, lane a on channel ch, and a count.
@@ -28,7 +28,7 @@ abbrev pub infoFor : Lane → Channel → ℕ → ℕ → Info
 infoFor a ch l k = record { lane = l; vc = ch .vc; map = a .map; service = ch .service; count = k }
 
 -- The answer and the state once lane l has made its step after gap g.
-abbrev pub takenOf : Gap → ℕ → Led → Taken
+abbrev pub takenOf : Gap → ℕ → Stand → Taken
 takenOf g l led =
     record {
       answer =

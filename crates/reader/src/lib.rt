@@ -22,7 +22,8 @@ use rules::Reader;
 use rules::Setting;
 use rules::Taken;
 use rules::Verdict;
-use units::Led;
+use units::Stand;
+use units::Terms;
 
 // ---- what a lane makes of a frame
 
@@ -41,7 +42,7 @@ fn info_for(a: Lane, ch: Channel, l: usize, k: u64) -> Info
 }
 
 // The answer and the state once lane l has made its step after gap g.
-fn taken_of(g: Gap, l: usize, led: Led) -> Taken
+fn taken_of(g: Gap, l: usize, led: Stand) -> Taken
     requires { ⌜ (l < 8) × (g .dropped ≤ heldSize) × (led .tally .dropped ≤ unitsSize) ⌝ }
     ensures { λ r. ⌜ r ≡ takenOf g l led ⌝ }
 {
@@ -83,20 +84,23 @@ fn read_on(
     let info = info_for(a, ch, l, x.count);
     let h = r.held[l];
     let kind = a.kind;
+    let terms = Terms {
+        info: info,
+        longest: a.longest,
+        kind: kind,
+    };
     let place = x.place;
     let begin = x.begin;
     let end = begin + x.size;
     let from = rules::PART_SIZE * l;
     let to = from + rules::PART_SIZE;
     let led = lanes::lane_step(
-        kind,
-        a.longest,
+        terms,
+        h,
         x.rule,
         place,
         &frame[begin..end],
         &mut held[from..to],
-        h,
-        info,
         units,
         records,
     );

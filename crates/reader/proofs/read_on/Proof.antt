@@ -72,7 +72,7 @@ lane-step-requires c κs =
     let x = b .args .x in
     let m : x .begin + x .size - x .begin ≡ x .size = omega arith in
     let n : partSize * b .args .l + partSize - partSize * b .args .l ≡ partSize = omega arith in
-    lent-here _ _ _ _ _ _ (b .pre .0) x (b .pre .1) _ _ m n
+    lent-here _ _ _ _ _ _ (b .pre .0) x (b .pre .1) _ _ m n _
 
 taken-of-requires : tie.Need-taken-of-requires
 taken-of-requires c κs =
