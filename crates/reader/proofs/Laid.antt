@@ -6,22 +6,23 @@ use native.Mathlib.Omega.{arith}
 use mathlib.Core.List.{List, _++_}
 use lib.ListN.{length, take, drop, length-take, length-drop}
 use lib.Seq.{length-take-le}
-use Rattle.rules.specs.declared.Info.{Info}
 use Rattle.rules.specs.declared.Channel.{Channel}
 use Rattle.rules.specs.declared.Gap.{Gap}
 use Rattle.rules.specs.declared.Setting.{Setting}
+use Rattle.rules.specs.declared.Slot.{Slot}
 use Rattle.rules.specs.declared.Taken.{Taken}
 use Rattle.rules.specs.Areas.{laid, part, partSize, unitsSize}
 use Rattle.rules.specs.Reading.{Made, laneStep, infoOf}
-use Rattle.rules.specs.Settings.{channel, lane, channelOf, heldBy, zoneAt, zone}
+use Rattle.rules.specs.Settings.{lane, channelOf, slot, zoneAt, zone}
 use Rattle.rules.specs.Frames.{zoneIn, countIn}
 use Rattle.rules.specs.Calls.{laidOut, madeBy, readOn}
 use Rattle.rules.proofs.Areas.{laid-part}
 use Rattle.rules.specs.Valid.{GoodKind}
 use Rattle.rules.proofs.Lanes.{lane-total, lane-below, total}
 use Rattle.units.specs.declared.Stand.{Stand}
+use Rattle.units.specs.declared.Terms.{Terms}
 use Rattle.lanes.specs.Steps.{Lent, Stepped}
-use Rattle.reader.specs.Reads.{takenOf, infoFor, OnLane}
+use Rattle.reader.specs.Reads.{takenOf, termsFor, OnLane}
 use Rattle.judge.specs.declared.Sight.{Sight}
 use Rattle.judge.specs.Sights.{readSight}
 use Rattle.judge.proofs.Places.{Fits, fits, lane-eight}
@@ -69,8 +70,15 @@ module _ (g : Gap) (l : ℕ) (f h u c : List ℕ) (o : OnLane g l f h u c) where
   pub channel-eight : (x : Sight) → x ≡ readSight s f l → x .channel < 8
   channel-eight x e = rw e (here .eight)
 
-  -- What is lent of the frame and of the held area: the parts that the code cuts out, m and n octets long.
-  module _ (x : Sight) (ex : x ≡ readSight s f l) (m n : ℕ) (em : m ≡ x .size) (en : n ≡ partSize) where
+  -- The zone lies inside the frame.
+  pub inside : (x : Sight) → x ≡ readSight s f l → x .begin + x .size ≤ length f
+  unfolding zone
+  inside x e = rw e (omega (arith, here .inside, o .reads .whole))
+
+  -- What is lent of the frame and of the held area: the parts that the code cuts out, m and n octets long. With them go the lane's terms and
+  -- its slot.
+  module _ (x : Sight) (ex : x ≡ readSight s f l) (m n : ℕ) (em : m ≡ x .size) (en : n ≡ partSize) (t : Terms) (et : t ≡ termsFor s (x .channel) l (x .count))
+      (y : Slot) (ey : y ≡ slot (g .state) l) where
     abbrev zone-cut : List ℕ
     zone-cut = take m (drop (x .begin) f)
 
@@ -78,7 +86,7 @@ module _ (g : Gap) (l : ℕ) (f h u c : List ℕ) (o : OnLane g l f h u c) where
     part-cut = take n (drop (partSize * l) h)
 
     abbrev made : Made
-    made = laneStep (lane s l .kind) (lane s l .longest) (x .rule) (take (heldBy (g .state) l) part-cut) (x .place) zone-cut
+    made = laneStep (t .kind) (t .longest) (x .rule) (take (y .held) part-cut) (x .place) zone-cut
 
     zone-is : zone-cut ≡ zoneIn s its f
     unfolding zoneIn
@@ -87,47 +95,40 @@ module _ (g : Gap) (l : ℕ) (f h u c : List ℕ) (o : OnLane g l f h u c) where
     part-long : length part-cut ≡ partSize
     part-long = let a = length-drop (partSize * l) h in let b = room in length-take-le n (drop (partSize * l) h) (omega arith) ∙ en
 
-    -- The zone lies inside the frame.
-    pub inside : x .begin + x .size ≤ length f
-    unfolding zone
-    inside = rw ex (omega (arith, here .inside, o .reads .whole))
-
-    pub lent-here : (i : Info)
-        → Lent (record { info = i; longest = lane s l .longest; kind = lane s l .kind }) (heldBy (g .state) l) (x .place) zone-cut part-cut u c
-    lent-here i =
+    pub lent-here : Lent t (y .held) (x .place) zone-cut part-cut u c
+    lent-here =
         record {
           units = o .units;
           records = o .records;
           part = part-long;
-          held = o .good .held l (o .reads .numbered);
-          most = kind-of .most;
-          enough = kind-of .enough;
+          held = rw (et, ey) (o .good .held l (o .reads .numbered));
+          most = rw et (kind-of .most);
+          enough = rw et (kind-of .enough);
           zone = let a = zone-long in rw zone-is (omega (arith, here .small));
           inside = rw (zone-is, zone-long, ex) (o .reads .pointer);
         }
 
     made-is : made ≡ madeBy g l its f h
     unfolding madeBy
-    made-is = rw (zone-is, en, ex)
+    made-is = rw (et, ey, zone-is, en, ex)
 
     pub few-dropped : (v : ℕ) → v ≡ made .dropped → v ≤ unitsSize
     unfolding total
     few-dropped v e =
-        let t = lane-total (lane s l .kind) (lane s l .longest) (x .rule) (take (heldBy (g .state) l) part-cut) (x .place) zone-cut in
-        let a = length-take (heldBy (g .state) l) part-cut in
+        let all = lane-total (t .kind) (t .longest) (x .rule) (take (y .held) part-cut) (x .place) zone-cut in
+        let a = length-take (y .held) part-cut in
         let b = part-long in
         let z : length zone-cut ≡ zone s its = ap length zone-is ∙ zone-long in
         let i = here .small in
         omega arith
 
     -- The whole read, from the step's own promise.
-    pub laid-here : (i : Info) (led : Stand) (d′ u′ c′ : List ℕ) (t : Taken) → i ≡ infoFor (lane s l) (channel s (x .channel)) l (x .count)
-        → Stepped i made part-cut u c led d′ u′ c′ → t ≡ takenOf g l led
-        → record { taken = t; heldArea = take (partSize * l) h ++ (d′ ++ drop n (drop (partSize * l) h)); unitArea = u′; recordArea = c′ }
+    pub laid-here : (led : Stand) (d′ u′ c′ : List ℕ) (r : Taken) → Stepped (t .info) made part-cut u c led d′ u′ c′ → r ≡ takenOf g l led
+        → record { taken = r; heldArea = take (partSize * l) h ++ (d′ ++ drop n (drop (partSize * l) h)); unitArea = u′; recordArea = c′ }
         ≡ readOn g l its f h u c
     unfolding readOn infoOf
-    laid-here i led d′ u′ c′ t ei st et =
-        let small = lane-below (lane s l .kind) (lane s l .longest) (x .rule) (take (heldBy (g .state) l) part-cut) (x .place) zone-cut (kind-of .enough) in
-        let info : i ≡ infoOf s l (countIn its f) = ei ∙ rw ex in
-        step-laid g l (countIn its f) n made h u c led d′ u′ c′ en room (omega (arith, kind-of .most)) (rw (sym info) st) t et
+    laid-here led d′ u′ c′ r st er =
+        let small = lane-below (t .kind) (t .longest) (x .rule) (take (y .held) part-cut) (x .place) zone-cut (lent-here .enough) in
+        let info : t .info ≡ infoOf s l (countIn its f) = ap (λ (i : Terms). i .info) et ∙ rw ex in
+        step-laid g l (countIn its f) n made h u c led d′ u′ c′ en room (omega (arith, lent-here .most)) (rw (sym info) st) r er
         ∙ ap (λ (y : Made). laidOut g l (countIn its f) y h u c) made-is

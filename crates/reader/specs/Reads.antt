@@ -3,17 +3,15 @@ use mathlib.Core.Path.{_≡_}
 use mathlib.Core.Bool.{Bool, cond, not, _||_}
 use Prim.Native.Nat.{ℕ, _+_, _^_, _≤_, _<_}
 use mathlib.Core.List.{List}
-use lib.ListN.{length, set}
-use Rattle.rules.specs.declared.Channel.{Channel}
+use lib.ListN.{length}
 use Rattle.rules.specs.declared.Class.{Class}
 use Rattle.rules.specs.declared.Gap.{Gap}
-use Rattle.rules.specs.declared.Info.{Info}
-use Rattle.rules.specs.declared.Lane.{Lane}
 use Rattle.rules.specs.declared.Reader.{Reader}
+use Rattle.rules.specs.declared.Setting.{Setting}
 use Rattle.rules.specs.declared.Taken.{Taken}
 use Rattle.rules.specs.declared.Verdict.{Verdict}
 use Rattle.rules.specs.Tests.{_<?_, _≠?_}
-use Rattle.rules.specs.Settings.{channel, readerOk}
+use Rattle.rules.specs.Settings.{channel, lane, withSlot, readerOk}
 use Rattle.rules.specs.Refusals.{judge}
 use Rattle.rules.specs.Calls.{counted, verdict}
 use Rattle.judge.specs.declared.Sight.{Sight}
@@ -21,11 +19,17 @@ use Rattle.judge.specs.declared.Sighting.the-variants.{Seen}
 use Rattle.judge.specs.Sights.{sightOf}
 use Rattle.rules.specs.Valid.{GoodReader, Reads}
 use Rattle.units.specs.declared.Stand.{Stand}
+use Rattle.units.specs.declared.Terms.{Terms}
 use Rattle.rules.specs.Areas.{heldSize, recordsSize, unitsSize}
 
--- The paper's record fields of lane l, lane a on channel ch, and a count.
-abbrev pub infoFor : Lane → Channel → ℕ → ℕ → Info
-infoFor a ch l k = record { lane = l; vc = ch .vc; map = a .map; service = ch .service; count = k }
+-- What lane l brings to a frame with count k on the channel at place c: what its records have in common, its longest unit and its kind.
+abbrev pub termsFor : Setting → ℕ → ℕ → ℕ → Terms
+termsFor s c l k =
+    record {
+      info = record { lane = l; vc = (channel s c) .vc; map = (lane s l) .map; service = (channel s c) .service; count = k };
+      longest = (lane s l) .longest;
+      kind = (lane s l) .kind;
+    }
 
 -- The answer and the state once lane l has made its step after gap g.
 abbrev pub takenOf : Gap → ℕ → Stand → Taken
@@ -41,7 +45,7 @@ takenOf g l led =
             fill = led .tally .fill;
             dropped = g .dropped + led .tally .dropped;
           };
-      state = record { setting = g .state .setting; expects = g .state .expects; held = set (g .state .held) l (led .held) };
+      state = withSlot (g .state) l (record { held = led .held });
     }
 
 -- A frame that lane l reads after gap g, and areas of the paper's sizes.

@@ -5,21 +5,20 @@ ghost use Rattle.rules.specs.Settings.{channelOf};
 ghost use Rattle.rules.specs.Calls.{readOn, bare, verdict};
 ghost use Rattle.rules.specs.Promises.{ReaderStarts, ReadGives};
 ghost use Rattle.judge.specs.Sights.{readSight, sightOf, Fitting};
-ghost use Rattle.reader.specs.Reads.{infoFor, takenOf, countedOf, shortOf, verdictOf, OnLane, SeenOn};
+ghost use Rattle.reader.specs.Reads.{termsFor, takenOf, countedOf, shortOf, verdictOf, OnLane, SeenOn};
 ghost use Rattle.rules.specs.Areas.{heldSize, unitsSize};
 use judge::Sight;
 use judge::Sighting;
 use rules::Answer;
-use rules::Channel;
 use rules::Class;
 use rules::Gap;
 use rules::Info;
-use rules::Lane;
 use rules::Listener;
 use rules::Outcome;
 use rules::Place;
 use rules::Reader;
 use rules::Setting;
+use rules::Slot;
 use rules::Taken;
 use rules::Verdict;
 use units::Stand;
@@ -27,17 +26,26 @@ use units::Terms;
 
 // ---- what a lane makes of a frame
 
-// What the records of a frame with count k on lane l have in common.
-fn info_for(a: Lane, ch: Channel, l: usize, k: u64) -> Info
-    requires { ⌜ l < 8 ⌝ }
-    ensures { λ r. ⌜ r ≡ infoFor a ch l k ⌝ }
+// What lane l brings to a frame with count k on the channel at place c.
+fn terms_for(s: Setting, c: usize, l: usize, k: u64) -> Terms
+    requires { ⌜ (c < 8) × (l < 8) ⌝ }
+    ensures { λ r. ⌜ r ≡ termsFor s c l k ⌝ }
 {
-    Info {
-        lane: l as u8,
-        vc: ch.vc,
-        map: a.map,
-        service: ch.service,
-        count: k,
+    let lanes = s.lanes;
+    let a = lanes[l];
+    let channels = s.channels;
+    let ch = channels[c];
+    let kind = a.kind;
+    Terms {
+        info: Info {
+            lane: l as u8,
+            vc: ch.vc,
+            map: a.map,
+            service: ch.service,
+            count: k,
+        },
+        longest: a.longest,
+        kind: kind,
     }
 }
 
@@ -47,8 +55,12 @@ fn taken_of(g: Gap, l: usize, led: Stand) -> Taken
     ensures { λ r. ⌜ r ≡ takenOf g l led ⌝ }
 {
     let tally = led.tally;
-    let mut t = g.state;
-    t.held[l] = led.held;
+    let r = g.state;
+    let s = r.setting;
+    let expects = r.expects;
+    let slots = r.slots;
+    let slot = Slot { held: led.held };
+    let slots = setting::with_slot(slots, l, slot);
     Taken {
         answer: Answer {
             class: Class::Read,
@@ -59,36 +71,24 @@ fn taken_of(g: Gap, l: usize, led: Stand) -> Taken
             fill: tally.fill,
             dropped: g.dropped + tally.dropped,
         },
-        state: t,
+        state: Reader {
+            setting: s,
+            expects: expects,
+            slots: slots,
+        },
     }
 }
 
 // Lane l reads the frame that x is the sight of, after gap g.
-fn read_on(
-    g: Gap,
-    l: usize,
-    x: Sight,
-    frame: &[u8],
-    held: &mut [u8],
-    units: &mut [u8],
-    records: &mut [u8],
-) -> Taken
-    requires { ⌜ OnLane g l (now frame) (now held) (now units) (now records) × (x ≡ readSight (g .state .setting) (now frame) l) ⌝ }
-    ensures { λ t. ⌜ record { taken = t; heldArea = now (held .exit); unitArea = now (units .exit); recordArea = now (records .exit) } ≡ readOn g l (channelOf (g .state .setting) l) (now (frame .entry)) (now (held .entry)) (now (units .entry)) (now (records .entry)) ⌝ }
+fn read_on(g: Gap, l: usize, x: Sight, f: &[u8], h: &mut [u8], u: &mut [u8], c: &mut [u8]) -> Taken
+    requires { ⌜ OnLane g l (now f) (now h) (now u) (now c) × (x ≡ readSight (g .state .setting) (now f) l) ⌝ }
+    ensures { λ t. ⌜ record { taken = t; heldArea = now (h .exit); unitArea = now (u .exit); recordArea = now (c .exit) } ≡ readOn g l (channelOf (g .state .setting) l) (now (f .entry)) (now (h .entry)) (now (u .entry)) (now (c .entry)) ⌝ }
 {
     let r = g.state;
     let s = r.setting;
-    let a = s.lanes[l];
-    let c = x.channel;
-    let ch = s.channels[c];
-    let info = info_for(a, ch, l, x.count);
-    let h = r.held[l];
-    let kind = a.kind;
-    let terms = Terms {
-        info: info,
-        longest: a.longest,
-        kind: kind,
-    };
+    let terms = terms_for(s, x.channel, l, x.count);
+    let slots = r.slots;
+    let slot = setting::slot_of(slots, l);
     let place = x.place;
     let begin = x.begin;
     let end = begin + x.size;
@@ -96,13 +96,13 @@ fn read_on(
     let to = from + rules::PART_SIZE;
     let led = lanes::lane_step(
         terms,
-        h,
+        slot.held,
         x.rule,
         place,
-        &frame[begin..end],
-        &mut held[from..to],
-        units,
-        records,
+        &f[begin..end],
+        &mut h[from..to],
+        u,
+        c,
     );
     taken_of(g, l, led)
 }
@@ -195,36 +195,22 @@ fn counted_of(g: Gap) -> Taken
 }
 
 // Takes the count of the frame that x is the sight of, and reads it where a lane does.
-fn take_seen(
-    r: Reader,
-    x: Sight,
-    frame: &[u8],
-    held: &mut [u8],
-    units: &mut [u8],
-    records: &mut [u8],
-) -> Taken
-    requires { ⌜ SeenOn r x (now frame) (now held) (now units) (now records) ⌝ }
-    ensures { λ t. ⌜ ReadGives r (now (frame .entry)) (now (held .entry)) (now (units .entry)) (now (records .entry)) t (now (held .exit)) (now (units .exit)) (now (records .exit)) ⌝ }
+fn take_seen(r: Reader, x: Sight, f: &[u8], h: &mut [u8], u: &mut [u8], c: &mut [u8]) -> Taken
+    requires { ⌜ SeenOn r x (now f) (now h) (now u) (now c) ⌝ }
+    ensures { λ t. ⌜ ReadGives r (now (f .entry)) (now (h .entry)) (now (u .entry)) (now (c .entry)) t (now (h .exit)) (now (u .exit)) (now (c .exit)) ⌝ }
 {
     let g = gaps::gap_of(r, x.channel, x.count);
     let on = x.lane;
     match on {
         Place::Nowhere => counted_of(g),
-        Place::At(l) => read_on(g, l, x, frame, held, units, records),
+        Place::At(l) => read_on(g, l, x, f, h, u, c),
     }
 }
 
 // Does what the checks' finding v asks for.
-fn act_on(
-    v: Sighting,
-    r: Reader,
-    frame: &[u8],
-    held: &mut [u8],
-    units: &mut [u8],
-    records: &mut [u8],
-) -> Taken
-    requires { ⌜ (v ≡ sightOf (r .setting) (now frame) (verdict r (now frame) (now held) (now units) (now records))) × Fitting (r .setting) v ⌝ }
-    ensures { λ t. ⌜ ReadGives r (now (frame .entry)) (now (held .entry)) (now (units .entry)) (now (records .entry)) t (now (held .exit)) (now (units .exit)) (now (records .exit)) ⌝ }
+fn act_on(v: Sighting, r: Reader, f: &[u8], h: &mut [u8], u: &mut [u8], c: &mut [u8]) -> Taken
+    requires { ⌜ (v ≡ sightOf (r .setting) (now f) (verdict r (now f) (now h) (now u) (now c))) × Fitting (r .setting) v ⌝ }
+    ensures { λ t. ⌜ ReadGives r (now (f .entry)) (now (h .entry)) (now (u .entry)) (now (c .entry)) t (now (h .exit)) (now (u .exit)) (now (c .exit)) ⌝ }
 {
     match v {
         Sighting::Refused(n) => {
@@ -235,7 +221,7 @@ fn act_on(
             let class = Class::Idle;
             untouched(class, r)
         }
-        Sighting::Seen(x) => take_seen(r, x, frame, held, units, records),
+        Sighting::Seen(x) => take_seen(r, x, f, h, u, c),
     }
 }
 

@@ -34,16 +34,16 @@ unfolding onVerdict
 returns c =
     let b = c .before .before .before .before .before .before .before .before in
     let a = b .args in
-    let e = refused-sight (a .r .setting) (a .frame .now) _ _ (sym (b .pre .0) ∙ c .before .before .v .given .1) in
-    areas-kept (a .r) (a .frame .now) (a .held .now) (a .units .now) (a .records .now) _ _ _ e (c .untouched .ensures) refl
+    let e = refused-sight (a .r .setting) (a .f .now) _ _ (sym (b .pre .0) ∙ c .before .before .v .given .1) in
+    areas-kept (a .r) (a .f .now) (a .h .now) (a .u .now) (a .c .now) _ _ _ e (c .untouched .ensures) refl
 
 returns-2 : tie.Need-returns-2
 unfolding onVerdict
 returns-2 c =
     let b = c .before .before .before .before .before .before .before in
     let a = b .args in
-    let e = idle-sight (a .r .setting) (a .frame .now) _ (sym (b .pre .0) ∙ c .before .enum-told .given .1) in
-    areas-kept (a .r) (a .frame .now) (a .held .now) (a .units .now) (a .records .now) _ _ _ e (c .untouched2 .ensures) refl
+    let e = idle-sight (a .r .setting) (a .f .now) _ (sym (b .pre .0) ∙ c .before .enum-told .given .1) in
+    areas-kept (a .r) (a .f .now) (a .h .now) (a .u .now) (a .c .now) _ _ _ e (c .untouched2 .ensures) refl
 
 same-length : tie.Need-same-length
 same-length c = search needs

@@ -1,43 +1,25 @@
 -- `reader::read_on` meets its contract: zone and part are cut out as the sight says, and the step's promise is laid back into the held area.
 use native.Mathlib.Omega.{arith}
-use mathlib.Core.Path.{_≡_, refl}
+use mathlib.Core.Path.{_≡_}
 use Prim.Native.Nat.{_+_, _-_, _*_}
+use Rattle.rules.specs.Areas.{partSize}
 use Rattle.reader.proofs.Laid.{eight, channel-eight, inside, lent-here, few-dropped, laid-here}
 use borrow.Author.Needs.{needs}
 use Rattle.reader.proofs.read_on.Statement.{statement}
 use Rattle.reader.proofs.read_on.Tie as tie
-use Rattle.rules.specs.Areas.{partSize}
 
-mul-a : tie.Need-mul-a
-mul-a c = search needs
+terms-for-requires : tie.Need-terms-for-requires
+terms-for-requires c κs =
+    let b = c .before .before .before .before .before .before in
+    (channel-eight _ _ _ _ _ _ (b .pre .0) (b .args .x) (b .pre .1), eight _ _ _ _ _ _ (b .pre .0))
 
-element-copy-out-a : tie.Need-element-copy-out-a
-element-copy-out-a c = search needs
-
-mul-ch : tie.Need-mul-ch
-mul-ch c = omega (
-  arith,
-  channel-eight _ _ _ _ _ _ (c .before .before .before .before .before .before .before .pre .0)
-      (c .before .before .before .before .before .before .before .args .x) (c .before .before .before .before .before .before .before .pre .1),
-)
-
-element-copy-out-ch : tie.Need-element-copy-out-ch
-element-copy-out-ch c = channel-eight _ _ _ _ _ _ (c .before .before .before .before .before .before .before .pre .0)
-    (c .before .before .before .before .before .before .before .args .x) (c .before .before .before .before .before .before .before .pre .1)
-
-info-for-requires : tie.Need-info-for-requires
-info-for-requires c κs = search needs
-
-mul-h : tie.Need-mul-h
-mul-h c = search needs
-
-element-copy-out-h : tie.Need-element-copy-out-h
-element-copy-out-h c = search needs
+slot-of-requires : tie.Need-slot-of-requires
+slot-of-requires c κs = search needs
 
 add-end : tie.Need-add-end
 add-end c =
-    let c₈ = c .before .before .before .before .before .before .before .before in
-    let b = c₈ .before .before .before in omega (arith, inside _ _ _ _ _ _ (b .pre .0) (b .args .x) (b .pre .1) _ _ refl refl, b .pre .0 .reads .whole)
+    let b = c .before .before .before .before .before .before .before .before .before .before in
+    omega (arith, inside _ _ _ _ _ _ (b .pre .0) (b .args .x) (b .pre .1), b .pre .0 .reads .whole)
 
 mul-from : tie.Need-mul-from
 mul-from c = search needs
@@ -54,7 +36,8 @@ part-lane-step-start c = search needs
 part-lane-step-end : tie.Need-part-lane-step-end
 part-lane-step-end c =
     let c₈ = c .before .before .before .before .before .before .before .before in
-    let b = c₈ .before .before .before in inside _ _ _ _ _ _ (b .pre .0) (b .args .x) (b .pre .1) _ _ refl refl
+    let b = c₈ .before .before in
+    inside _ _ _ _ _ _ (b .pre .0) (b .args .x) (b .pre .1)
 
 sub-lane-step-2 : tie.Need-sub-lane-step-2
 sub-lane-step-2 c = search needs
@@ -67,25 +50,26 @@ part-lane-step-end-2 c = search needs
 
 lane-step-requires : tie.Need-lane-step-requires
 lane-step-requires c κs =
-    let c₈ = c .before .before .before .before .before .before .before .before in
-    let b = c₈ .before .before .before .before .before .before .before in
+    let k = c .before .before .before .before .before in
+    let t = k .before .before in
+    let b = t .before .before .before .before .before .before .before in
     let x = b .args .x in
     let m : x .begin + x .size - x .begin ≡ x .size = omega arith in
     let n : partSize * b .args .l + partSize - partSize * b .args .l ≡ partSize = omega arith in
-    lent-here _ _ _ _ _ _ (b .pre .0) x (b .pre .1) _ _ m n _
+    lent-here _ _ _ _ _ _ (b .pre .0) x (b .pre .1) _ _ m n _ (t .terms-for .ensures) _ (k .slot-of .ensures)
 
 taken-of-requires : tie.Need-taken-of-requires
 taken-of-requires c κs =
-    let c₈ = c .before .before .before .before .before .before .before .before in
-    let c₁₆ = c₈ .before .before .before .before .before .before .before .before in
-    let b = c₁₆ .before .before .before .before .before .before in
+    let y = c .before .before .before .before .before .before in
+    let k = y .before .before .before .before .before .before in
+    let t = k .before .before in
+    let b = t .before .before .before .before .before .before .before in
     let x = b .args .x in
     let m : x .begin + x .size - x .begin ≡ x .size = omega arith in
     let n : partSize * b .args .l + partSize - partSize * b .args .l ≡ partSize = omega arith in (
       eight _ _ _ _ _ _ (b .pre .0),
       b .pre .0 .dropped,
-      few-dropped _ _ _ _ _ _ (b .pre .0) x (b .pre .1) _ _ m n _
-          (c .before .before .before .before .before .before .lane-step .ensures .dropped),
+      few-dropped _ _ _ _ _ _ (b .pre .0) x (b .pre .1) _ _ m n _ (t .terms-for .ensures) _ (k .slot-of .ensures) _ (y .lane-step .ensures .dropped),
     )
 
 same-length : tie.Need-same-length
@@ -99,26 +83,22 @@ same-length-3 c = search needs
 
 returns : tie.Need-returns
 returns c =
-    let c₈ = c .before .before .before .before .before .before .before .before in
-    let c₁₆ = c₈ .before .before .before .before .before .before .before .before in
-    let b = c₁₆ .before .before .before .before .before .before .before in
+    let y = c .before .before .before .before .before .before .before in
+    let k = y .before .before .before .before .before .before in
+    let t = k .before .before in
+    let b = t .before .before .before .before .before .before .before in
     let x = b .args .x in
     let m : x .begin + x .size - x .begin ≡ x .size = omega arith in
     let n : partSize * b .args .l + partSize - partSize * b .args .l ≡ partSize = omega arith in
-    laid-here _ _ _ _ _ _ (b .pre .0) x (b .pre .1) _ _ m n _ _ _ _ _ _ (c₈ .before .before .before .before .before .before .info-for .ensures)
-    (c .before .before .before .before .before .before .before .lane-step .ensures) (c .taken-of .ensures)
+    laid-here _ _ _ _ _ _ (b .pre .0) x (b .pre .1) _ _ m n _ (t .terms-for .ensures) _ (k .slot-of .ensures) _ _ _ _ _ (y .lane-step .ensures)
+    (c .taken-of .ensures)
 
 pub read-on-spec : {M : Type 1} → statement M
 read-on-spec =
     tie.close
     (tie.spec
-    mul-a
-    element-copy-out-a
-    mul-ch
-    element-copy-out-ch
-    info-for-requires
-    mul-h
-    element-copy-out-h
+    terms-for-requires
+    slot-of-requires
     add-end
     mul-from
     add-to

@@ -5,8 +5,8 @@ use Rattle.reader.proofs.take_seen.Statement.{statement}
 use Rattle.reader.proofs.take_seen.Tie as tie
 
 gap-of-requires : tie.Need-gap-of-requires
-gap-of-requires c κs = let b = c .before .before .before .before in seen-good (b .args .r) (b .args .frame .now) (b .args .held .now) (b .args .units .now)
-    (b .args .records .now) (b .args .x) (b .pre)
+gap-of-requires c κs = let b = c .before .before .before .before in seen-good (b .args .r) (b .args .f .now) (b .args .h .now) (b .args .u .now)
+    (b .args .c .now) (b .args .x) (b .pre)
 
 enum-told : tie.Need-enum-told
 enum-told c = search needs
@@ -21,13 +21,13 @@ read-on-requires : tie.Need-read-on-requires
 read-on-requires c κs =
     let c₈ = c .before .before .before .before .before .before .before .before in
     let b = c₈ .before .before .before in
-    on-lane (b .args .r) (b .args .frame .now) (b .args .held .now) (b .args .units .now) (b .args .records .now) (b .args .x) (b .pre) _
+    on-lane (b .args .r) (b .args .f .now) (b .args .h .now) (b .args .u .now) (b .args .c .now) (b .args .x) (b .pre) _
     (c .before .before .before .before .on .given .1) _ (c .before .before .before .before .before .before .gap-of .ensures)
 
 returns : tie.Need-returns
 returns c =
     let b = c .before .before .before .before .before .before .before .before in
-    counted-kept (b .args .r) (b .args .frame .now) (b .args .held .now) (b .args .units .now) (b .args .records .now) (b .args .x) (b .pre)
+    counted-kept (b .args .r) (b .args .f .now) (b .args .h .now) (b .args .u .now) (b .args .c .now) (b .args .x) (b .pre)
     (c .before .enum-told .given .1) _ (c .before .before .before .gap-of .ensures) _ (c .counted-of .ensures)
 
 same-length : tie.Need-same-length
@@ -44,7 +44,7 @@ returns-2 c =
     let c₈ = c .before .before .before .before .before .before .before .before in
     let c₁₆ = c₈ .before .before .before .before .before .before .before .before in
     let b = c₁₆ .before .before in
-    lane-kept (b .args .r) (b .args .frame .now) (b .args .held .now) (b .args .units .now) (b .args .records .now) (b .args .x) (b .pre) _
+    lane-kept (b .args .r) (b .args .f .now) (b .args .h .now) (b .args .u .now) (b .args .c .now) (b .args .x) (b .pre) _
     (c₈ .before .before .before .on .given .1) _ (c₈ .before .before .before .before .before .gap-of .ensures) _
     (c .before .before .before .before .before .before .read-on .ensures)
 
