@@ -2,10 +2,10 @@
 -- unit that ends is due; and where the lane ends between batches, each batch's units have ended, once and in order.
 use mathlib.Core.Path.{_≡_, refl, sym, ap, ap₂, _∙_, subst}
 use mathlib.Core.Logic.{_⊎_, inl, inr}
-use Prim.Native.Nat.{ℕ, suc, _+_, _≤_, _<_}
-use native.Mathlib.Nat.{not-suc-le-zero, suc-ne-zero}
+use Prim.Native.Nat.{ℕ, _+_, _*_, _<_}
+use native.Mathlib.Nat.{zero-mul}
 use native.Mathlib.Omega.{arith}
-use mathlib.Core.Bool.{Bool, true, false, cond}
+use mathlib.Core.Bool.{Bool, true, cond}
 use mathlib.Core.List.{List, [], _∷_, _++_, append-assoc}
 use lib.ListN.{getD}
 use lib.Seq.{getD-set-same}
@@ -15,18 +15,18 @@ use Rattle.rules.specs.declared.Setting.{Setting}
 use Rattle.rules.specs.declared.Writer.{Writer}
 use Rattle.rules.specs.Tests.{_=?_}
 use Rattle.rules.specs.Settings.{lane, channelOf, number, zone}
-use Rattle.rules.specs.Writing.{batchOk, unitsOf, frames, numberAfter}
-use Rattle.rules.proofs.Tests.{same, and-left, and-right}
+use Rattle.rules.specs.Writing.{unitsOf, frames, numberAfter}
+use Rattle.rules.proofs.Tests.{split, same, and-left, and-right}
 use Rattle.rules.specs.Valid.{Good}
-use Rattle.link.specs.Link.{Call, called, Frame, frameBy, sent}
-use Rattle.link.specs.Due.{spans, ending, kept, placeOf, noneGone, clean, dueIn, due}
+use Rattle.link.specs.Link.{Call, called, Frame, placeOf, frameBy, sent}
+use Rattle.link.specs.Due.{ending, kept, noneGone, clean, dueIn, due}
 use Rattle.link.specs.Demand.{lending, InOrder}
 use Rattle.link.specs.Corollaries.{begunIn, endedIn, unitsSent, unitsEnded, afterCalls}
-use Rattle.link.proofs.Spans.{ends-same}
-use Rattle.link.proofs.Batches.{units}
-use Rattle.link.proofs.Once.{ended, once}
+use Rattle.link.proofs.Spans.{Filled}
+use Rattle.link.proofs.Batches.{units, Follows, follows}
+use Rattle.link.proofs.Once.{endsIn, ends-on, ends-nowhere, ends-all}
 use Rattle.link.proofs.Run.{State, sender, frame, numberOf, afterGone, Ready, ready-gone, Goes, Onward, onward}
-use Rattle.link.proofs.Views.{clean-apart, clean-beside, clean-now, clean-before, due-not, number-other, batch-other}
+use Rattle.link.proofs.Views.{Safe, safe-kept, clean-other, clean-now, clean-before, due-not, number-other, batch-other}
 use Rattle.link.proofs.Steps.{zone-some}
 
 -- ---- after the first calls of some
@@ -39,8 +39,8 @@ module _ (s : Setting) where
     pub order : InOrder (sender s state) (state .last) ys
     pub leaves : afterCalls (sender s st) xs ≡ sender s state
     pub ends : afterCalls (sender s st) (xs ++ ys) ≡ afterCalls (sender s state) ys
-    pub owes : (l : ℕ) → due s l (st .past) (sent (sender s st) (xs ++ ys))
-        ≡ due s l (st .past) (sent (sender s st) xs) ++ due s l (state .past) (sent (sender s state) ys)
+    pub owes : (l : ℕ) → due l (st .past) (sent (sender s st) (xs ++ ys))
+        ≡ due l (st .past) (sent (sender s st) xs) ++ due l (state .past) (sent (sender s state) ys)
 
   pub reached : (xs ys : List Call) (st : State) → Ready s st → InOrder (sender s st) (st .last) (xs ++ ys) → Reached st xs ys
   unfolding afterCalls sent due afterGone
@@ -57,59 +57,43 @@ module _ (s : Setting) where
         ends = ap (λ (y : Writer). afterCalls y (xs ++ ys)) w ∙ q .ends;
         owes = λ l.
             let f : List Frame = frame s st x ∷ st .past in
-            let d : List (List ℕ) = dueIn s l (frame s st x) (st .past) in
+            let d : List (List ℕ) = dueIn l (frame s st x) (st .past) in
             ap (λ (us : List (List ℕ)). d ++ us)
-            (ap (λ (y : Writer). due s l f (sent y (xs ++ ys))) w ∙ q .owes l
-            ∙ ap (λ (y : Writer). due s l f (sent y xs) ++ due s l (q .state .past) (sent (sender s (q .state)) ys)) (sym w))
-            ∙ sym (append-assoc d (due s l f (sent ((called (sender s st) x) .sender .state) xs)) (due s l (q .state .past) (sent (sender s (q .state)) ys)));
+            (ap (λ (y : Writer). due l f (sent y (xs ++ ys))) w ∙ q .owes l
+            ∙ ap (λ (y : Writer). due l f (sent y xs) ++ due l (q .state .past) (sent (sender s (q .state)) ys)) (sym w))
+            ∙ sym (append-assoc d (due l f (sent ((called (sender s st) x) .sender .state) xs)) (due l (q .state .past) (sent (sender s (q .state)) ys)));
       }
 
 -- ---- the frames of one batch
 
--- Of a batch at frame n: the units that ended before, and those that began with the batch.
-abbrev over : Kind → ℕ → ℕ → List ℕ → List (List ℕ)
-over kind z n b = ended n (spans z 0 (unitsOf kind b))
+-- Of units so far as octet n: with what ends and what begins later, all has ended that began.
+abbrev Even : ℕ → List (List ℕ) → List (List ℕ) → List (List ℕ) → Type 0
+Even n us e f = endsIn 0 n 0 us ++ e ≡ cond (n =? 0) [] us ++ f
 
-abbrev begun : Kind → ℕ → List ℕ → List (List ℕ)
-begun kind n b = cond (n =? 0) [] (unitsOf kind b)
-
--- With what ends and what begins later, all has ended that began.
-abbrev Even : Kind → ℕ → ℕ → List ℕ → List (List ℕ) → List (List ℕ) → Type 0
-Even kind z n b e f = over kind z n b ++ e ≡ begun kind n b ++ f
-
--- Frame k ends its units, and the last frame the last of them.
-all-end : (kind : Kind) (longest z k : ℕ) (b last : List ℕ) → 0 < z → batchOk kind longest b ≡ true → (k ≡ 0) ⊎ (b ≡ last) → (e f : List (List ℕ))
-    → Even kind z (numberAfter k (frames z b)) b e f
-    → Even kind z k last (ending k (λ (i : ℕ). true) (spans z 0 (unitsOf kind b)) ++ e) (cond (k =? 0) (unitsOf kind b) [] ++ f)
-unfolding ended
-all-end kind longest z k b last zp ok turn e f h =
-    ap (λ (us : List (List ℕ)). us ++ (here ++ e)) (turned turn) ∙ sym (append-assoc (over kind z k b) here e) ∙ onwards
-    ∙ same k 0 (λ q. sym (ap parts (eq-eqb k 0 q))) (λ q. ap (λ (c : List ℕ). unitsOf kind c ++ f) (other turn q) ∙ sym (ap parts (ne-eqb k 0 q)))
+-- A frame ends its units, and the last frame the last of them.
+all-end : (us last : List (List ℕ)) (start stop next : ℕ) → Filled us → start < stop → (start ≡ 0) ⊎ (us ≡ last) → Follows us stop next
+    → (e f : List (List ℕ)) → Even next us e f → Even start last (endsIn start stop 0 us ++ e) (cond (start =? 0) us [] ++ f)
+all-end us last start stop next full on turn then e f h =
+    ap (λ (vs : List (List ℕ)). vs ++ (endsIn start stop 0 us ++ e)) (turned turn) ∙ sym (append-assoc (endsIn 0 start 0 us) (endsIn start stop 0 us) e)
+    ∙ ap (λ (vs : List (List ℕ)). vs ++ e) (ends-on 0 start stop (omega arith) (omega arith) us 0) ∙ onwards then
+    ∙ same start 0 (λ q. sym (ap parts (eq-eqb start 0 q))) (λ q. ap (λ (vs : List (List ℕ)). vs ++ f) (other turn q) ∙ sym (ap parts (ne-eqb start 0 q)))
   where
-    here : List (List ℕ)
-    here = ending k (λ (i : ℕ). true) (spans z 0 (unitsOf kind b))
-
     parts : Bool → List (List ℕ)
-    parts t = cond t [] (unitsOf kind last) ++ (cond t (unitsOf kind b) [] ++ f)
+    parts t = cond t [] last ++ (cond t us [] ++ f)
 
-    turned : (k ≡ 0) ⊎ (b ≡ last) → over kind z k last ≡ over kind z k b
-    turned (inl q) = ap (λ (n : ℕ). over kind z n last) q ∙ ap (λ (n : ℕ). over kind z n b) (sym q)
-    turned (inr q) = ap (over kind z k) (sym q)
+    turned : (start ≡ 0) ⊎ (us ≡ last) → endsIn 0 start 0 last ≡ endsIn 0 start 0 us
+    turned (inl q) = ap (λ (n : ℕ). endsIn 0 n 0 last) q ∙ ends-nowhere 0 last 0 ∙ sym (ap (λ (n : ℕ). endsIn 0 n 0 us) q ∙ ends-nowhere 0 us 0)
+    turned (inr q) = ap (endsIn 0 start 0) (sym q)
 
-    other : (k ≡ 0) ⊎ (b ≡ last) → (k ≡ 0 → ⊥) → b ≡ last
+    other : (start ≡ 0) ⊎ (us ≡ last) → (start ≡ 0 → ⊥) → us ≡ last
     other (inl q) n = absurd (n q)
     other (inr q) n = q
 
-    onwards : over kind z (suc k) b ++ e ≡ unitsOf kind b ++ f
-    onwards =
-        same (k + 1) (frames z b)
-        (λ q.
-        let n : numberAfter k (frames z b) ≡ 0 = unfold numberAfter in rw (eq-eqb (k + 1) (frames z b) q) in
-        let m : suc k ≡ frames z b = omega arith in
-        ap₂ _++_ (ap (λ (i : ℕ). over kind z i b) m ∙ once kind longest z zp b ok) (subst (λ (i : ℕ). Even kind z i b e f) n h))
-        (λ q.
-        let n : numberAfter k (frames z b) ≡ suc k = unfold numberAfter in rw (ne-eqb (k + 1) (frames z b) q) (omega arith) in
-        subst (λ (i : ℕ). Even kind z i b e f) n h ∙ ap (λ (t : Bool). cond t [] (unitsOf kind b) ++ f) (ne-eqb (suc k) 0 (suc-ne-zero k)))
+    onwards : Follows us stop next → endsIn 0 stop 0 us ++ e ≡ us ++ f
+    onwards (inl q) = subst (λ (i : ℕ). Even i us e f) q h ∙ ap (λ (t : Bool). cond t [] us ++ f) (ne-eqb stop 0 (λ p. omega arith))
+    onwards (inr q) =
+        ap₂ _++_ (ends-all stop us 0 full (omega (arith, q .1)))
+        (ap (λ (vs : List (List ℕ)). vs ++ e) (sym (ends-nowhere 0 us 0)) ∙ subst (λ (i : ℕ). Even i us e f) (q .0) h)
 
 -- ---- what a lane has of a state and of a frame
 
@@ -126,14 +110,14 @@ module _ (s : Setting) (l : ℕ) where
 
   -- The frames of its batch so far are clean.
   abbrev Clean : State → Type 0
-  Clean st = (i : ℕ) → i < next st → clean s l (st .past) i ≡ true
+  Clean st = (i : ℕ) → i < next st * z → clean l (placeOf s l) (st .past) i ≡ true
 
   abbrev EvenIn : State → List (List ℕ) → List (List ℕ) → Type 0
-  EvenIn st e f = Even kind z (next st) (st .last l) e f
+  EvenIn st e f = Even (next st * z) (unitsOf kind (st .last l)) e f
 
   -- The state by its parts.
-  even-in : (st : State) (n : ℕ) (b : List ℕ) (e f : List (List ℕ)) → next st ≡ n → st .last l ≡ b → EvenIn st e f → Even kind z n b e f
-  even-in st n b e f p q h = subst (λ (i : ℕ). Even kind z i b e f) p (subst (λ (y : List ℕ). Even kind z (next st) y e f) q h)
+  even-in : (st : State) (n : ℕ) (b : List ℕ) (e f : List (List ℕ)) → next st ≡ n → st .last l ≡ b → EvenIn st e f → Even (n * z) (unitsOf kind b) e f
+  even-in st n b e f p q h = subst (λ (i : ℕ). Even (i * z) (unitsOf kind b) e f) p (subst (λ (y : List ℕ). Even (next st * z) (unitsOf kind y) e f) q h)
 
 -- ---- the frame is the lane's own
 
@@ -153,101 +137,107 @@ module _ (s : Setting) (g : Good s) (st : State) (x : Call) (r : Ready s st) (c 
   last-own = rw (eq-eqb own own refl)
 
   even-own : (e f : List (List ℕ)) → EvenIn s own (afterGone s st x) e f
-      → EvenIn s own st (endedIn s own (frame s st x) ++ e) (begunIn s own (frame s st x) ++ f)
+      → EvenIn s own st (endedIn own (frame s st x) ++ e) (begunIn own (frame s st x) ++ f)
   unfolding frameBy
   even-own e f h =
+      let zp : 0 < z s own = zone-some s g own (c .takes .numbered) in
       rw (eq-eqb own own refl)
-      (all-end (kind s own) ((lane s own) .longest) (z s own) k (x .batch) (st .last own) (zone-some s g own (c .takes .numbered)) (c .takes .batch) (c .turn)
+      (all-end _ _ (k * z s own) (k * z s own + z s own) _ (units _ _ (x .batch) (c .takes .batch) .filled) (omega arith) (in-turn (c .turn))
+      (follows (kind s own) ((lane s own) .longest) (z s own) k zp (x .batch) (c .takes .batch))
       e f (even-in s own (afterGone s st x) _ (x .batch) e f next-own last-own h))
+    where
+      in-turn : (k ≡ 0) ⊎ (x .batch ≡ st .last own) → (k * z s own ≡ 0) ⊎ (unitsOf (kind s own) (x .batch) ≡ unitsOf (kind s own) (st .last own))
+      in-turn (inl e) = inl (ap (λ (i : ℕ). i * z s own) e ∙ zero-mul (z s own))
+      in-turn (inr e) = inr (ap (unitsOf (kind s own)) e)
 
   -- It is kept.
   module _ (q : kept (x .passage) ≡ true) (h : Clean s own st) where
-    clean-up-to : (i : ℕ) → i ≤ k → clean s own (frame s st x ∷ st .past) i ≡ true
+    safe : Safe own (placeOf s own) (frame s st x) (st .past)
     unfolding frameBy
-    clean-up-to i b =
-        same k i (λ e. clean-now s own (frame s st x) (st .past) refl q i e)
-        (λ e. clean-before s own (frame s st x) (st .past) refl q i e ∙ h i (omega arith))
+    safe = safe-kept own (placeOf s own) (frame s st x) (st .past) q
+
+    clean-all : (i : ℕ) → clean own (placeOf s own) (frame s st x ∷ st .past) i ≡ true
+    unfolding frameBy
+    clean-all i =
+        split (k * z s own) i (λ e. clean-now own (placeOf s own) (frame s st x) (st .past) safe refl i e)
+        (λ e. clean-before own (placeOf s own) (frame s st x) (st .past) safe refl i e ∙ h i e)
 
     clean-own : Clean s own (afterGone s st x)
-    unfolding numberAfter afterGone
-    clean-own i b = clean-up-to i (up-to ((k + 1) =? frames (z s own) (x .batch)) (subst (λ (n : ℕ). i < n) next-own b))
-      where
-        up-to : (t : Bool) → i < cond t 0 (k + 1) → i ≤ k
-        up-to true b = absurd (not-suc-le-zero b)
-        up-to false b = omega arith
+    unfolding afterGone
+    clean-own i b = clean-all i
 
-    due-own : dueIn s own (frame s st x) (st .past) ≡ endedIn s own (frame s st x)
+    due-own : dueIn own (frame s st x) (st .past) ≡ endedIn own (frame s st x)
     unfolding dueIn frameBy
     due-own =
-        ap (λ (us : List (List ℕ)). cond (own =? own) us [])
-        (ends-same (z s own) (zone-some s g own (c .takes .numbered)) k _ (λ (i : ℕ). true) clean-up-to (unitsOf (kind s own) (x .batch)) 0
-        (units _ _ (x .batch) (c .takes .batch) .filled))
+        ap (λ (p : ℕ → Bool). cond (own =? own) (ending (k * z s own) (k * z s own + z s own) p 0 (unitsOf (kind s own) (x .batch))) [])
+        (λ t i. (clean-all i) t)
 
 -- ---- the frame is any lane's
 
 module _ (s : Setting) (g : Good s) (l : ℕ) where
   even-step : (st : State) (x : Call) → Ready s st → Goes s st x → (e f : List (List ℕ)) → EvenIn s l (afterGone s st x) e f
-      → EvenIn s l st (endedIn s l (frame s st x) ++ e) (begunIn s l (frame s st x) ++ f)
+      → EvenIn s l st (endedIn l (frame s st x) ++ e) (begunIn l (frame s st x) ++ f)
   unfolding frameBy
   even-step st x r c e f h =
       same (x .lane) l
       (λ q.
-      subst (λ (i : ℕ). EvenIn s i (afterGone s st x) e f → EvenIn s i st (endedIn s i (frame s st x) ++ e) (begunIn s i (frame s st x) ++ f)) q
+      subst (λ (i : ℕ). EvenIn s i (afterGone s st x) e f → EvenIn s i st (endedIn i (frame s st x) ++ e) (begunIn i (frame s st x) ++ f)) q
       (even-own s g st x r c e f) h)
       (λ n. rw (ne-eqb (x .lane) l n) (even-in s l (afterGone s st x) (next s l st) (st .last l) e f (number-other s l st x n) (batch-other s l st x n) h))
 
   -- It is kept, if it is of the lane's channel: what is due in it is what ends in it.
   due-step : (st : State) (x : Call) → Ready s st → Goes s st x → cond (placeOf s (x .lane) =? placeOf s l) (kept (x .passage)) true ≡ true → Clean s l st
-      → (dueIn s l (frame s st x) (st .past) ≡ endedIn s l (frame s st x)) × Clean s l (afterGone s st x)
+      → (dueIn l (frame s st x) (st .past) ≡ endedIn l (frame s st x)) × Clean s l (afterGone s st x)
   unfolding frameBy afterGone
   due-step st x r c q h =
       same (x .lane) l
       (λ e.
-      subst (λ (i : ℕ). Clean s i st → (dueIn s i (frame s st x) (st .past) ≡ endedIn s i (frame s st x)) × Clean s i (afterGone s st x)) e
+      subst (λ (i : ℕ). Clean s i st → (dueIn i (frame s st x) (st .past) ≡ endedIn i (frame s st x)) × Clean s i (afterGone s st x)) e
       (λ o. (due-own s g st x r c (is-kept (ap (placeOf s) e)) o, clean-own s g st x r c (is-kept (ap (placeOf s) e)) o)) h)
       (λ n. (
-        due-not s l (frame s st x) (st .past) n ∙ sym (rw (ne-eqb (x .lane) l n)),
-        λ i b. beside n i ∙ h i (subst (λ (m : ℕ). i < m) (number-other s l st x n) b),
+        due-not l (frame s st x) (st .past) n ∙ sym (rw (ne-eqb (x .lane) l n)),
+        λ i b. clean-other l (placeOf s l) (frame s st x) (st .past) q n i ∙ h i (subst (λ (m : ℕ). i < m * z s l) (number-other s l st x n) b),
       ))
     where
       is-kept : placeOf s (x .lane) ≡ placeOf s l → kept (x .passage) ≡ true
       is-kept e = sym (ap (λ (t : Bool). cond t (kept (x .passage)) true) (eq-eqb (placeOf s (x .lane)) (placeOf s l) e)) ∙ q
 
-      beside : (x .lane ≡ l → ⊥) → (i : ℕ) → clean s l (frame s st x ∷ st .past) i ≡ clean s l (st .past) i
-      beside n i =
-          same (placeOf s (x .lane)) (placeOf s l) (λ e. clean-beside s l (frame s st x) (st .past) e (is-kept e) n i)
-          (λ e. clean-apart s l (frame s st x) (st .past) e i)
-
   -- ---- the calls
 
   -- No frame of the channel is gone: every unit that ends is due.
   pub all-due : (xs : List Call) (st : State) → Ready s st → InOrder (sender s st) (st .last) xs → Clean s l st
-      → noneGone s (placeOf s l) (sent (sender s st) xs) ≡ true → due s l (st .past) (sent (sender s st) xs) ≡ unitsEnded s l (sent (sender s st) xs)
+      → noneGone (placeOf s l) (sent (sender s st) xs) ≡ true → due l (st .past) (sent (sender s st) xs) ≡ unitsEnded l (sent (sender s st) xs)
   unfolding sent due unitsEnded noneGone frameBy afterGone
   all-due [] st r o h q = refl
   all-due (x ∷ xs) st r o h q =
       let n : Onward s st x xs = onward s st x xs o in
-      let q′ = subst (λ (fs : List Frame). noneGone s (placeOf s l) fs ≡ true) (n .sends) q in
+      let q′ = subst (λ (fs : List Frame). noneGone (placeOf s l) fs ≡ true) (n .sends) q in
       let d = due-step st x r (n .first) (and-left _ _ q′) h in
-      ap (due s l (st .past)) (n .sends)
+      ap (due l (st .past)) (n .sends)
       ∙ ap₂ _++_ (d .0)
       (all-due xs (afterGone s st x) (ready-gone s st x r) (n .order) (d .1)
       (and-right (cond (placeOf s (x .lane) =? placeOf s l) (kept (x .passage)) true) _ q′))
-      ∙ ap (unitsEnded s l) (sym (n .sends))
+      ∙ ap (unitsEnded l) (sym (n .sends))
 
   -- The lane stands between batches afterwards: all that began has ended.
   all-ended : (xs : List Call) (st : State) → Ready s st → InOrder (sender s st) (st .last) xs → number (afterCalls (sender s st) xs) l ≡ 0
-      → EvenIn s l st (unitsEnded s l (sent (sender s st) xs)) (unitsSent s l (sent (sender s st) xs))
-  unfolding sent unitsEnded unitsSent afterCalls ended
-  all-ended [] st r o e = rw e
+      → EvenIn s l st (unitsEnded l (sent (sender s st) xs)) (unitsSent l (sent (sender s st) xs))
+  unfolding sent unitsEnded unitsSent afterCalls
+  all-ended [] st r o e =
+      let q : next s l st * z s l ≡ 0 = ap (λ (i : ℕ). i * z s l) e ∙ zero-mul (z s l) in
+      ap (λ (i : ℕ). endsIn 0 i 0 (unitsOf (kind s l) (st .last l)) ++ []) q ∙ ap (λ (us : List (List ℕ)). us ++ []) (ends-nowhere 0 _ 0)
+      ∙ sym (ap (λ (t : Bool). cond t [] (unitsOf (kind s l) (st .last l)) ++ []) (eq-eqb _ 0 q))
   all-ended (x ∷ xs) st r o e =
       let n : Onward s st x xs = onward s st x xs o in
-      subst (λ (fs : List Frame). EvenIn s l st (unitsEnded s l fs) (unitsSent s l fs)) (sym (n .sends))
+      subst (λ (fs : List Frame). EvenIn s l st (unitsEnded l fs) (unitsSent l fs)) (sym (n .sends))
       (even-step st x r (n .first) _ _
       (all-ended xs (afterGone s st x) (ready-gone s st x r) (n .order) (subst (λ (w : Writer). number (afterCalls w xs) l ≡ 0) (n .first .leaves) e)))
 
   -- It stood there before them too: what ended is what began.
   pub all-units : (xs : List Call) (st : State) → Ready s st → InOrder (sender s st) (st .last) xs → next s l st ≡ 0
-      → number (afterCalls (sender s st) xs) l ≡ 0 → unitsEnded s l (sent (sender s st) xs) ≡ unitsSent s l (sent (sender s st) xs)
-  unfolding ended
-  all-units xs st r o b e = even-in s l st 0 (st .last l) _ _ b refl (all-ended xs st r o e)
+      → number (afterCalls (sender s st) xs) l ≡ 0 → unitsEnded l (sent (sender s st) xs) ≡ unitsSent l (sent (sender s st) xs)
+  all-units xs st r o b e =
+      let us : List (List ℕ) = unitsOf (kind s l) (st .last l) in
+      let q : next s l st * z s l ≡ 0 = ap (λ (i : ℕ). i * z s l) b ∙ zero-mul (z s l) in
+      let h = subst (λ (i : ℕ). Even i us (unitsEnded l (sent (sender s st) xs)) (unitsSent l (sent (sender s st) xs))) q (all-ended xs st r o e) in
+      ap (λ (vs : List (List ℕ)). vs ++ unitsEnded l (sent (sender s st) xs)) (sym (ends-nowhere 0 us 0)) ∙ h

@@ -31,8 +31,7 @@ use Rattle.rules.proofs.Valid.{good-reader}
 use Rattle.rules.proofs.Lanes.{lane-below}
 use Rattle.rules.proofs.Calls.{verdict-cond, read-valid, read-fits}
 use Rattle.rules.proofs.Written.{FrameBack}
-use Rattle.link.specs.Link.{Lent, unitsBy, handed}
-use Rattle.link.specs.Due.{placeOf}
+use Rattle.link.specs.Link.{Lent, placeOf, unitsBy, handed}
 use Rattle.link.specs.Demand.{enough}
 use Rattle.link.proofs.Spans.{either}
 use Rattle.link.proofs.Records.{handed-laid}

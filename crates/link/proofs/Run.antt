@@ -23,8 +23,8 @@ use Rattle.rules.proofs.Tests.{and-left, and-right}
 use Rattle.rules.specs.Valid.{Good}
 use Rattle.rules.proofs.Calls.{Accepted, none-refused, accepted}
 use Rattle.rules.proofs.Written.{FrameBack, write-back}
-use Rattle.link.specs.Link.{Lent, Arrival, Passage, Kept, Gone, Call, called, Frame, frameBy, sent, arriving, arrivals, reads, handedOut}
-use Rattle.link.specs.Due.{kept, placeOf, dueIn, due}
+use Rattle.link.specs.Link.{Lent, Arrival, Passage, Kept, Gone, Call, called, Frame, placeOf, frameBy, sent, arriving, arrivals, reads, handedOut}
+use Rattle.link.specs.Due.{kept, dueIn, due}
 use Rattle.link.specs.Demand.{lending, InOrder, enough, allRefused, passes, allPass}
 use Rattle.link.proofs.Received.{stray, reader, gapped, length-left, stored-length, makes, Taken, read-takes, read-ready}
 
@@ -198,12 +198,12 @@ module _ (s : Setting) where
   -- What is known of the states of a run, so far as lane l goes, is handed from call to call; and what each frame hands out is due.
   module _ (good : Good s) (l : ℕ) (Knows : State → List Frame → Type 0)
       (if-gone : (st : State) (x : Call) (rest : List Frame) → Ready st → Goes st x → kept (x .passage) ≡ false → Knows st (frame st x ∷ rest)
-      → (dueIn s l (frame st x) (st .past) ≡ []) × Knows (afterGone st x) rest)
+      → (dueIn l (frame st x) (st .past) ≡ []) × Knows (afterGone st x) rest)
       (if-kept : (st : State) (x : Call) (rest : List Frame) → Ready st → Goes st x → length ((madeOf st x) .held) ≤ 8192 → kept (x .passage) ≡ true
-      → Knows st (frame st x ∷ rest) → (cond (x .lane =? l) ((madeOf st x) .units) [] ≡ dueIn s l (frame st x) (st .past)) × Knows (afterKept st x) rest)
+      → Knows st (frame st x ∷ rest) → (cond (x .lane =? l) ((madeOf st x) .units) [] ≡ dueIn l (frame st x) (st .past)) × Knows (afterKept st x) rest)
     where
       abbrev Says : State → List Frame → Type 0
-      Says st fs = handedOut l (reads (hearer st) (st .area) (arrivals fs)) ≡ due s l (st .past) fs
+      Says st fs = handedOut l (reads (hearer st) (st .area) (arrivals fs)) ≡ due l (st .past) fs
 
       step : (st : State) (x : Call) (rest : List Frame) → Ready st → Goes st x → passes s (x .passage) ≡ true → Knows st (frame st x ∷ rest)
           → (Ready (afterGone st x) → Knows (afterGone st x) rest → Says (afterGone st x) rest)
@@ -213,13 +213,13 @@ module _ (s : Setting) where
         where
           by : (q : Passage) → x .passage ≡ q → passes s q ≡ true
               → handedOut l (reads (hearer st) (st .area) (arriving (x .passage) ((frame st x) .octets) ++ arrivals rest))
-              ≡ dueIn s l (frame st x) (st .past) ++ due s l (frame st x ∷ st .past) rest
+              ≡ dueIn l (frame st x) (st .past) ++ due l (frame st x ∷ st .past) rest
           by (Gone instead) e h =
               let d = if-gone st x rest r c (ap kept e) k in
               ap (λ (q : Passage). handedOut l (reads (hearer st) (st .area) (arriving q ((frame st x) .octets) ++ arrivals rest))) e
               ∙ strays-read l (hearer st) (st .area) instead (arrivals rest) refl h
               ∙ on-gone (ready-gone st x r) (d .1)
-              ∙ ap (λ (us : List (List ℕ)). us ++ due s l (frame st x ∷ st .past) rest) (sym (d .0))
+              ∙ ap (λ (us : List (List ℕ)). us ++ due l (frame st x ∷ st .past) rest) (sym (d .0))
           by (Kept a) e h =
               let t = took good st x r c a h in
               let d = if-kept st x rest r c (t .small) (ap kept e) k in

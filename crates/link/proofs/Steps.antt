@@ -1,7 +1,8 @@
 -- One call and its frame's passage, as a lane sees them: the lane's invariant is handed on, and what is handed out is due.
 use mathlib.Core.Path.{_≡_, refl, sym, ap, _∙_, subst}
-use mathlib.Core.Logic.{_⊎_}
-use Prim.Native.Nat.{ℕ, _≤_, _<_}
+use mathlib.Core.Logic.{_⊎_, inl, inr}
+use Prim.Native.Nat.{ℕ, _+_, _*_, _≤_, _<_}
+use native.Mathlib.Nat.{zero-mul}
 use native.Mathlib.Omega.{arith}
 use mathlib.Core.Bool.{Bool, true, false, cond}
 use mathlib.Core.List.{List, [], _∷_}
@@ -12,19 +13,20 @@ use Rattle.rules.specs.declared.Setting.{Setting}
 use Rattle.rules.specs.declared.Expect.{Expect}
 use Rattle.rules.specs.Tests.{_=?_}
 use Rattle.rules.specs.Settings.{noExpect, channel, lane, channelOf, zone}
-use Rattle.rules.specs.Frames.{pointsTo}
-use Rattle.rules.specs.Writing.{frames, zoneOf, ruleOf, pointerOf}
-use Rattle.rules.specs.Reading.{missing, expected, Made, laneStep}
+use Rattle.rules.specs.Writing.{unitsOf}
+use Rattle.rules.specs.Reading.{missing, expected}
 use Rattle.rules.proofs.Tests.{same}
-use Rattle.rules.specs.Valid.{Good, least}
+use Rattle.rules.specs.Valid.{Good}
 use Rattle.rules.proofs.Valid.{good-channelOf}
 use Rattle.rules.proofs.Written.{zone-small}
-use Rattle.link.specs.Link.{Call, Frame, frameBy}
-use Rattle.link.specs.Due.{kept, placeOf, clean, dueIn}
+use Rattle.link.specs.Link.{Call, Frame, placeOf, frameBy}
+use Rattle.link.specs.Due.{kept, clean, dueIn}
 use Rattle.link.specs.Demand.{lending, keptOn}
-use Rattle.link.proofs.Invariant.{View, heldAfter, Inv, inv-other, inv-gone, inv-beside, made, units-due, inv-next}
+use Rattle.link.proofs.Spans.{yield}
+use Rattle.link.proofs.Batches.{Reads, lane-reads, follows}
+use Rattle.link.proofs.Invariant.{View, heldAfter, Inv, inv-other, inv-gone, inv-beside, units-due, inv-next}
 use Rattle.link.proofs.Received.{holds, gapped, left, length-left, holds-other, holds-gap, stored-here, stored-other, makes}
-use Rattle.link.proofs.Views.{clean-gone, clean-apart, clean-beside, clean-now, clean-before, due-not, due-gone, flags-on, flags-off, view, number-other, batch-other, count-other, count-on}
+use Rattle.link.proofs.Views.{clean-gone, safe-kept, safe-apart, clean-other, clean-now, clean-before, due-not, due-gone, flags-on, flags-off, view, number-other, batch-other, count-other, count-on}
 use Rattle.link.proofs.Run.{State, frame, countOf, numberOf, afterGone, afterKept, madeOf, Ready, Goes}
 
 -- ---- what is known of a lane
@@ -33,51 +35,46 @@ module _ (s : Setting) (g : Good s) (l : ℕ) (lh : l < s .numbered) where
   pub zone-some : 0 < zone s (channelOf s l)
   zone-some = good-channelOf g l lh .room
 
-  pub zone-few : zone s (channelOf s l) ≤ 4096
-  zone-few = zone-small s g (channelOf s l)
-
-  pub long : least ((lane s l) .kind) ≤ (lane s l) .longest
-  long = g .lanes l lh .kind .enough
-
   abbrev pub Known : View → (ℕ → Bool) → List Bool → Type 0
-  Known v whole flags = Inv ((lane s l) .kind) ((lane s l) .longest) (zone s (channelOf s l)) ((channelOf s l) .octets) zone-some zone-few long v whole flags
+  Known v whole flags = Inv ((channelOf s l) .octets) v whole flags
 
   -- The invariant, of lane l's view of a state, with the frames that are to come.
   unfoldable pub Knows : State → List Frame → Type 0
-  Knows st rest = Known (view s l st) (clean s l (st .past)) (keptOn s (placeOf s l) rest)
+  Knows st rest = Known (view s l st) (clean l (placeOf s l) (st .past)) (keptOn (placeOf s l) rest)
 
   pub channel-8 : placeOf s l < 8
   channel-8 = omega (arith, g .lanes l lh .channel, g .listed)
 
   -- A view by its parts.
-  parts : (a a′ b b′ : ℕ) (c c′ : Expect) (d d′ e e′ : List ℕ) → a ≡ a′ → b ≡ b′ → c ≡ c′ → d ≡ d′ → e ≡ e′
-      → _≡_ {A = View} (record { number = a; count = b; expect = c; hold = d; batch = e })
-      (record { number = a′; count = b′; expect = c′; hold = d′; batch = e′ })
-  parts a a′ b b′ c c′ d d′ e e′ p q r t u = λ y. record { number = p y; count = q y; expect = r y; hold = t y; batch = u y }
+  parts : (a a′ b b′ : ℕ) (c c′ : Expect) (d d′ : List ℕ) (e e′ : List ℕ) → a ≡ a′ → b ≡ b′ → c ≡ c′ → d ≡ d′ → e ≡ e′
+      → _≡_ {A = View} (record { start = a * zone s (channelOf s l); count = b; expect = c; hold = d; units = unitsOf ((lane s l) .kind) e })
+      (record { start = a′ * zone s (channelOf s l); count = b′; expect = c′; hold = d′; units = unitsOf ((lane s l) .kind) e′ })
+  parts a a′ b b′ c c′ d d′ e e′ p q r t u = λ y.
+      record { start = p y * zone s (channelOf s l); count = q y; expect = r y; hold = t y; units = unitsOf ((lane s l) .kind) (u y) }
 
   -- ---- the frame is gone
 
   pub if-gone : (st : State) (x : Call) (rest : List Frame) → Ready s st → Goes s st x → kept (x .passage) ≡ false → Knows st (frame s st x ∷ rest)
-      → (dueIn s l (frame s st x) (st .past) ≡ []) × Knows (afterGone s st x) rest
+      → (dueIn l (frame s st x) (st .past) ≡ []) × Knows (afterGone s st x) rest
   unfolding Knows frameBy view afterGone
   if-gone st x rest r c q k =
       same (placeOf s (x .lane)) (placeOf s l)
       (λ e. (
-        due-gone s l (frame s st x) (st .past) e q,
-        subst (λ (v : View). Known v (clean s l (frame s st x ∷ st .past)) (keptOn s (placeOf s l) rest))
+        due-gone l (frame s st x) (st .past) q,
+        subst (λ (v : View). Known v (clean l (placeOf s l) (frame s st x ∷ st .past)) (keptOn (placeOf s l) rest))
             (parts _ _ _ _ _ _ _ _ _ _ refl (sym (count-on s l st x e (omega (arith, r .counts-8, channel-8)))) refl refl refl)
-            (inv-gone _ _ _ _ _ _ _ (view s l st) (clean s l (st .past)) (clean s l (frame s st x ∷ st .past)) (keptOn s (placeOf s l) rest) _ _
-            (clean-gone s l (frame s st x) (st .past) e q)
-            (subst (Known (view s l st) (clean s l (st .past))) (flags-on s l (frame s st x) rest false e q) k)),
+            (inv-gone _ (view s l st) (clean l (placeOf s l) (st .past)) (clean l (placeOf s l) (frame s st x ∷ st .past)) (keptOn (placeOf s l) rest) _ _
+            (clean-gone l (placeOf s l) (frame s st x) (st .past) e q)
+            (subst (Known (view s l st) (clean l (placeOf s l) (st .past))) (flags-on l (placeOf s l) (frame s st x) rest false e q) k)),
       ))
       (λ n.
       let m : x .lane ≡ l → ⊥ = λ e. n (ap (placeOf s) e) in (
-        due-not s l (frame s st x) (st .past) m,
-        subst (λ (v : View). Known v (clean s l (frame s st x ∷ st .past)) (keptOn s (placeOf s l) rest))
+        due-not l (frame s st x) (st .past) m,
+        subst (λ (v : View). Known v (clean l (placeOf s l) (frame s st x ∷ st .past)) (keptOn (placeOf s l) rest))
             (parts _ _ _ _ _ _ _ _ _ _ (sym (number-other s l st x m)) (sym (count-other s l st x n)) refl refl (sym (batch-other s l st x m)))
-            (inv-other _ _ _ _ _ _ _ (view s l st) (clean s l (st .past)) (clean s l (frame s st x ∷ st .past)) (keptOn s (placeOf s l) rest)
-            (clean-apart s l (frame s st x) (st .past) n)
-            (subst (Known (view s l st) (clean s l (st .past))) (flags-off s l (frame s st x) rest n) k)),
+            (inv-other _ (view s l st) (clean l (placeOf s l) (st .past)) (clean l (placeOf s l) (frame s st x ∷ st .past)) (keptOn (placeOf s l) rest)
+            (clean-other l (placeOf s l) (frame s st x) (st .past) (safe-apart l (placeOf s l) (frame s st x) (st .past) n) m)
+            (subst (Known (view s l st) (clean l (placeOf s l) (st .past))) (flags-off l (placeOf s l) (frame s st x) rest n) k)),
       ))
 
   -- ---- the frame is kept, and is another lane's
@@ -117,20 +114,21 @@ module _ (s : Setting) (g : Good s) (l : ℕ) (lh : l < s .numbered) where
     if-other rest q n k =
         same (placeOf s theirs) (placeOf s l)
         (λ e.
-        subst (λ (v : View). Known v (clean s l (frame s st x ∷ st .past)) (keptOn s (placeOf s l) rest))
+        subst (λ (v : View). Known v (clean l (placeOf s l) (frame s st x ∷ st .past)) (keptOn (placeOf s l) rest))
         (parts _ _ _ _ _ _ _ _ _ _ (sym (number-other s l st x n)) (sym (count-on s l st x e (omega (arith, r .counts-8, channel-8)))) (sym (expect-on e))
         (sym (hold-other n ∙ gap-on e)) (sym (batch-other s l st x n)))
-        (inv-beside _ _ _ _ _ _ _ (view s l st) (clean s l (st .past)) (keptOn s (placeOf s l) rest)
-        (subst (Known (view s l st) (clean s l (st .past))) (flags-on s l (frame s st x) rest true e q) k) (clean s l (frame s st x ∷ st .past))
-        (clean-beside s l (frame s st x) (st .past) e q n)))
+        (inv-beside _ (view s l st) (clean l (placeOf s l) (st .past)) (keptOn (placeOf s l) rest)
+        (subst (Known (view s l st) (clean l (placeOf s l) (st .past))) (flags-on l (placeOf s l) (frame s st x) rest true e q) k)
+        (clean l (placeOf s l) (frame s st x ∷ st .past))
+        (clean-other l (placeOf s l) (frame s st x) (st .past) (safe-kept l (placeOf s l) (frame s st x) (st .past) q) n)))
         (λ e.
-        subst (λ (v : View). Known v (clean s l (frame s st x ∷ st .past)) (keptOn s (placeOf s l) rest))
+        subst (λ (v : View). Known v (clean l (placeOf s l) (frame s st x ∷ st .past)) (keptOn (placeOf s l) rest))
         (parts _ _ _ _ _ _ _ _ _ _ (sym (number-other s l st x n)) (sym (count-other s l st x e))
         (sym (getD-set-other (st .expects) (placeOf s theirs) (placeOf s l) _ noExpect (λ p. e (sym p))))
         (sym (hold-other n ∙ holds-other s g l lh (placeOf s theirs) _ (st .held) (st .area) (λ p. e (sym p)))) (sym (batch-other s l st x n)))
-        (inv-other _ _ _ _ _ _ _ (view s l st) (clean s l (st .past)) (clean s l (frame s st x ∷ st .past)) (keptOn s (placeOf s l) rest)
-        (clean-apart s l (frame s st x) (st .past) e)
-        (subst (Known (view s l st) (clean s l (st .past))) (flags-off s l (frame s st x) rest e) k)))
+        (inv-other _ (view s l st) (clean l (placeOf s l) (st .past)) (clean l (placeOf s l) (frame s st x ∷ st .past)) (keptOn (placeOf s l) rest)
+        (clean-other l (placeOf s l) (frame s st x) (st .past) (safe-kept l (placeOf s l) (frame s st x) (st .past) q) n)
+        (subst (Known (view s l st) (clean l (placeOf s l) (st .past))) (flags-off l (placeOf s l) (frame s st x) rest e) k)))
 
 -- ---- the frame is kept, and is the lane's own
 
@@ -140,78 +138,86 @@ module _ (s : Setting) (g : Good s) (st : State) (x : Call) (r : Ready s st) (c 
   own = x .lane
 
   abbrev flags : List Bool
-  flags = keptOn s (placeOf s own) rest
+  flags = keptOn (placeOf s own) rest
+
+  abbrev past-whole : ℕ → Bool
+  past-whole = clean own (placeOf s own) (st .past)
 
   abbrev whole : ℕ → Bool
-  whole = clean s own (frame s st x ∷ st .past)
+  whole = clean own (placeOf s own) (frame s st x ∷ st .past)
 
-  known : Known s g own lh (view s own st) (clean s own (st .past)) (true ∷ flags)
+  abbrev us : List (List ℕ)
+  us = unitsOf ((lane s own) .kind) (x .batch)
+
+  abbrev z : ℕ
+  z = zone s (channelOf s own)
+
+  known : Known s g own lh (view s own st) past-whole (true ∷ flags)
   unfolding Knows frameBy
-  known = subst (Known s g own lh (view s own st) (clean s own (st .past))) (flags-on s own (frame s st x) rest true refl q) k
+  known = subst (Known s g own lh (view s own st) past-whole) (flags-on own (placeOf s own) (frame s st x) rest true refl q) k
 
-  now : whole ((view s own st) .number) ≡ true
+  now : (i : ℕ) → (view s own st) .start ≤ i → whole i ≡ true
   unfolding view frameBy
-  now = clean-now s own (frame s st x) (st .past) refl q _ refl
+  now i h = clean-now own (placeOf s own) (frame s st x) (st .past) (safe-kept own (placeOf s own) (frame s st x) (st .past) q) refl i h
 
-  else : (i : ℕ) → (i ≡ (view s own st) .number → ⊥) → whole i ≡ clean s own (st .past) i
+  else : (i : ℕ) → i < (view s own st) .start → whole i ≡ past-whole i
   unfolding view frameBy
-  else i n = clean-before s own (frame s st x) (st .past) refl q i (λ e. n (sym e))
+  else i h = clean-before own (placeOf s own) (frame s st x) (st .past) (safe-kept own (placeOf s own) (frame s st x) (st .past) q) refl i h
 
-  in-turn : ((view s own st) .number ≡ 0) ⊎ (x .batch ≡ (view s own st) .batch)
+  in-turn : ((view s own st) .start ≡ 0) ⊎ (us ≡ (view s own st) .units)
   unfolding view
-  in-turn = c .turn
+  in-turn = go (c .turn)
+    where
+      go : (numberOf s st x ≡ 0) ⊎ (x .batch ≡ st .last own) → (numberOf s st x * z ≡ 0) ⊎ (us ≡ unitsOf ((lane s own) .kind) (st .last own))
+      go (inl e) = inl (ap (λ (i : ℕ). i * z) e ∙ zero-mul z)
+      go (inr e) = inr (ap (unitsOf ((lane s own) .kind)) e)
 
-  in-batch : (view s own st) .number < frames (zone s (channelOf s own)) (x .batch)
-  unfolding view
-  in-batch = c .takes .below
+  does : Reads us ((view s own st) .start) ((frame s st x) .stop)
+      (heldAfter ((channelOf s own) .octets) ((view s own st) .expect) ((view s own st) .count) ((view s own st) .hold)) (yield (madeOf s st x))
+  unfolding frameBy madeOf makes view heldAfter
+  does =
+      subst (λ (h : List ℕ). Reads us (numberOf s st x * z) (numberOf s st x * z + z) h (yield (madeOf s st x))) (gap-on s g own lh st x r c small refl)
+      (lane-reads ((lane s own) .longest) z (zone-some s g own lh) (zone-small s g (channelOf s own)) (numberOf s st x) (x .batch) ((lane s own) .kind) _
+      (g .lanes own lh .kind .enough) (c .takes .batch) (c .takes .below))
 
-  did : Made
-  did = made _ _ _ _ _ _ _ (view s own st) (clean s own (st .past)) flags known (x .batch) (c .takes .batch) in-turn in-batch whole now else
+  onwards : (view s own st) .start ≤ (frame s st x) .stop
+  unfolding view frameBy
+  onwards = omega arith
 
-  did-is : madeOf s st x ≡ did
-  unfolding did madeOf made makes view heldAfter
-  did-is =
-      ap (λ (h : List ℕ).
-      laneStep ((lane s own) .kind) ((lane s own) .longest) (ruleOf ((lane s own) .kind) (numberOf s st x)) h
-      (pointsTo (pointerOf ((lane s own) .kind) (zone s (channelOf s own)) (x .batch) (numberOf s st x)))
-      (zoneOf ((lane s own) .kind) (zone s (channelOf s own)) (x .batch) (numberOf s st x)))
-      (gap-on s g own lh st x r c small refl)
-
-  own-due : cond (own =? own) ((madeOf s st x) .units) [] ≡ dueIn s own (frame s st x) (st .past)
-  unfolding dueIn frameBy view did
+  own-due : cond (own =? own) ((madeOf s st x) .units) [] ≡ dueIn own (frame s st x) (st .past)
+  unfolding dueIn frameBy view
   own-due =
       rw (eq-eqb own own refl)
-      (ap (λ (m : Made). m .units) did-is
-      ∙ units-due _ _ _ _ _ _ _ (view s own st) (clean s own (st .past)) flags known (x .batch) (c .takes .batch) in-turn in-batch whole now else)
+      (units-due _ (view s own st) past-whole flags known us in-turn ((frame s st x) .stop) onwards (yield (madeOf s st x)) does whole now else)
 
   own-next : Knows s g own lh (afterKept s st x) rest
-  unfolding Knows frameBy view afterKept afterGone did lending
+  unfolding Knows frameBy view afterKept afterGone lending
   own-next =
       subst (λ (v : View). Known s g own lh v whole flags)
       (parts s g own lh _ _ _ _ _ _ _ _ _ _ (sym (getD-set-same (st .next) own _ 0 (omega (arith, r .next-8, lane-8 s g own lh st x r c small))))
       (sym (count-on s own st x refl (omega (arith, r .counts-8, channel-8 s g own lh)))) (sym (expect-on s g own lh st x r c small refl))
-      (ap (λ (m : Made). m .held) (sym did-is)
-      ∙ sym (stored-here (gap s g own lh st x r c small) (st .area) ((madeOf s st x) .held) own (lane-8 s g own lh st x r c small)
+      (sym (stored-here (gap s g own lh st x r c small) (st .area) ((madeOf s st x) .held) own (lane-8 s g own lh st x r c small)
       (length-left s _ _ (st .held) ∙ r .held-8) (r .full) small))
       (sym (ap (λ (t : Bool). cond t (x .batch) (st .last own)) (eq-eqb own own refl))))
-      (inv-next _ _ _ _ _ _ _ (view s own st) (clean s own (st .past)) flags known (x .batch) (c .takes .batch) in-turn in-batch whole now else)
+      (inv-next _ (view s own st) past-whole flags known us in-turn ((frame s st x) .stop) onwards (yield (madeOf s st x)) does whole now else _
+      (follows ((lane s own) .kind) ((lane s own) .longest) z (numberOf s st x) (zone-some s g own lh) (x .batch) (c .takes .batch)))
 
 -- ---- the frame is kept, whosever it is
 
 module _ (s : Setting) (g : Good s) (l : ℕ) where
   -- Another lane's frame hands out nothing on lane l, and nothing is due.
-  pub none-other : (st : State) (x : Call) → (x .lane ≡ l → ⊥) → cond (x .lane =? l) ((madeOf s st x) .units) [] ≡ dueIn s l (frame s st x) (st .past)
+  pub none-other : (st : State) (x : Call) → (x .lane ≡ l → ⊥) → cond (x .lane =? l) ((madeOf s st x) .units) [] ≡ dueIn l (frame s st x) (st .past)
   unfolding frameBy
-  none-other st x n = ap (λ (t : Bool). cond t ((madeOf s st x) .units) []) (ne-eqb (x .lane) l n) ∙ sym (due-not s l (frame s st x) (st .past) n)
+  none-other st x n = ap (λ (t : Bool). cond t ((madeOf s st x) .units) []) (ne-eqb (x .lane) l n) ∙ sym (due-not l (frame s st x) (st .past) n)
 
   pub if-kept : (lh : l < s .numbered) (st : State) (x : Call) (rest : List Frame) → Ready s st → Goes s st x → length ((madeOf s st x) .held) ≤ 8192
       → kept (x .passage) ≡ true → Knows s g l lh st (frame s st x ∷ rest)
-      → (cond (x .lane =? l) ((madeOf s st x) .units) [] ≡ dueIn s l (frame s st x) (st .past)) × Knows s g l lh (afterKept s st x) rest
+      → (cond (x .lane =? l) ((madeOf s st x) .units) [] ≡ dueIn l (frame s st x) (st .past)) × Knows s g l lh (afterKept s st x) rest
   if-kept lh st x rest r c small q k =
       same (x .lane) l
       (λ e.
       subst
       (λ (i : ℕ). (h : i < s .numbered) → Knows s g i h st (frame s st x ∷ rest)
-      → (cond (x .lane =? i) ((madeOf s st x) .units) [] ≡ dueIn s i (frame s st x) (st .past)) × Knows s g i h (afterKept s st x) rest)
+      → (cond (x .lane =? i) ((madeOf s st x) .units) [] ≡ dueIn i (frame s st x) (st .past)) × Knows s g i h (afterKept s st x) rest)
       e (λ h k. (own-due s g st x r c small rest q h k, own-next s g st x r c small rest q h k)) lh k)
       (λ n. (none-other st x n, if-other s g l lh st x r c small rest q n k))

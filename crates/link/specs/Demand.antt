@@ -14,7 +14,7 @@ use Rattle.rules.specs.Settings.{channel, number}
 use Rattle.rules.specs.Refusals.{refusals}
 use Rattle.rules.specs.Calls.{setUpReader, setUpWriter, Got}
 use Rattle.link.specs.Link.{Lent, Arrival, Passage, Kept, Gone, Call, called, Frame, sent, arrivals, reads, handedOut}
-use Rattle.link.specs.Due.{kept, placeOf, due}
+use Rattle.link.specs.Due.{kept, due}
 use Rattle.rules.specs.Areas.{heldSize, recordsSize, unitsSize}
 
 -- ---- the writer's calls
@@ -53,9 +53,9 @@ allPass s [] = true
 allPass s (f ∷ fs) = passes s (f .passage) && allPass s fs
 
 -- Of the frames of channel c, whether each is kept.
-unfoldable pub keptOn : Setting → ℕ → List Frame → List Bool
-keptOn s c [] = []
-keptOn s c (f ∷ fs) = cond (placeOf s (f .lane) =? c) (kept (f .passage) ∷ []) [] ++ keptOn s c fs
+unfoldable pub keptOn : ℕ → List Frame → List Bool
+keptOn c [] = []
+keptOn c (f ∷ fs) = cond (f .channel =? c) (kept (f .passage) ∷ []) [] ++ keptOn c fs
 
 -- "Between two kept frames fewer gone than" m. So far g are gone since the last kept one, if `any` was kept.
 unfoldable pub fewGone : ℕ → Bool → ℕ → List Bool → Bool
@@ -83,13 +83,13 @@ pub record Run (s : Setting) (held : List ℕ) (xs : List Call) : Type 0 where
 
 -- "Between two kept frames of one channel and service fewer gone than 256^n."
 abbrev pub Near : Setting → List Call → Type 0
-Near s xs = (c : ℕ) → c < s .listed → fewGone (256 ^ (channel s c) .octets) false 0 (keptOn s c (framesOf s xs)) ≡ true
+Near s xs = (c : ℕ) → c < s .listed → fewGone (256 ^ (channel s c) .octets) false 0 (keptOn c (framesOf s xs)) ≡ true
 
 -- "What the reads hand out, taken from the unit area by the records, is in sending order and octet for octet the list of exactly those
 -- units for which no frame of that channel and service is gone from the frame where the unit begins to the frame where it ends; and
 -- nothing else." For a number l that is no lane both are empty.
 abbrev pub Exact : Setting → List ℕ → List Call → ℕ → Type 0
-Exact s held xs l = handedOut l (readsOf s held xs) ≡ due s l [] (framesOf s xs)
+Exact s held xs l = handedOut l (readsOf s held xs) ≡ due l [] (framesOf s xs)
 
 -- "Then, lane by lane".
 abbrev pub Demand : Type 0

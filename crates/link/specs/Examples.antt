@@ -210,12 +210,12 @@ onEach (l ∷ ls) os = handedOut l os ∷ onEach ls os
 unfoldable pub got : Setting → List ℕ → List Call → List (List (List ℕ))
 got s ls xs = onEach ls (readsOf s held xs)
 
-unfoldable pub dueOnEach : Setting → List ℕ → List Frame → List (List (List ℕ))
-dueOnEach s [] fs = []
-dueOnEach s (l ∷ ls) fs = due s l [] fs ∷ dueOnEach s ls fs
+unfoldable pub dueOnEach : List ℕ → List Frame → List (List (List ℕ))
+dueOnEach [] fs = []
+dueOnEach (l ∷ ls) fs = due l [] fs ∷ dueOnEach ls fs
 
 unfoldable pub owed : Setting → List ℕ → List Call → List (List (List ℕ))
-owed s ls xs = dueOnEach s ls (framesOf s xs)
+owed s ls xs = dueOnEach ls (framesOf s xs)
 
 -- The lanes of `paired` and a number that is none; the packet lanes of `mixed`.
 abbrev pub pairedLanes : List ℕ
