@@ -1,11 +1,10 @@
--- What one read does: refused octets leave everything, and a written frame takes its count, makes its lane step, and leaves the other
+-- What one read does: inert octets leave everything, and a written frame takes its count, makes its lane step, and leaves the other
 -- lanes' octets where they are.
 use mathlib.Core.Path.{_≡_, refl, sym, ap, ap₂, _∙_, subst}
-use mathlib.Core.Logic.{_≢_}
 use Prim.Native.Nat.{ℕ, zero, suc, _+_, _*_, _≤_, _<_}
 use native.Mathlib.Nat.{not-suc-le-zero, le-of-suc-le-suc, suc-ne-zero}
 use native.Mathlib.Omega.{arith}
-use mathlib.Core.Bool.{Bool, true, false, cond, not}
+use mathlib.Core.Bool.{Bool, true, false, cond, not, false≢true}
 use mathlib.Core.List.{List, [], _∷_}
 use lib.ListN.{length, getD, take, drop, set, length-take, List·getD-eq-default}
 use lib.Seq.{take-take, getD-take, getD-set-same, getD-set-other}
@@ -16,7 +15,7 @@ use Rattle.rules.specs.declared.Expect.{Expect}
 use Rattle.rules.specs.declared.Reader.{Reader}
 use Rattle.rules.specs.declared.Gap.{Gap}
 use Rattle.rules.specs.declared.Verdict.{Verdict}
-use Rattle.rules.specs.Tests.{_≤?_, _=?_, given}
+use Rattle.rules.specs.Tests.{_≤?_, _=?_, _≠?_, given}
 use Rattle.rules.specs.Areas.{laid, joined, part, heldSize, partSize, recordsSize, unitsSize}
 use Rattle.rules.specs.Settings.{noLane, noExpect, lane, channelOf, zone, readerOk}
 use Rattle.rules.specs.Frames.{ruleIn, pointerIn, zoneIn, pointsTo}
@@ -32,13 +31,13 @@ use Rattle.rules.proofs.Lanes.{lane-below}
 use Rattle.rules.proofs.Calls.{verdict-cond, read-valid, read-fits}
 use Rattle.rules.proofs.Written.{FrameBack}
 use Rattle.link.specs.Link.{Lent, placeOf, unitsBy, handed}
-use Rattle.link.specs.Demand.{enough}
+use Rattle.link.specs.Demand.{enough, inert}
 use Rattle.link.proofs.Spans.{either}
 use Rattle.link.proofs.Records.{handed-laid}
 
--- ---- octets that are refused
+-- ---- octets that change nothing
 
-module _ (r : Reader) (f h : List ℕ) (a : Lent) (no : given (refusals (r .setting) f) ≢ 0) where
+module _ (r : Reader) (f h : List ℕ) (a : Lent) (no : inert (r .setting) f ≡ true) where
   pub record Untouched (o : Got) : Type 0 where
     pub state : o .taken .state ≡ r
     pub area : o .heldArea ≡ h
@@ -49,14 +48,14 @@ module _ (r : Reader) (f h : List ℕ) (a : Lent) (no : given (refusals (r .sett
   refused n = record { state = refl; area = refl; none = λ l. refl }
 
   pub stray : Untouched (read r f h (a .units) (a .records))
-  unfolding read judge judged
+  unfolding read judge judged inert
   stray = rw (verdict-cond r f h (a .units) (a .records)) (go (readerOk r) (areasShort h (a .units) (a .records)) (given (refusals (r .setting) f)) no)
     where
-      go : (p q : Bool) (n : ℕ) → n ≢ 0
+      go : (p q : Bool) (n : ℕ) → (n ≠? 0) ≡ true
           → Untouched (onVerdict (cond (not p) (Verdict.Refused 1) (cond q (Verdict.Refused 2) (judged (r .setting) f n))) r f h (a .units) (a .records))
       go false q n e = refused 1
       go true true n e = refused 2
-      go true false zero e = absurd (e refl)
+      go true false zero e = absurd (false≢true e)
       go true false (suc n) e = refused (suc n)
 
 -- ---- the reader's state by its parts

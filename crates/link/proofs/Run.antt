@@ -1,23 +1,21 @@
 -- A run, call by call: what an accepted call leaves, what each frame's passage leaves at the reader, and the induction over the calls.
 use mathlib.Core.Path.{_≡_, refl, sym, ap, ap₂, _∙_, subst}
-use mathlib.Core.Logic.{_⊎_, _≢_}
+use mathlib.Core.Logic.{_⊎_}
 use Prim.Native.Nat.{ℕ, _*_, _≤_, _<_}
 use native.Mathlib.Omega.{arith}
-use mathlib.Core.Bool.{true, false, cond, not, _&&_, false≢true}
+use mathlib.Core.Bool.{true, false, cond, _&&_}
 use mathlib.Core.List.{List, [], _∷_, _++_}
 use lib.ListN.{length, getD, set, length-set}
-use borrow.Author.Tests.{eq-eqb}
 use Rattle.rules.specs.declared.Setting.{Setting}
 use Rattle.rules.specs.declared.Expect.{Expect}
 use Rattle.rules.specs.declared.Reader.{Reader}
 use Rattle.rules.specs.declared.Writer.{Writer}
 use Rattle.rules.specs.declared.Outcome.the-variants.{Done}
-use Rattle.rules.specs.Tests.{_=?_, _≠?_, given}
+use Rattle.rules.specs.Tests.{_=?_, given}
 use Rattle.rules.specs.Areas.{laid, heldSize, partSize}
 use Rattle.rules.specs.Settings.{channelOf, zone, readerOk}
 use Rattle.rules.specs.Writing.{frames, numberAfter, countAfter, writerAfter}
 use Rattle.rules.specs.Reading.{expected, Made}
-use Rattle.rules.specs.Refusals.{refusals}
 use Rattle.rules.specs.Calls.{writeRefusals, written, write, Got, read}
 use Rattle.rules.proofs.Tests.{and-left, and-right}
 use Rattle.rules.specs.Valid.{Good}
@@ -25,7 +23,7 @@ use Rattle.rules.proofs.Calls.{Accepted, none-refused, accepted}
 use Rattle.rules.proofs.Written.{FrameBack, write-back}
 use Rattle.link.specs.Link.{Lent, Arrival, Passage, Kept, Gone, Call, called, Frame, placeOf, frameBy, sent, arriving, arrivals, reads, handedOut}
 use Rattle.link.specs.Due.{kept, dueIn, due}
-use Rattle.link.specs.Demand.{lending, InOrder, enough, allRefused, passes, allPass}
+use Rattle.link.specs.Demand.{lending, InOrder, enough, inert, allInert, passes, allPass}
 use Rattle.link.proofs.Received.{stray, reader, gapped, length-left, stored-length, makes, Taken, read-takes, read-ready}
 
 -- ---- both ends between two calls
@@ -179,19 +177,16 @@ module _ (s : Setting) where
             read-ready s (st .expects) (st .held) (st .area) a (x .lane) (countOf st x) (x .batch) (x .insert) (x .ocf) (numberOf st x) ((frame st x) .octets)
             (c .back) (r .valid) (c .takes .numbered) (r .full) lent
 
-  -- ---- octets in a gone frame's place
+  -- ---- octets that change nothing
 
-  strays-read : (l : ℕ) (r : Reader) (h : List ℕ) (xs more : List Arrival) → r .setting ≡ s → allRefused s xs ≡ true
+  inert-read : (l : ℕ) (r : Reader) (h : List ℕ) (xs more : List Arrival) → r .setting ≡ s → allInert s xs ≡ true
       → handedOut l (reads r h (xs ++ more)) ≡ handedOut l (reads r h more)
-  unfolding reads handedOut allRefused
-  strays-read l r h [] more e q = refl
-  strays-read l r h (x ∷ xs) more e q =
-      let t : (given (refusals s (x .octets)) ≠? 0) ≡ true = and-left _ _ (and-left _ _ q) in
-      let no : given (refusals (r .setting) (x .octets)) ≢ 0 = λ z. false≢true
-      (sym (ap not (eq-eqb _ 0 (ap (λ (y : Setting). given (refusals y (x .octets))) (sym e) ∙ z))) ∙ t) in
-      let u = stray r (x .octets) h (x .lent) no in
+  unfolding reads handedOut allInert
+  inert-read l r h [] more e q = refl
+  inert-read l r h (x ∷ xs) more e q =
+      let u = stray r (x .octets) h (x .lent) (subst (λ (y : Setting). inert y (x .octets) ≡ true) (sym e) (and-left _ _ (and-left _ _ q))) in
       ap₂ _++_ (u .none l) (ap₂ (λ (y : Reader) (k : List ℕ). handedOut l (reads y k (xs ++ more))) (u .state) (u .area))
-      ∙ strays-read l r h xs more e (and-right (given (refusals s (x .octets)) ≠? 0 && enough (x .lent)) _ q)
+      ∙ inert-read l r h xs more e (and-right (inert s (x .octets) && enough (x .lent)) _ q)
 
   -- ---- the run
 
@@ -217,15 +212,18 @@ module _ (s : Setting) where
           by (Gone instead) e h =
               let d = if-gone st x rest r c (ap kept e) k in
               ap (λ (q : Passage). handedOut l (reads (hearer st) (st .area) (arriving q ((frame st x) .octets) ++ arrivals rest))) e
-              ∙ strays-read l (hearer st) (st .area) instead (arrivals rest) refl h
+              ∙ inert-read l (hearer st) (st .area) instead (arrivals rest) refl h
               ∙ on-gone (ready-gone st x r) (d .1)
               ∙ ap (λ (us : List (List ℕ)). us ++ due l (frame st x ∷ st .past) rest) (sym (d .0))
-          by (Kept a) e h =
-              let t = took good st x r c a h in
+          by (Kept a after) e h =
+              let lent : enough a ≡ true = and-left _ _ h in
+              let t = took good st x r c a lent in
               let d = if-kept st x rest r c (t .small) (ap kept e) k in
               ap (λ (q : Passage). handedOut l (reads (hearer st) (st .area) (arriving q ((frame st x) .octets) ++ arrivals rest))) e
               ∙ ap₂ _++_ (t .units l ∙ d .0)
-              (ap₂ (λ (y : Reader) (i : List ℕ). handedOut l (reads y i (arrivals rest))) (t .state) (t .area) ∙ on-kept (ready-kept good st x r c a h) (d .1))
+              (ap₂ (λ (y : Reader) (i : List ℕ). handedOut l (reads y i (after ++ arrivals rest))) (t .state) (t .area)
+              ∙ inert-read l (hearer (afterKept st x)) ((afterKept st x) .area) after (arrivals rest) refl (and-right (enough a) _ h)
+              ∙ on-kept (ready-kept good st x r c a lent) (d .1))
 
       pub run : (xs : List Call) (st : State) → Ready st → InOrder (sender st) (st .last) xs → allPass s (sent (sender st) xs) ≡ true
           → Knows st (sent (sender st) xs) → Says st (sent (sender st) xs)

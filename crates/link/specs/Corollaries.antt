@@ -13,7 +13,7 @@ use Rattle.rules.specs.Tests.{_=?_, given}
 use Rattle.rules.specs.Settings.{number}
 use Rattle.rules.specs.Refusals.{refusals}
 use Rattle.rules.specs.Calls.{Got, setUpWriter}
-use Rattle.link.specs.Link.{Arrival, Passage, Kept, Gone, Call, called, Frame, placeOf, sent, arrivals, handedOut}
+use Rattle.link.specs.Link.{Arrival, besides, Call, called, Frame, placeOf, sent, arrivals, handedOut}
 use Rattle.link.specs.Due.{ending, kept, noneGone, due}
 use Rattle.link.specs.Demand.{framesOf, readsOf, Run, Near}
 
@@ -113,7 +113,7 @@ applying s (a ∷ more) = refusedBy (given (refusals s (a .octets))) ∷ applyin
 abbrev pub RefusedOctets : Type 0
 RefusedOctets = (s : Setting) (held : List ℕ) (xs : List Call) → Run s held xs → ends (readsOf s held xs) ≡ applying s (arrivals (framesOf s xs))
 
--- Of what arrives, the octets to which one of 3 to 12 applies; and the octets in the places of frames that are gone.
+-- Of what arrives, the octets to which one of 3 to 12 applies; and the octets that arrive besides kept frames.
 unfoldable pub refusedOf : Setting → List Arrival → List (List ℕ)
 refusedOf s [] = []
 refusedOf s (a ∷ more) = cond (given (refusals s (a .octets)) =? 0) [] (a .octets ∷ []) ++ refusedOf s more
@@ -122,14 +122,10 @@ unfoldable pub octetsOf : List Arrival → List (List ℕ)
 octetsOf [] = []
 octetsOf (a ∷ more) = a .octets ∷ octetsOf more
 
-abbrev pub inPlaceOf : Passage → List (List ℕ)
-inPlaceOf (Kept lent) = []
-inPlaceOf (Gone instead) = octetsOf instead
-
-unfoldable pub inPlaces : List Frame → List (List ℕ)
-inPlaces [] = []
-inPlaces (f ∷ fs) = inPlaceOf (f .passage) ++ inPlaces fs
+unfoldable pub allBesides : List Frame → List (List ℕ)
+allBesides [] = []
+allBesides (f ∷ fs) = octetsOf (besides (f .passage)) ++ allBesides fs
 
 -- These are the same: no kept frame is refused.
 abbrev pub KeptAccepted : Type 0
-KeptAccepted = (s : Setting) (held : List ℕ) (xs : List Call) → Run s held xs → refusedOf s (arrivals (framesOf s xs)) ≡ inPlaces (framesOf s xs)
+KeptAccepted = (s : Setting) (held : List ℕ) (xs : List Call) → Run s held xs → refusedOf s (arrivals (framesOf s xs)) ≡ allBesides (framesOf s xs)

@@ -38,16 +38,20 @@ InOrder w last (x ∷ xs) =
 unfoldable pub enough : Lent → Bool
 enough a = unitsSize ≤? length (a .units) && recordsSize ≤? length (a .records)
 
--- "Refused octet strings": one of refusals 3 to 12 applies, which look at the octets and the setting alone.
-unfoldable pub allRefused : Setting → List Arrival → Bool
-allRefused s [] = true
-allRefused s (a ∷ more) = given (refusals s (a .octets)) ≠? 0 && enough (a .lent) && allRefused s more
+-- Octets that change nothing. "Refused octet strings": one of refusals 3 to 12 applies, which look at the octets and the setting alone.
+unfoldable pub inert : Setting → List ℕ → Bool
+inert s f = given (refusals s f) ≠? 0
+
+unfoldable pub allInert : Setting → List Arrival → Bool
+allInert s [] = true
+allInert s (a ∷ more) = inert s (a .octets) && enough (a .lent) && allInert s more
 
 unfoldable pub passes : Setting → Passage → Bool
-passes s (Kept lent) = enough lent
-passes s (Gone instead) = allRefused s instead
+passes s (Kept lent after) = enough lent && allInert s after
+passes s (Gone instead) = allInert s instead
 
--- "Each frame kept, or gone with any number of refused octet strings in its place; every read lent areas of the size asked for."
+-- "Each frame kept, or gone with any number of refused octet strings in its place; every read lent areas of the size asked for." Such strings may
+-- follow a kept frame too.
 unfoldable pub allPass : Setting → List Frame → Bool
 allPass s [] = true
 allPass s (f ∷ fs) = passes s (f .passage) && allPass s fs

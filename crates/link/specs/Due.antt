@@ -16,7 +16,7 @@ ending start stop p a (u ∷ us) =
 
 -- The frame is kept.
 abbrev pub kept : Passage → Bool
-kept (Kept lent) = true
+kept (Kept lent after) = true
 kept (Gone instead) = false
 
 -- Of the frames sent so far, the last one first: back to the frame where octet a of the batch is that lane l is at, the last frame of lane l

@@ -25,10 +25,14 @@ pub record Arrival : Type 0 where
   pub octets : List ℕ
   pub lent : Lent
 
--- "Each frame kept, or gone with any number of refused octet strings in its place."
+-- "Each frame kept, or gone": what the read of a kept one is lent, and what arrives besides, after the frame or in its place.
 pub data Passage : Type 0 where
-  Kept : Lent → Passage
+  Kept : Lent → List Arrival → Passage
   Gone : List Arrival → Passage
+
+abbrev pub besides : Passage → List Arrival
+besides (Kept lent after) = after
+besides (Gone instead) = instead
 
 -- A call of the writer, and what becomes of its frame.
 pub record Call : Type 0 where
@@ -81,9 +85,9 @@ sent w (x ∷ xs) = frameBy w x ∷ sent ((called w x) .sender .state) xs
 
 -- ---- the reader's end
 
--- What arrives of a frame of these octets: the frame, or what is in its place.
+-- What arrives of a frame of these octets: the frame and what follows it, or what is in its place.
 abbrev pub arriving : Passage → List ℕ → List Arrival
-arriving (Kept lent) f = record { octets = f; lent = lent } ∷ []
+arriving (Kept lent after) f = record { octets = f; lent = lent } ∷ after
 arriving (Gone instead) f = instead
 
 unfoldable pub arrivals : List Frame → List Arrival
