@@ -76,8 +76,8 @@ points-back z n h = go (n <? z) refl
 
 -- A lane that holds h, and so all that is not lost of the units so far, hands these out of a frame that has octets `start` up to `stop` of them,
 -- and then holds what is not lost up to there.
-abbrev pub Reads : List (List ℕ) → ℕ → ℕ → List ℕ → Yield → Type 0
-Reads us start stop h y =
+abbrev pub Delivers : List (List ℕ) → ℕ → ℕ → List ℕ → Yield → Type 0
+Delivers us start stop h y =
     (j : ℕ) → j ≤ start → h ≡ heldFrom j 0 start us → y ≡ yields (ending start stop (λ (i : ℕ). j ≤? i) 0 us) (heldFrom j 0 stop us)
 
 module _ (longest z : ℕ) (zp : 0 < z) (zl : z ≤ 4096) (k : ℕ) (b : List ℕ) where
@@ -88,7 +88,7 @@ module _ (longest z : ℕ) (zp : 0 < z) (zl : z ≤ 4096) (k : ℕ) (b : List �
 
   -- Frame k of a batch, as either kind of lane reads it.
   pub lane-reads : (kind : Kind) (h : List ℕ) → least kind ≤ longest → batchOk kind longest b ≡ true → k < frames z b
-      → Reads (unitsOf kind b) (k * z) (k * z + z) h (yield (laneStep kind longest (ruleOf kind k) h (pointsTo (pointerOf kind z b k)) (zoneOf kind z b k)))
+      → Delivers (unitsOf kind b) (k * z) (k * z + z) h (yield (laneStep kind longest (ruleOf kind k) h (pointsTo (pointerOf kind z b k)) (zoneOf kind z b k)))
   unfolding laneStep pointerOf offsetOf zoneOf
   lane-reads Packets h enough ok f j js e =
       let p : Batch longest b = packet-batch longest b ok in

@@ -2,28 +2,28 @@
 -- is due; and in both cases the bound holds by itself.
 use mathlib.Core.Path.{_≡_, refl, sym, ap, ap₂, _∙_, subst}
 use Prim.Native.Nat.{ℕ, suc, _*_, _^_, _<_}
-use native.Mathlib.Nat.{not-suc-le-zero, zero-mul}
+use native.Mathlib.Nat.{zero-mul}
 use mathlib.Core.Bool.{Bool, true, false, cond, not, _||_, false≢true}
 use mathlib.Core.List.{List, [], _∷_, _++_}
-use lib.ListN.{length, getD, replicate, getD-replicate, length-replicate, List·getD-eq-default}
 use borrow.Author.Tests.{lt-ltb}
 use Rattle.rules.specs.declared.Setting.{Setting}
-use Rattle.rules.specs.declared.Reader.{Reader}
 use Rattle.rules.specs.declared.Writer.{Writer}
+use Rattle.rules.specs.declared.Sender.{Sender}
 use Rattle.rules.specs.Tests.{_=?_, _<?_}
-use Rattle.rules.specs.Settings.{channel, channelOf, number, zone, settingOk}
-use Rattle.rules.proofs.Tests.{split, and-left, and-right, and-both}
+use Rattle.rules.specs.Settings.{channel, channelOf, number, zone, freshWriter}
+use Rattle.rules.specs.Calls.{setUpWriter}
+use Rattle.rules.proofs.Tests.{and-left, and-right, and-both}
 use Rattle.rules.proofs.Octets.{pow256-pos}
-use Rattle.rules.proofs.Valid.{good}
-use Rattle.link.specs.Link.{Call, Frame, placeOf, sent}
+use Rattle.rules.proofs.Calls.{setup-accepted}
+use Rattle.link.specs.Link.{Call, Frame, placeOf, startOf, sent}
 use Rattle.link.specs.Due.{kept, noneGone, due}
-use Rattle.link.specs.Demand.{InOrder, keptOn, fewGone, framesOf}
+use Rattle.link.specs.Demand.{keptOn, fewGone, framesOf}
 use Rattle.link.specs.Corollaries.{unitsSent, unitsEnded, afterCalls, Between, allKept, allGone, NothingGone, EverythingGone, NoMoreGone, LaterBatches}
-use Rattle.link.proofs.Run.{sender}
 use Rattle.link.proofs.Views.{due-gone}
-use Rattle.link.proofs.Later.{Reached, reached, all-due, all-units}
-use Rattle.link.proofs.Theorem.{fresh, fresh-ready, fresh-ends, demand}
-use Rattle.rules.specs.Areas.{heldSize}
+use Rattle.link.proofs.Run.{wrote, after}
+use Rattle.link.proofs.Later.{later-due, later-units}
+use Rattle.link.proofs.Uslp.{uslp, facts}
+use Rattle.link.proofs.Theorem.{wrote-sent, runs, writer-accepted, zeros, fresh-ends, demand}
 
 -- ---- frames that are all kept, or all gone
 
@@ -81,60 +81,43 @@ pub everything-gone : EverythingGone
 everything-gone s held xs run h l =
     demand s held xs run (λ c b. gone-few c (256 ^ (channel s c) .octets) 0 (framesOf s xs) h) l ∙ gone-due l (framesOf s xs) [] h
 
--- ---- from fresh ends
+-- ---- no more is gone
 
-zeros : (n l : ℕ) → _≡_ {A = ℕ} (getD (replicate n 0) l 0) 0
-zeros n l = split n l (λ b. List·getD-eq-default (replicate n 0) 0 (rw length-replicate b)) (λ b. getD-replicate {A = ℕ} n l 0 0 b)
+module _ (s : Setting) where
+  after-calls : (xs : List Call) (w : Writer) → after (uslp s) w xs ≡ afterCalls w xs
+  unfolding after afterCalls
+  after-calls [] w = refl
+  after-calls (x ∷ xs) w = after-calls xs _
 
--- The state between xs and ys.
-module _ (s : Setting) (ok : settingOk s ≡ true) (held : List ℕ) (full : length held ≡ heldSize) (xs ys : List Call)
-    (o : InOrder (sender s (fresh held)) (λ (l : ℕ). []) (xs ++ ys)) where
-  between : Reached s (fresh held) xs ys
-  unfolding fresh
-  between = reached s xs ys (fresh held) (fresh-ready s ok held full) o
+  wrote-later : (xs ys : List Call) (w : Writer) → wrote (uslp s) (after (uslp s) w xs) ys ≡ sent (afterCalls w xs) ys
+  wrote-later xs ys w = ap (λ (y : Writer). wrote (uslp s) y ys) (after-calls xs w) ∙ wrote-sent s ys (afterCalls w xs)
 
-  due-later : (l : ℕ) → number (afterCalls (sender s (fresh held)) xs) l ≡ 0 → noneGone (placeOf s l) (sent (afterCalls (sender s (fresh held)) xs) ys) ≡ true
-      → due l [] (sent (sender s (fresh held)) (xs ++ ys))
-      ≡ due l [] (sent (sender s (fresh held)) xs) ++ unitsEnded l (sent (afterCalls (sender s (fresh held)) xs) ys)
-  unfolding fresh
-  due-later l b n =
-      let q : Reached s (fresh held) xs ys = between in
-      let none : number (sender s (q .state)) l ≡ 0 = subst (λ (w : Writer). number w l ≡ 0) (q .leaves) b in
-      q .owes l
-      ∙ ap (λ (us : List (List ℕ)). due l [] (sent (sender s (fresh held)) xs) ++ us)
-      (all-due s (good s ok) l ys (q .state) (q .ready) (q .order)
-      (λ i h. absurd (not-suc-le-zero (subst (λ (k : ℕ). i < k) (ap (λ (k : ℕ). k * zone s (channelOf s l)) none ∙ zero-mul _) h)))
-      (subst (λ (w : Writer). noneGone (placeOf s l) (sent w ys) ≡ true) (q .leaves) n)
-      ∙ ap (λ (w : Writer). unitsEnded l (sent w ys)) (sym (q .leaves)))
-
-  units-later : (l : ℕ) → number (afterCalls (sender s (fresh held)) xs) l ≡ 0 → number (afterCalls (sender s (fresh held)) (xs ++ ys)) l ≡ 0
-      → unitsEnded l (sent (afterCalls (sender s (fresh held)) xs) ys) ≡ unitsSent l (sent (afterCalls (sender s (fresh held)) xs) ys)
-  units-later l b e =
-      let q : Reached s (fresh held) xs ys = between in
-      rw (q .leaves)
-      (all-units s (good s ok) l ys (q .state) (q .ready) (q .order) (subst (λ (w : Writer). number w l ≡ 0) (q .leaves) b)
-      (subst (λ (w : Writer). number w l ≡ 0) (q .ends) e))
+  between : (xs : List Call) (w : Writer) (l : ℕ) → number (afterCalls w xs) l ≡ 0 → (uslp s) .start (after (uslp s) w xs) l ≡ 0
+  between xs w l e =
+      ap (λ (y : Writer). startOf y l) (after-calls xs w) ∙ ap (λ (k : ℕ). k * zone ((afterCalls w xs) .setting) (channelOf ((afterCalls w xs) .setting) l)) e
+      ∙ zero-mul _
 
 pub no-more-gone : NoMoreGone
 no-more-gone s held xs ys run near l b n =
+    let w : Writer = (setUpWriter s) .state in
     demand s held (xs ++ ys) run near l
-    ∙ fresh-ends s held
-    (λ (w : Writer) (r : Reader). InOrder w (λ (l : ℕ). []) (xs ++ ys) → number (afterCalls w xs) l ≡ 0
-    → noneGone (placeOf s l) (sent (afterCalls w xs) ys) ≡ true
-    → due l [] (sent w (xs ++ ys)) ≡ due l [] (sent w xs) ++ unitsEnded l (sent (afterCalls w xs) ys))
-    (run .writer) (λ ok o. due-later s ok held (run .area) xs ys o l) (run .calls) b n
+    ∙ ap (due l []) (sym (wrote-sent s (xs ++ ys) w))
+    ∙ later-due (uslp s) (facts s) l xs ys w (λ (l : ℕ). []) [] ((fresh-ends s held (run .area) (run .writer)) .writer)
+    (runs s (xs ++ ys) w _ (run .calls) (run .link)) (between s xs w l b)
+    (subst (λ (fs : List Frame). noneGone (placeOf s l) fs ≡ true) (sym (wrote-later s xs ys w)) n)
+    ∙ ap₂ (λ (fs gs : List Frame). due l [] fs ++ unitsEnded l gs) (wrote-sent s xs w) (wrote-later s xs ys w)
 
 pub later-batches : LaterBatches
-later-batches s held xs ys run l =
-    fresh-ends s held
-    (λ (w : Writer) (r : Reader). InOrder w (λ (l : ℕ). []) (xs ++ ys) → number (afterCalls w xs) l ≡ 0 → number (afterCalls w (xs ++ ys)) l ≡ 0
-    → unitsEnded l (sent (afterCalls w xs) ys) ≡ unitsSent l (sent (afterCalls w xs) ys))
-    (run .writer) (λ ok o. units-later s ok held (run .area) xs ys o l) (run .calls)
+later-batches s held xs ys run l b e =
+    let w : Writer = (setUpWriter s) .state in
+    subst (λ (fs : List Frame). unitsEnded l fs ≡ unitsSent l fs) (wrote-later s xs ys w)
+    (later-units (uslp s) (facts s) l xs ys w (λ (l : ℕ). []) ((fresh-ends s held (run .area) (run .writer)) .writer)
+    (runs s (xs ++ ys) w _ (run .calls) (run .link)) (between s xs w l b) (between s (xs ++ ys) w l e))
 
 pub nothing-gone : NothingGone
 unfolding afterCalls due sent
 nothing-gone s held xs run h l e =
-    let b : Between s [] l = fresh-ends s held (λ (w : Writer) (r : Reader). number w l ≡ 0) (run .writer) (λ ok. unfold fresh in zeros 8 l) in
+    let b : Between s [] l = ap (λ (o : Sender). number (o .state) l) (setup-accepted s (writer-accepted s (run .writer)) .1) ∙ (unfold freshWriter in zeros 8 l) in
     no-more-gone s held [] xs run (λ c p. kept-few c (256 ^ (channel s c) .octets) (pow256-pos ((channel s c) .octets)) false (framesOf s xs) h) l b
     (kept-none-gone (placeOf s l) (framesOf s xs) h)
     ∙ later-batches s held [] xs run l b e

@@ -19,7 +19,7 @@ use Rattle.rules.proofs.Counts.{missing-unknown, missing-gone, expected-below, 
 use Rattle.link.specs.Due.{ending}
 use Rattle.link.specs.Demand.{fewGone}
 use Rattle.link.proofs.Spans.{Yield, yields, heldFrom, held-none, held-over}
-use Rattle.link.proofs.Batches.{Reads, Follows}
+use Rattle.link.proofs.Batches.{Delivers, Follows}
 
 -- ---- a lane's view
 
@@ -176,7 +176,7 @@ module _ (n : ℕ) where
 
     -- It is the lane's next frame, of these units.
     module _ (us : List (List ℕ)) (turn : (v .start ≡ 0) ⊎ (us ≡ v .units)) (stop : ℕ) (on : v .start ≤ stop)
-        (y : Yield) (does : Reads us (v .start) stop hold-now y)
+        (y : Yield) (does : Delivers us (v .start) stop hold-now y)
         (whole′ : ℕ → Bool) (now : (i : ℕ) → v .start ≤ i → whole′ i ≡ true) (else : (i : ℕ) → i < v .start → whole′ i ≡ whole i) where
       -- Of a batch that begins no more is held than of the one before it.
       turned : heldFrom (r .j) 0 (v .start) (v .units) ≡ heldFrom (r .j) 0 (v .start) us

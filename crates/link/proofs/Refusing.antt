@@ -19,17 +19,17 @@ use Rattle.rules.specs.Tests.{_=?_, _≠?_, given}
 use Rattle.rules.specs.Settings.{lane, channelOf, readerOk}
 use Rattle.rules.specs.Frames.{vc, map, bypass, command, countIn}
 use Rattle.rules.specs.Refusals.{channelAt, laneAt, refusals, onChannel, passed, judged, judge}
-use Rattle.rules.specs.Calls.{Got, laidOut, readOn, onVerdict, verdict, read}
+use Rattle.rules.specs.Calls.{setUpReader, setUpWriter, Got, laidOut, readOn, onVerdict, verdict, read}
 use Rattle.rules.proofs.Tests.{and-left, and-right}
 use Rattle.rules.proofs.Areas.{length-laid}
 use Rattle.rules.proofs.States.{gap-setting}
 use Rattle.rules.proofs.Calls.{Ruled, verdict-cond, verdict-facts, made-below, read-valid}
-use Rattle.link.specs.Link.{Lent, Arrival, Passage, Kept, Gone, besides, Call, Frame, frameBy, sent, arriving, arrivals, reads}
-use Rattle.link.specs.Demand.{InOrder, enough, inert, allInert, passes, allPass, framesOf}
+use Rattle.link.specs.Link.{Lent, Arrival, Passage, Kept, Gone, besides, Call, called, Frame, frameBy, sent, arriving, arrivals, reads}
+use Rattle.link.specs.Demand.{lending, InOrder, enough, inert, allInert, passes, allPass, framesOf}
 use Rattle.link.specs.Corollaries.{endOf, ends, refusedBy, applying, RefusedOctets, refusedOf, octetsOf, allBesides, KeptAccepted}
 use Rattle.link.proofs.Received.{enough-areas}
-use Rattle.link.proofs.Run.{State, sender, hearer, frame, afterGone, Ready, ready-gone, Onward, onward}
-use Rattle.link.proofs.Theorem.{fresh, fresh-ready, fresh-ends}
+use Rattle.link.proofs.Uslp.{SoundWriter, back, facts}
+use Rattle.link.proofs.Theorem.{fresh-ends}
 use Rattle.rules.specs.Areas.{heldSize, partSize}
 
 -- ---- one read
@@ -148,45 +148,29 @@ module _ (s : Setting) where
 
   -- ---- frames that were written
 
-  read-accepted : (f : List ℕ) (l : ℕ) → judge s f ≡ Verdict.Read l → given (refusals s f) ≡ 0
-  unfolding judge
-  read-accepted f l e = go (given (refusals s f)) e
+  written-accepted : (xs : List Call) (w : Writer) (last : ℕ → List ℕ) → SoundWriter s w → InOrder w last xs → allPass s (sent w xs) ≡ true
+      → refusedOf s (arrivals (sent w xs)) ≡ allBesides (sent w xs)
+  unfolding sent arrivals refusedOf allBesides passes allPass frameBy
+  written-accepted [] w last k o p = refl
+  written-accepted (x ∷ xs) w last k o p =
+      by (subst (λ (t : Setting). given (refusals t ((frameBy w x) .octets)) ≡ 0) (k .setting) (back w last x (o .0, o .1) .accepted)) (x .passage) (and-left _ _ p)
+      (written-accepted xs _ (lending (x .lane) (x .batch) last) ((facts s) .sends w last x k (o .0, o .1) .sound) (o .2) (and-right (passes s (x .passage)) _ p))
     where
-      go : (n : ℕ) → judged s f n ≡ Verdict.Read l → n ≡ 0
-      go zero q = refl
-      go (suc n) q = unfold judged in let z : _≡_ {A = ℕ} 0 1 = cc in absurd (omega arith)
+      rest : List Frame
+      rest = sent ((called w x) .sender .state) xs
 
-  written-accepted : (xs : List Call) (st : State) → Ready s st → InOrder (sender s st) (st .last) xs → allPass s (sent (sender s st) xs) ≡ true
-      → refusedOf s (arrivals (sent (sender s st) xs)) ≡ allBesides (sent (sender s st) xs)
-  unfolding sent arrivals refusedOf allBesides passes allPass frameBy afterGone
-  written-accepted [] st r o p = refl
-  written-accepted (x ∷ xs) st r o p =
-      let n : Onward s st x xs = onward s st x xs o in
-      let rest : List Frame = sent (sender s (afterGone s st x)) xs in
-      let p′ : (passes s (x .passage) && allPass s rest) ≡ true = subst (λ (fs : List Frame). allPass s fs ≡ true) (n .sends) p in
-      subst (λ (fs : List Frame). refusedOf s (arrivals fs) ≡ allBesides fs) (sym (n .sends))
-      (by rest (read-accepted ((frame s st x) .octets) (x .lane) (n .first .back .read)) (x .passage) (and-left _ _ p′)
-      (written-accepted xs (afterGone s st x) (ready-gone s st x r) (n .order) (and-right (passes s (x .passage)) _ p′)))
-    where
-      by : (rest : List Frame) → given (refusals s ((frame s st x) .octets)) ≡ 0 → (q : Passage) → passes s q ≡ true
-          → refusedOf s (arrivals rest) ≡ allBesides rest
-          → refusedOf s (arriving q ((frame s st x) .octets) ++ arrivals rest) ≡ octetsOf (besides q) ++ allBesides rest
-      by rest e (Kept a after) h i =
-          ap (λ (t : Bool). cond t [] ((frame s st x) .octets ∷ []) ++ refusedOf s (after ++ arrivals rest)) (eq-eqb _ 0 e)
+      by : given (refusals s ((frameBy w x) .octets)) ≡ 0 → (q : Passage) → passes s q ≡ true → refusedOf s (arrivals rest) ≡ allBesides rest
+          → refusedOf s (arriving q ((frameBy w x) .octets) ++ arrivals rest) ≡ octetsOf (besides q) ++ allBesides rest
+      by e (Kept a after) h i =
+          ap (λ (t : Bool). cond t [] ((frameBy w x) .octets ∷ []) ++ refusedOf s (after ++ arrivals rest)) (eq-eqb _ 0 e)
           ∙ inert-refused after (arrivals rest) (and-right (enough a) _ h) ∙ ap (λ (us : List (List ℕ)). octetsOf after ++ us) i
-      by rest e (Gone instead) h i = inert-refused instead (arrivals rest) h ∙ ap (λ (us : List (List ℕ)). octetsOf instead ++ us) i
+      by e (Gone instead) h i = inert-refused instead (arrivals rest) h ∙ ap (λ (us : List (List ℕ)). octetsOf instead ++ us) i
 
 pub refused-octets : RefusedOctets
 refused-octets s held xs run =
-    fresh-ends s held
-    (λ (w : Writer) (r : Reader). ends (reads r held (arrivals (framesOf s xs))) ≡ applying s (arrivals (framesOf s xs)))
-    (run .writer)
-    (λ ok.
-    reads-end s (arrivals (framesOf s xs)) (hearer s (fresh held)) held refl (unfold fresh in (fresh-ready s ok held (run .area)) .valid) (run .area)
-    (all-sized s (framesOf s xs) (run .link)))
+    let k = (fresh-ends s held (run .area) (run .writer)) .hearer in
+    reads-end s (arrivals (framesOf s xs)) ((setUpReader s) .state) held (k .setting) (k .valid) (run .area) (all-sized s (framesOf s xs) (run .link))
 
 pub kept-accepted : KeptAccepted
 kept-accepted s held xs run =
-    fresh-ends s held
-    (λ (w : Writer) (r : Reader). InOrder w (λ (l : ℕ). []) xs → allPass s (sent w xs) ≡ true → refusedOf s (arrivals (sent w xs)) ≡ allBesides (sent w xs))
-    (run .writer) (λ ok. unfold fresh in written-accepted s xs (fresh held) (fresh-ready s ok held (run .area))) (run .calls) (run .link)
+    written-accepted s xs ((setUpWriter s) .state) (λ (l : ℕ). []) ((fresh-ends s held (run .area) (run .writer)) .writer) (run .calls) (run .link)

@@ -1,0 +1,123 @@
+-- A pair of ends, so far as demand 3 goes: the calls and the reads, what a setting says of its lanes, what the ends' states say of a lane, and
+-- the facts on which a run stands. Nothing here knows what a frame looks like, so a pair with other frames has no second proof of the demand.
+use mathlib.Core.Path.{_≡_, refl, sym}
+use mathlib.Core.Logic.{_⊎_}
+use Prim.Native.Nat.{ℕ, _^_, _<_}
+use mathlib.Core.Bool.{false}
+use mathlib.Core.List.{List, []}
+use borrow.Author.Tests.{ne-eqb, eq-eqb}
+use Rattle.rules.specs.declared.Expect.{Expect}
+use Rattle.rules.specs.Writing.{countAfter}
+use Rattle.rules.specs.Reading.{expected}
+use Rattle.link.specs.Link.{Lent, Arrival, Frame}
+use Rattle.link.specs.Demand.{lending}
+use Rattle.link.proofs.Spans.{Filled, yields}
+use Rattle.link.proofs.Batches.{Delivers, Follows}
+use Rattle.link.proofs.Invariant.{heldAfter}
+
+pub record Ends : Type 1 where
+  pub Writer : Type 0
+  pub Call : Type 0
+  -- The reader and its held octets.
+  pub Hearer : Type 0
+  -- The frame that a call writes, the batch that it lends, and the writer that it leaves.
+  pub frame : Writer → Call → Frame
+  pub batch : Call → List ℕ
+  pub next : Writer → Call → Writer
+  -- The reader that a read leaves, and what it hands out on each lane.
+  pub heard : Hearer → Arrival → Hearer
+  pub hands : Hearer → Arrival → ℕ → List (List ℕ)
+  -- How many lanes there are; the place of a lane's channel, how many octets its counts have, and the units of a batch.
+  pub lanes : ℕ
+  pub channel : ℕ → ℕ
+  pub octets : ℕ → ℕ
+  pub units : ℕ → List ℕ → List (List ℕ)
+  -- Of a lane: the octet of its batch with which its next frame starts, and its channel's count; the count that is expected there, and the
+  -- octets that are held.
+  pub start : Writer → ℕ → ℕ
+  pub count : Writer → ℕ → ℕ
+  pub expect : Hearer → ℕ → Expect
+  pub held : Hearer → ℕ → List ℕ
+  -- What is asked of a run: the call is accepted in its turn, where each lane last lent these batches; areas are of the size asked for; octets
+  -- change nothing.
+  pub Goes : Writer → (ℕ → List ℕ) → Call → Type 0
+  pub Enough : Lent → Type 0
+  pub Inert : Arrival → Type 0
+  -- What holds of the ends between calls.
+  pub SoundWriter : Writer → Type 0
+  pub SoundHearer : Hearer → Type 0
+
+module _ (E : Ends) where
+  -- ---- an accepted call, after which the writer is w′
+
+  pub record Sends (w : E .Writer) (last : ℕ → List ℕ) (x : E .Call) (w′ : E .Writer) : Type 0 where
+    pub sound : E .SoundWriter w′
+    pub lane : (E .frame w x) .lane < E .lanes
+    pub channel : (E .frame w x) .channel ≡ E .channel ((E .frame w x) .lane)
+    pub units : (E .frame w x) .units ≡ E .units ((E .frame w x) .lane) (E .batch x)
+    pub filled : Filled ((E .frame w x) .units)
+    -- The frame starts where the lane is, has octets of the batch, and is followed by another or by a batch that begins.
+    pub starts : E .start w ((E .frame w x) .lane) ≡ (E .frame w x) .start
+    pub some : (E .frame w x) .start < (E .frame w x) .stop
+    pub turn : ((E .frame w x) .start ≡ 0) ⊎ ((E .frame w x) .units ≡ E .units ((E .frame w x) .lane) (last ((E .frame w x) .lane)))
+    pub follows : Follows ((E .frame w x) .units) ((E .frame w x) .stop) (E .start w′ ((E .frame w x) .lane))
+    pub start-other : (l : ℕ) → ((E .frame w x) .lane ≡ l → ⊥) → E .start w′ l ≡ E .start w l
+    -- The channel's count rises by one, and no other.
+    pub count-on : (l : ℕ) → l < E .lanes → (E .frame w x) .channel ≡ E .channel l → E .count w′ l ≡ countAfter (E .octets l) (E .count w l)
+    pub count-other : (l : ℕ) → ((E .frame w x) .channel ≡ E .channel l → ⊥) → E .count w′ l ≡ E .count w l
+
+  -- The units that a lane last lent, after that.
+  module _ (w : E .Writer) (last : ℕ → List ℕ) (x : E .Call) (w′ : E .Writer) (k : Sends w last x w′) where
+    abbrev pub lent : ℕ → List ℕ
+    lent = lending ((E .frame w x) .lane) (E .batch x) last
+
+    pub lent-own : E .units ((E .frame w x) .lane) (lent ((E .frame w x) .lane)) ≡ (E .frame w x) .units
+    unfolding lending
+    lent-own = rw (eq-eqb ((E .frame w x) .lane) ((E .frame w x) .lane) refl) (sym (k .units))
+
+    pub lent-other : (l : ℕ) → ((E .frame w x) .lane ≡ l → ⊥) → E .units l (lent l) ≡ E .units l (last l)
+    unfolding lending
+    lent-other l n = rw (ne-eqb l ((E .frame w x) .lane) (λ e. n (sym e)))
+
+  -- ---- octets that change nothing
+
+  pub record Unmoved (r : E .Hearer) (a : Arrival) : Type 0 where
+    pub state : E .heard r a ≡ r
+    pub none : (l : ℕ) → E .hands r a l ≡ []
+
+  -- ---- a kept frame, after whose read the reader is r′ and these units are handed out
+
+  -- What lane l then holds, before the frame is read.
+  abbrev pub holding : E .Writer → E .Hearer → ℕ → List ℕ
+  holding w r l = heldAfter (E .octets l) (E .expect r l) (E .count w l) (E .held r l)
+
+  pub record Heard (w : E .Writer) (r : E .Hearer) (f : Frame) (r′ : E .Hearer) (out : ℕ → List (List ℕ)) : Type 0 where
+    pub sound : E .SoundHearer r′
+    pub expect-on : (l : ℕ) → l < E .lanes → f .channel ≡ E .channel l → E .expect r′ l ≡ expected (E .octets l) (E .count w l)
+    pub expect-other : (l : ℕ) → (f .channel ≡ E .channel l → ⊥) → E .expect r′ l ≡ E .expect r l
+    -- Other lanes of the channel, and of another one.
+    pub held-beside : (l : ℕ) → l < E .lanes → f .channel ≡ E .channel l → (f .lane ≡ l → ⊥) → E .held r′ l ≡ holding w r l
+    pub held-other : (l : ℕ) → l < E .lanes → (f .channel ≡ E .channel l → ⊥) → (f .lane ≡ l → ⊥) → E .held r′ l ≡ E .held r l
+    pub none : (l : ℕ) → (f .lane ≡ l → ⊥) → out l ≡ []
+    -- The frame's own lane.
+    pub reads : Delivers (f .units) (f .start) (f .stop) (holding w r (f .lane)) (yields (out (f .lane)) (E .held r′ (f .lane)))
+
+  -- ---- the facts
+
+  pub record Facts : Type 0 where
+    pub sends : (w : E .Writer) (last : ℕ → List ℕ) (x : E .Call) → E .SoundWriter w → E .Goes w last x → Sends w last x (E .next w x)
+    pub unmoved : (r : E .Hearer) (a : Arrival) → E .SoundHearer r → E .Inert a → Unmoved r a
+    pub heard : (w : E .Writer) (r : E .Hearer) (last : ℕ → List ℕ) (x : E .Call) (lent : Lent) → E .SoundWriter w → E .SoundHearer r → E .Goes w last x
+        → E .Enough lent
+        → Heard w r (E .frame w x) (E .heard r (record { octets = (E .frame w x) .octets; lent = lent }))
+        (E .hands r (record { octets = (E .frame w x) .octets; lent = lent }))
+
+  -- ---- fresh ends
+
+  pub record Fresh (w : E .Writer) (r : E .Hearer) : Type 0 where
+    pub writer : E .SoundWriter w
+    pub hearer : E .SoundHearer r
+    pub start : (l : ℕ) → E .start w l ≡ 0
+    pub unknown : (l : ℕ) → l < E .lanes → (E .expect r l) .known ≡ false
+    pub below : (l : ℕ) → l < E .lanes → (E .expect r l) .count < 256 ^ E .octets l
+    pub held : (l : ℕ) → l < E .lanes → E .held r l ≡ []
