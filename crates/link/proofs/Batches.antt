@@ -1,6 +1,6 @@
 -- A lane of either kind that reads a frame of its batch. From here on packets and access units are alike: units back to back.
 use mathlib.Core.Path.{_≡_, refl, sym, ap, ap₂, _∙_, subst}
-use mathlib.Core.Logic.{_⊎_, inl, inr}
+use mathlib.Core.Logic.{inl, inr}
 use Prim.Native.Nat.{ℕ, _+_, _-_, _*_, _/_, _≤_, _<_}
 use native.Mathlib.Nat.{zero-add, zero-mul, mul-pos, le-div-iff-mul-le, div-lt-iff-lt-mul, lt-div-mul-add}
 use native.Mathlib.Omega.{arith}
@@ -22,7 +22,7 @@ use Rattle.rules.proofs.Tests.{same, all-at}
 use Rattle.rules.specs.Valid.{least}
 use Rattle.link.specs.Due.{ending}
 use Rattle.link.proofs.Whole.{Batch, packet-batch}
-use Rattle.link.proofs.Spans.{Filled, Yield, yields, yield, heldFrom}
+use Rattle.link.proofs.Spans.{Filled, yields, yield, heldFrom, Delivers, Follows}
 use Rattle.link.proofs.PacketLane.{wholes-filled, packet-lane}
 use Rattle.link.proofs.AccessLane.{access-lane}
 
@@ -74,12 +74,6 @@ points-back z n h = go (n <? z) refl
 
 -- ---- a frame
 
--- A lane that holds h, and so all that is not lost of the units so far, hands these out of a frame that has octets `start` up to `stop` of them,
--- and then holds what is not lost up to there.
-abbrev pub Delivers : List (List ℕ) → ℕ → ℕ → List ℕ → Yield → Type 0
-Delivers us start stop h y =
-    (j : ℕ) → j ≤ start → h ≡ heldFrom j 0 start us → y ≡ yields (ending start stop (λ (i : ℕ). j ≤? i) 0 us) (heldFrom j 0 stop us)
-
 module _ (longest z : ℕ) (zp : 0 < z) (zl : z ≤ 4096) (k : ℕ) (b : List ℕ) where
   starts-unit : (k * z =? 0) ≡ (ruleOf Access k =? 0b001)
   unfolding ruleOf
@@ -109,10 +103,6 @@ module _ (longest z : ℕ) (zp : 0 < z) (zl : z ≤ 4096) (k : ℕ) (b : List �
       ∙ access-lane longest z zp j (k * z) js b (leb-true _ _ (all-at _ 1 ok)) (frame-within z zp b k f)
 
 -- ---- the frame after it
-
--- After a frame up to octet `stop` the next one starts there; or it starts a batch, and that frame held the last octet.
-abbrev pub Follows : List (List ℕ) → ℕ → ℕ → Type 0
-Follows us stop next = (next ≡ stop) ⊎ ((next ≡ 0) × (length (joined us) ≤ stop))
 
 pub follows : (kind : Kind) (longest z k : ℕ) → 0 < z → (b : List ℕ) → batchOk kind longest b ≡ true
     → Follows (unitsOf kind b) (k * z + z) (numberAfter k (frames z b) * z)

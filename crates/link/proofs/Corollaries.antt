@@ -8,22 +8,21 @@ use mathlib.Core.List.{List, [], _∷_, _++_}
 use borrow.Author.Tests.{lt-ltb}
 use Rattle.rules.specs.declared.Setting.{Setting}
 use Rattle.rules.specs.declared.Writer.{Writer}
-use Rattle.rules.specs.declared.Sender.{Sender}
 use Rattle.rules.specs.Tests.{_=?_, _<?_}
-use Rattle.rules.specs.Settings.{channel, channelOf, number, zone, freshWriter}
-use Rattle.rules.specs.Calls.{setUpWriter}
+use Rattle.rules.specs.Settings.{channel, channelOf, number, zone}
+use Rattle.rules.specs.Calls.{setUpReader, setUpWriter}
 use Rattle.rules.proofs.Tests.{and-left, and-right, and-both}
 use Rattle.rules.proofs.Octets.{pow256-pos}
-use Rattle.rules.proofs.Calls.{setup-accepted}
 use Rattle.link.specs.Link.{Call, Frame, placeOf, startOf, sent}
 use Rattle.link.specs.Due.{kept, noneGone, due}
-use Rattle.link.specs.Demand.{keptOn, fewGone, framesOf}
-use Rattle.link.specs.Corollaries.{unitsSent, unitsEnded, afterCalls, Between, allKept, allGone, NothingGone, EverythingGone, NoMoreGone, LaterBatches}
+use Rattle.link.specs.Demand.{keptOn, fewGone, framesOf, Run}
+use Rattle.link.specs.Corollaries.{unitsSent, unitsEnded, afterCalls, Between, later, allKept, allGone, NothingGone, EverythingGone, NoMoreGone, LaterBatches}
+use Rattle.link.proofs.Ends.{Fresh}
 use Rattle.link.proofs.Views.{due-gone}
-use Rattle.link.proofs.Run.{wrote, after}
+use Rattle.link.proofs.Run.{wrote, after, Runs}
 use Rattle.link.proofs.Later.{later-due, later-units}
 use Rattle.link.proofs.Uslp.{uslp, facts}
-use Rattle.link.proofs.Theorem.{wrote-sent, runs, writer-accepted, zeros, fresh-ends, demand}
+use Rattle.link.proofs.Theorem.{wrote-sent, runs, fresh-ends, demand}
 
 -- ---- frames that are all kept, or all gone
 
@@ -97,27 +96,41 @@ module _ (s : Setting) where
       ap (λ (y : Writer). startOf y l) (after-calls xs w) ∙ ap (λ (k : ℕ). k * zone ((afterCalls w xs) .setting) (channelOf ((afterCalls w xs) .setting) l)) e
       ∙ zero-mul _
 
+-- After the calls xs the lane stands between batches.
+module _ (s : Setting) (held : List ℕ) (xs ys : List Call) (run : Run s held (xs ++ ys)) (l : ℕ) where
+  abbrev w : Writer
+  w = (setUpWriter s) .state
+
+  new : Fresh (uslp s) w (record { reader = (setUpReader s) .state; area = held })
+  new = fresh-ends s held (run .area) (run .writer)
+
+  goes : Runs (uslp s) w (record { reader = (setUpReader s) .state; area = held }) (λ (l : ℕ). []) (xs ++ ys)
+  goes = runs s (xs ++ ys) w _ _ (run .calls) (run .link)
+
+  module _ (b : (uslp s) .start (after (uslp s) w xs) l ≡ 0) where
+    due-later : noneGone (placeOf s l) (later s xs ys) ≡ true
+        → due l [] (framesOf s (xs ++ ys)) ≡ due l [] (framesOf s xs) ++ unitsEnded l (later s xs ys)
+    due-later n =
+        ap (due l []) (sym (wrote-sent s (xs ++ ys) w))
+        ∙ later-due (uslp s) (facts s) l xs ys w _ _ [] (new .writer) goes b
+        (subst (λ (fs : List Frame). noneGone (placeOf s l) fs ≡ true) (sym (wrote-later s xs ys w)) n)
+        ∙ ap₂ (λ (fs gs : List Frame). due l [] fs ++ unitsEnded l gs) (wrote-sent s xs w) (wrote-later s xs ys w)
+
+    units-later : Between s (xs ++ ys) l → unitsEnded l (later s xs ys) ≡ unitsSent l (later s xs ys)
+    units-later e =
+        subst (λ (fs : List Frame). unitsEnded l fs ≡ unitsSent l fs) (wrote-later s xs ys w)
+        (later-units (uslp s) (facts s) l xs ys w _ _ (new .writer) goes b (between s (xs ++ ys) w l e))
+
 pub no-more-gone : NoMoreGone
 no-more-gone s held xs ys run near l b n =
-    let w : Writer = (setUpWriter s) .state in
-    demand s held (xs ++ ys) run near l
-    ∙ ap (due l []) (sym (wrote-sent s (xs ++ ys) w))
-    ∙ later-due (uslp s) (facts s) l xs ys w (λ (l : ℕ). []) [] ((fresh-ends s held (run .area) (run .writer)) .writer)
-    (runs s (xs ++ ys) w _ (run .calls) (run .link)) (between s xs w l b)
-    (subst (λ (fs : List Frame). noneGone (placeOf s l) fs ≡ true) (sym (wrote-later s xs ys w)) n)
-    ∙ ap₂ (λ (fs gs : List Frame). due l [] fs ++ unitsEnded l gs) (wrote-sent s xs w) (wrote-later s xs ys w)
+    demand s held (xs ++ ys) run near l ∙ due-later s held xs ys run l (between s xs ((setUpWriter s) .state) l b) n
 
 pub later-batches : LaterBatches
-later-batches s held xs ys run l b e =
-    let w : Writer = (setUpWriter s) .state in
-    subst (λ (fs : List Frame). unitsEnded l fs ≡ unitsSent l fs) (wrote-later s xs ys w)
-    (later-units (uslp s) (facts s) l xs ys w (λ (l : ℕ). []) ((fresh-ends s held (run .area) (run .writer)) .writer)
-    (runs s (xs ++ ys) w _ (run .calls) (run .link)) (between s xs w l b) (between s (xs ++ ys) w l e))
+later-batches s held xs ys run l b e = units-later s held xs ys run l (between s xs ((setUpWriter s) .state) l b) e
 
 pub nothing-gone : NothingGone
-unfolding afterCalls due sent
+unfolding after afterCalls due sent
 nothing-gone s held xs run h l e =
-    let b : Between s [] l = ap (λ (o : Sender). number (o .state) l) (setup-accepted s (writer-accepted s (run .writer)) .1) ∙ (unfold freshWriter in zeros 8 l) in
-    no-more-gone s held [] xs run (λ c p. kept-few c (256 ^ (channel s c) .octets) (pow256-pos ((channel s c) .octets)) false (framesOf s xs) h) l b
-    (kept-none-gone (placeOf s l) (framesOf s xs) h)
-    ∙ later-batches s held [] xs run l b e
+    let b = (new s held [] xs run l) .start l in
+    demand s held xs run (λ c p. kept-few c (256 ^ (channel s c) .octets) (pow256-pos ((channel s c) .octets)) false (framesOf s xs) h) l
+    ∙ due-later s held [] xs run l b (kept-none-gone (placeOf s l) (framesOf s xs) h) ∙ units-later s held [] xs run l b e

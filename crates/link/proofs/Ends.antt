@@ -11,8 +11,7 @@ use Rattle.rules.specs.Writing.{countAfter}
 use Rattle.rules.specs.Reading.{expected}
 use Rattle.link.specs.Link.{Lent, Arrival, Frame}
 use Rattle.link.specs.Demand.{lending}
-use Rattle.link.proofs.Spans.{Filled, yields}
-use Rattle.link.proofs.Batches.{Delivers, Follows}
+use Rattle.link.proofs.Spans.{Filled, yields, Delivers, Follows}
 use Rattle.link.proofs.Invariant.{heldAfter}
 
 pub record Ends : Type 1 where
@@ -38,48 +37,49 @@ pub record Ends : Type 1 where
   pub count : Writer → ℕ → ℕ
   pub expect : Hearer → ℕ → Expect
   pub held : Hearer → ℕ → List ℕ
-  -- What is asked of a run: the call is accepted in its turn, where each lane last lent these batches; areas are of the size asked for; octets
-  -- change nothing.
+  -- What is asked of a run: the call is accepted in its turn, where each lane last lent these batches; areas are of the size asked for; what
+  -- arrives changes nothing at the reader.
   pub Goes : Writer → (ℕ → List ℕ) → Call → Type 0
   pub Enough : Lent → Type 0
-  pub Inert : Arrival → Type 0
+  pub Inert : Hearer → Arrival → Type 0
   -- What holds of the ends between calls.
   pub SoundWriter : Writer → Type 0
   pub SoundHearer : Hearer → Type 0
 
-module _ (E : Ends) where
-  -- ---- an accepted call, after which the writer is w′
+-- What arrives of a kept frame.
+abbrev pub whole : Frame → Lent → Arrival
+whole f lent = record { octets = f .octets; lent = lent }
 
-  pub record Sends (w : E .Writer) (last : ℕ → List ℕ) (x : E .Call) (w′ : E .Writer) : Type 0 where
+module _ (E : Ends) where
+  -- ---- an accepted call that lends b and writes f, after which the writer is w′
+
+  pub record Sends (w : E .Writer) (last : ℕ → List ℕ) (b : List ℕ) (f : Frame) (w′ : E .Writer) : Type 0 where
     pub sound : E .SoundWriter w′
-    pub lane : (E .frame w x) .lane < E .lanes
-    pub channel : (E .frame w x) .channel ≡ E .channel ((E .frame w x) .lane)
-    pub units : (E .frame w x) .units ≡ E .units ((E .frame w x) .lane) (E .batch x)
-    pub filled : Filled ((E .frame w x) .units)
+    pub lane : f .lane < E .lanes
+    pub channel : f .channel ≡ E .channel (f .lane)
+    pub units : f .units ≡ E .units (f .lane) b
+    pub filled : Filled (f .units)
     -- The frame starts where the lane is, has octets of the batch, and is followed by another or by a batch that begins.
-    pub starts : E .start w ((E .frame w x) .lane) ≡ (E .frame w x) .start
-    pub some : (E .frame w x) .start < (E .frame w x) .stop
-    pub turn : ((E .frame w x) .start ≡ 0) ⊎ ((E .frame w x) .units ≡ E .units ((E .frame w x) .lane) (last ((E .frame w x) .lane)))
-    pub follows : Follows ((E .frame w x) .units) ((E .frame w x) .stop) (E .start w′ ((E .frame w x) .lane))
-    pub start-other : (l : ℕ) → ((E .frame w x) .lane ≡ l → ⊥) → E .start w′ l ≡ E .start w l
+    pub starts : E .start w (f .lane) ≡ f .start
+    pub some : f .start < f .stop
+    pub turn : (f .start ≡ 0) ⊎ (f .units ≡ E .units (f .lane) (last (f .lane)))
+    pub follows : Follows (f .units) (f .stop) (E .start w′ (f .lane))
+    pub start-other : (l : ℕ) → (f .lane ≡ l → ⊥) → E .start w′ l ≡ E .start w l
     -- The channel's count rises by one, and no other.
-    pub count-on : (l : ℕ) → l < E .lanes → (E .frame w x) .channel ≡ E .channel l → E .count w′ l ≡ countAfter (E .octets l) (E .count w l)
-    pub count-other : (l : ℕ) → ((E .frame w x) .channel ≡ E .channel l → ⊥) → E .count w′ l ≡ E .count w l
+    pub count-on : (l : ℕ) → l < E .lanes → f .channel ≡ E .channel l → E .count w′ l ≡ countAfter (E .octets l) (E .count w l)
+    pub count-other : (l : ℕ) → (f .channel ≡ E .channel l → ⊥) → E .count w′ l ≡ E .count w l
 
   -- The units that a lane last lent, after that.
-  module _ (w : E .Writer) (last : ℕ → List ℕ) (x : E .Call) (w′ : E .Writer) (k : Sends w last x w′) where
-    abbrev pub lent : ℕ → List ℕ
-    lent = lending ((E .frame w x) .lane) (E .batch x) last
-
-    pub lent-own : E .units ((E .frame w x) .lane) (lent ((E .frame w x) .lane)) ≡ (E .frame w x) .units
+  module _ (w : E .Writer) (last : ℕ → List ℕ) (b : List ℕ) (f : Frame) (w′ : E .Writer) (k : Sends w last b f w′) where
+    pub lent-own : E .units (f .lane) (lending (f .lane) b last (f .lane)) ≡ f .units
     unfolding lending
-    lent-own = rw (eq-eqb ((E .frame w x) .lane) ((E .frame w x) .lane) refl) (sym (k .units))
+    lent-own = rw (eq-eqb (f .lane) (f .lane) refl) (sym (k .units))
 
-    pub lent-other : (l : ℕ) → ((E .frame w x) .lane ≡ l → ⊥) → E .units l (lent l) ≡ E .units l (last l)
+    pub lent-other : (l : ℕ) → (f .lane ≡ l → ⊥) → E .units l (lending (f .lane) b last l) ≡ E .units l (last l)
     unfolding lending
-    lent-other l n = rw (ne-eqb l ((E .frame w x) .lane) (λ e. n (sym e)))
+    lent-other l n = rw (ne-eqb l (f .lane) (λ e. n (sym e)))
 
-  -- ---- octets that change nothing
+  -- ---- what arrives and changes nothing
 
   pub record Unmoved (r : E .Hearer) (a : Arrival) : Type 0 where
     pub state : E .heard r a ≡ r
@@ -95,22 +95,21 @@ module _ (E : Ends) where
     pub sound : E .SoundHearer r′
     pub expect-on : (l : ℕ) → l < E .lanes → f .channel ≡ E .channel l → E .expect r′ l ≡ expected (E .octets l) (E .count w l)
     pub expect-other : (l : ℕ) → (f .channel ≡ E .channel l → ⊥) → E .expect r′ l ≡ E .expect r l
-    -- Other lanes of the channel, and of another one.
+    -- Other lanes, of the channel and of another one.
     pub held-beside : (l : ℕ) → l < E .lanes → f .channel ≡ E .channel l → (f .lane ≡ l → ⊥) → E .held r′ l ≡ holding w r l
     pub held-other : (l : ℕ) → l < E .lanes → (f .channel ≡ E .channel l → ⊥) → (f .lane ≡ l → ⊥) → E .held r′ l ≡ E .held r l
     pub none : (l : ℕ) → (f .lane ≡ l → ⊥) → out l ≡ []
     -- The frame's own lane.
-    pub reads : Delivers (f .units) (f .start) (f .stop) (holding w r (f .lane)) (yields (out (f .lane)) (E .held r′ (f .lane)))
+    pub delivers : Delivers (f .units) (f .start) (f .stop) (holding w r (f .lane)) (yields (out (f .lane)) (E .held r′ (f .lane)))
 
   -- ---- the facts
 
   pub record Facts : Type 0 where
-    pub sends : (w : E .Writer) (last : ℕ → List ℕ) (x : E .Call) → E .SoundWriter w → E .Goes w last x → Sends w last x (E .next w x)
-    pub unmoved : (r : E .Hearer) (a : Arrival) → E .SoundHearer r → E .Inert a → Unmoved r a
+    pub sends : (w : E .Writer) (last : ℕ → List ℕ) (x : E .Call) → E .SoundWriter w → E .Goes w last x
+        → Sends w last (E .batch x) (E .frame w x) (E .next w x)
+    pub unmoved : (r : E .Hearer) (a : Arrival) → E .SoundHearer r → E .Inert r a → Unmoved r a
     pub heard : (w : E .Writer) (r : E .Hearer) (last : ℕ → List ℕ) (x : E .Call) (lent : Lent) → E .SoundWriter w → E .SoundHearer r → E .Goes w last x
-        → E .Enough lent
-        → Heard w r (E .frame w x) (E .heard r (record { octets = (E .frame w x) .octets; lent = lent }))
-        (E .hands r (record { octets = (E .frame w x) .octets; lent = lent }))
+        → E .Enough lent → Heard w r (E .frame w x) (E .heard r (whole (E .frame w x) lent)) (E .hands r (whole (E .frame w x) lent))
 
   -- ---- fresh ends
 

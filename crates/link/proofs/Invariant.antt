@@ -18,8 +18,7 @@ use Rattle.rules.proofs.Tests.{split, same, and-left, and-right}
 use Rattle.rules.proofs.Counts.{missing-unknown, missing-gone, expected-below, one-further, none-further}
 use Rattle.link.specs.Due.{ending}
 use Rattle.link.specs.Demand.{fewGone}
-use Rattle.link.proofs.Spans.{Yield, yields, heldFrom, held-none, held-over}
-use Rattle.link.proofs.Batches.{Delivers, Follows}
+use Rattle.link.proofs.Spans.{Yield, yields, heldFrom, held-none, held-over, Delivers, Follows}
 
 -- ---- a lane's view
 

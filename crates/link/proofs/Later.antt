@@ -13,8 +13,7 @@ use Rattle.link.specs.Link.{Frame}
 use Rattle.link.specs.Due.{ending, kept, noneGone, clean, dueIn, due}
 use Rattle.link.specs.Demand.{lending}
 use Rattle.link.specs.Corollaries.{begunIn, endedIn, unitsSent, unitsEnded}
-use Rattle.link.proofs.Spans.{Filled}
-use Rattle.link.proofs.Batches.{Follows}
+use Rattle.link.proofs.Spans.{Filled, Follows}
 use Rattle.link.proofs.Once.{endsIn, ends-on, ends-nowhere, ends-all}
 use Rattle.link.proofs.Ends.{Ends, Sends, lent-own, lent-other, Facts}
 use Rattle.link.proofs.Views.{Safe, clean-other, clean-now, clean-before, due-not}
@@ -63,20 +62,19 @@ module _ (E : Ends) where
   abbrev EvenAt : ℕ → E .Writer → (ℕ → List ℕ) → List (List ℕ) → List (List ℕ) → Type 0
   EvenAt l w last e b = Even (E .start w l) (E .units l (last l)) e b
 
-  module _ (w : E .Writer) (last : ℕ → List ℕ) (x : E .Call) (w′ : E .Writer) (k : Sends E w last x w′) where
-    abbrev f : Frame
-    f = E .frame w x
-
+  module _ (w : E .Writer) (last : ℕ → List ℕ) (batch : List ℕ) (f : Frame) (w′ : E .Writer) (k : Sends E w last batch f w′) where
     abbrev last′ : ℕ → List ℕ
-    last′ = lending (f .lane) (E .batch x) last
+    last′ = lending (f .lane) batch last
 
     even-own : (e b : List (List ℕ)) → EvenAt (f .lane) w′ last′ e b → EvenAt (f .lane) w last (endedIn (f .lane) f ++ e) (begunIn (f .lane) f ++ b)
     even-own e b h =
         rw (eq-eqb (f .lane) (f .lane) refl)
-        (subst (λ (n : ℕ). Even n (E .units (f .lane) (last (f .lane))) (endsIn (f .start) (f .stop) 0 (f .units) ++ e) (cond (f .start =? 0) (f .units) [] ++ b))
+        (subst
+        (λ (n : ℕ).
+        Even n (E .units (f .lane) (last (f .lane))) (endsIn (f .start) (f .stop) 0 (f .units) ++ e) (cond (f .start =? 0) (f .units) [] ++ b))
         (sym (k .starts))
         (all-end (f .units) (E .units (f .lane) (last (f .lane))) (f .start) (f .stop) (E .start w′ (f .lane)) (k .filled) (k .some) (k .turn) (k .follows) e b
-        (subst (λ (us : List (List ℕ)). Even (E .start w′ (f .lane)) us e b) (lent-own E w last x w′ k) h)))
+        (subst (λ (us : List (List ℕ)). Even (E .start w′ (f .lane)) us e b) (lent-own E w last batch f w′ k) h)))
 
     even-step : (l : ℕ) (e b : List (List ℕ)) → EvenAt l w′ last′ e b → EvenAt l w last (endedIn l f ++ e) (begunIn l f ++ b)
     even-step l e b h =
@@ -84,7 +82,7 @@ module _ (E : Ends) where
         (λ q. subst (λ (i : ℕ). EvenAt i w′ last′ e b → EvenAt i w last (endedIn i f ++ e) (begunIn i f ++ b)) q (even-own e b) h)
         (λ n.
         rw (ne-eqb (f .lane) l n)
-        (subst (λ (us : List (List ℕ)). Even (E .start w l) us e b) (lent-other E w last x w′ k l n)
+        (subst (λ (us : List (List ℕ)). Even (E .start w l) us e b) (lent-other E w last batch f w′ k l n)
         (subst (λ (i : ℕ). Even i (E .units l (last′ l)) e b) (k .start-other l n) h)))
 
     -- The frame is none of the lane's channel that is gone: what is due in it is what ends in it.
@@ -115,42 +113,42 @@ module _ (E : Ends) where
 
   module _ (facts : Facts E) (l : ℕ) where
     -- No frame of the channel is gone: every unit that ends is due.
-    all-due : (xs : List (E .Call)) (w : E .Writer) (last : ℕ → List ℕ) (past : List Frame) → E .SoundWriter w → Runs E w last xs → Clean l w past
-        → noneGone (E .channel l) (wrote E w xs) ≡ true → due l past (wrote E w xs) ≡ unitsEnded l (wrote E w xs)
+    all-due : (xs : List (E .Call)) (w : E .Writer) (r : E .Hearer) (last : ℕ → List ℕ) (past : List Frame) → E .SoundWriter w → Runs E w r last xs
+        → Clean l w past → noneGone (E .channel l) (wrote E w xs) ≡ true → due l past (wrote E w xs) ≡ unitsEnded l (wrote E w xs)
     unfolding wrote due unitsEnded noneGone
-    all-due [] w last past s g h q = refl
-    all-due (x ∷ xs) w last past s g h q =
-        let k : Sends E w last x (E .next w x) = facts .sends w last x s (g .0) in
-        let d = due-step w last x (E .next w x) k past l (and-left _ _ q) h in
+    all-due [] w r last past s g h q = refl
+    all-due (x ∷ xs) w r last past s g h q =
+        let k = facts .sends w last x s (g .0) in
+        let d = due-step w last (E .batch x) (E .frame w x) (E .next w x) k past l (and-left _ _ q) h in
         ap₂ _++_ (d .0)
-        (all-due xs (E .next w x) _ (E .frame w x ∷ past) (k .sound) (g .2) (d .1)
+        (all-due xs (E .next w x) _ _ (E .frame w x ∷ past) (k .sound) (g .2) (d .1)
         (and-right (cond ((E .frame w x) .channel =? E .channel l) (kept ((E .frame w x) .passage)) true) _ q))
 
     -- The lane stands between batches afterwards: all that began has ended.
-    all-ended : (xs : List (E .Call)) (w : E .Writer) (last : ℕ → List ℕ) → E .SoundWriter w → Runs E w last xs → E .start (after E w xs) l ≡ 0
-        → EvenAt l w last (unitsEnded l (wrote E w xs)) (unitsSent l (wrote E w xs))
+    all-ended : (xs : List (E .Call)) (w : E .Writer) (r : E .Hearer) (last : ℕ → List ℕ) → E .SoundWriter w → Runs E w r last xs
+        → E .start (after E w xs) l ≡ 0 → EvenAt l w last (unitsEnded l (wrote E w xs)) (unitsSent l (wrote E w xs))
     unfolding wrote unitsEnded unitsSent after
-    all-ended [] w last s g e =
+    all-ended [] w r last s g e =
         subst (λ (n : ℕ). Even n (E .units l (last l)) [] []) (sym e) (ap (λ (us : List (List ℕ)). us ++ []) (ends-nowhere 0 (E .units l (last l)) 0))
-    all-ended (x ∷ xs) w last s g e =
-        let k : Sends E w last x (E .next w x) = facts .sends w last x s (g .0) in
-        even-step w last x (E .next w x) k l _ _ (all-ended xs (E .next w x) _ (k .sound) (g .2) e)
+    all-ended (x ∷ xs) w r last s g e =
+        let k = facts .sends w last x s (g .0) in
+        even-step w last (E .batch x) (E .frame w x) (E .next w x) k l _ _ (all-ended xs (E .next w x) _ _ (k .sound) (g .2) e)
 
     -- After the calls xs the lane stands between batches: of the calls ys all that ends is due, if no frame of the channel is gone; and all that
     -- begins ends, if it stands there after them too.
-    pub later-due : (xs ys : List (E .Call)) (w : E .Writer) (last : ℕ → List ℕ) (past : List Frame) → E .SoundWriter w → Runs E w last (xs ++ ys)
-        → E .start (after E w xs) l ≡ 0 → noneGone (E .channel l) (wrote E (after E w xs) ys) ≡ true
+    pub later-due : (xs ys : List (E .Call)) (w : E .Writer) (r : E .Hearer) (last : ℕ → List ℕ) (past : List Frame) → E .SoundWriter w
+        → Runs E w r last (xs ++ ys) → E .start (after E w xs) l ≡ 0 → noneGone (E .channel l) (wrote E (after E w xs) ys) ≡ true
         → due l past (wrote E w (xs ++ ys)) ≡ due l past (wrote E w xs) ++ unitsEnded l (wrote E (after E w xs) ys)
     unfolding wrote after due
-    later-due [] ys w last past s g b n = all-due ys w last past s g (λ a h. absurd (omega arith)) n
-    later-due (x ∷ xs) ys w last past s g b n =
-        let k : Sends E w last x (E .next w x) = facts .sends w last x s (g .0) in
-        ap (λ (us : List (List ℕ)). dueIn l (E .frame w x) past ++ us) (later-due xs ys (E .next w x) _ (E .frame w x ∷ past) (k .sound) (g .2) b n)
+    later-due [] ys w r last past s g b n = all-due ys w r last past s g (λ a h. absurd (omega arith)) n
+    later-due (x ∷ xs) ys w r last past s g b n =
+        let k = facts .sends w last x s (g .0) in
+        ap (λ (us : List (List ℕ)). dueIn l (E .frame w x) past ++ us) (later-due xs ys (E .next w x) _ _ (E .frame w x ∷ past) (k .sound) (g .2) b n)
         ∙ sym (append-assoc (dueIn l (E .frame w x) past) _ _)
 
-    pub later-units : (xs ys : List (E .Call)) (w : E .Writer) (last : ℕ → List ℕ) → E .SoundWriter w → Runs E w last (xs ++ ys)
+    pub later-units : (xs ys : List (E .Call)) (w : E .Writer) (r : E .Hearer) (last : ℕ → List ℕ) → E .SoundWriter w → Runs E w r last (xs ++ ys)
         → E .start (after E w xs) l ≡ 0 → E .start (after E w (xs ++ ys)) l ≡ 0
         → unitsEnded l (wrote E (after E w xs) ys) ≡ unitsSent l (wrote E (after E w xs) ys)
     unfolding after
-    later-units [] ys w last s g b e = even-zero (E .start w l) (E .units l (last l)) _ _ b (all-ended ys w last s g e)
-    later-units (x ∷ xs) ys w last s g b e = later-units xs ys (E .next w x) _ ((facts .sends w last x s (g .0)) .sound) (g .2) b e
+    later-units [] ys w r last s g b e = even-zero (E .start w l) (E .units l (last l)) _ _ b (all-ended ys w r last s g e)
+    later-units (x ∷ xs) ys w r last s g b e = later-units xs ys (E .next w x) _ _ ((facts .sends w last x s (g .0)) .sound) (g .2) b e

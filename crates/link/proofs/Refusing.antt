@@ -1,6 +1,6 @@
 -- Which octets a run refuses. A read of a valid reader with areas of the size asked for ends as refusals 3 to 12 say of its octets, and leaves
 -- such a reader; so do all reads of a run, whatever arrives. Frames that were written are refused by none.
-use mathlib.Core.Path.{_≡_, refl, sym, ap, ap₂, _∙_, subst}
+use mathlib.Core.Path.{_≡_, refl, ap, ap₂, _∙_, subst}
 use Prim.Native.Nat.{ℕ, zero, suc, _*_}
 use native.Mathlib.Omega.{arith}
 use mathlib.Core.Bool.{Bool, true, false, cond, not, _&&_, false≢true}
@@ -153,8 +153,10 @@ module _ (s : Setting) where
   unfolding sent arrivals refusedOf allBesides passes allPass frameBy
   written-accepted [] w last k o p = refl
   written-accepted (x ∷ xs) w last k o p =
-      by (subst (λ (t : Setting). given (refusals t ((frameBy w x) .octets)) ≡ 0) (k .setting) (back w last x (o .0, o .1) .accepted)) (x .passage) (and-left _ _ p)
-      (written-accepted xs _ (lending (x .lane) (x .batch) last) ((facts s) .sends w last x k (o .0, o .1) .sound) (o .2) (and-right (passes s (x .passage)) _ p))
+      by (subst (λ (t : Setting). given (refusals t ((frameBy w x) .octets)) ≡ 0) (k .setting) (back w last x (o .0, o .1) .accepted)) (x .passage)
+      (and-left _ _ p)
+      (written-accepted xs _ (lending (x .lane) (x .batch) last) ((facts s) .sends w last x k (o .0, o .1) .sound) (o .2)
+      (and-right (passes s (x .passage)) _ p))
     where
       rest : List Frame
       rest = sent ((called w x) .sender .state) xs

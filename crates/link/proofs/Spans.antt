@@ -1,6 +1,7 @@
 -- Units back to back, and a frame that has the octets of their batch from `start` up to `stop`: the units that end in it, and what is held of
 -- the one that goes on, where units that begin before octet j are lost.
 use mathlib.Core.Path.{_≡_, refl, ap₂, _∙_}
+use mathlib.Core.Logic.{_⊎_}
 use Prim.Native.Nat.{ℕ, zero, suc, _+_, _-_, _≤_, _<_}
 use native.Mathlib.Omega.{arith}
 use mathlib.Core.Bool.{Bool, true, false, cond, _&&_}
@@ -111,3 +112,15 @@ ends-none start stop p a (u ∷ us) h = ap₂ _++_ (by (start <? (a + length u))
     by true true = rw (h a)
     by true false = refl
     by false s = refl
+
+-- ---- a lane and a frame of its batch
+
+-- A lane that holds h, and so all that is not lost of the units so far, hands these out of a frame that has octets `start` up to `stop` of them,
+-- and then holds what is not lost up to there.
+abbrev pub Delivers : List (List ℕ) → ℕ → ℕ → List ℕ → Yield → Type 0
+Delivers us start stop h y =
+    (j : ℕ) → j ≤ start → h ≡ heldFrom j 0 start us → y ≡ yields (ending start stop (λ (i : ℕ). j ≤? i) 0 us) (heldFrom j 0 stop us)
+
+-- After a frame up to octet `stop` the next one starts there; or it starts a batch, and that frame held the last octet.
+abbrev pub Follows : List (List ℕ) → ℕ → ℕ → Type 0
+Follows us stop next = (next ≡ stop) ⊎ ((next ≡ 0) × (length (joined us) ≤ stop))

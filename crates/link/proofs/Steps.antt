@@ -1,26 +1,27 @@
 -- One call and its frame's passage, as a lane sees them: the lane's invariant is handed on, and what is handed out is due.
-use mathlib.Core.Path.{_≡_, refl, sym, ap, ap₂, _∙_, subst}
+use mathlib.Core.Path.{_≡_, refl, sym, ap, _∙_, subst}
 use Prim.Native.Nat.{ℕ, _≤_, _<_}
 use native.Mathlib.Omega.{arith}
-use mathlib.Core.Bool.{Bool, true, false, cond}
-use mathlib.Core.List.{List, [], _∷_}
+use mathlib.Core.Bool.{Bool, true, false}
+use mathlib.Core.List.{List, _∷_}
 use borrow.Author.Tests.{eq-eqb}
 use Rattle.rules.specs.declared.Expect.{Expect}
-use Rattle.rules.specs.Tests.{_=?_}
 use Rattle.rules.proofs.Tests.{same}
 use Rattle.link.specs.Link.{Frame}
 use Rattle.link.specs.Due.{ending, kept, clean, dueIn}
 use Rattle.link.specs.Demand.{lending, keptOn}
-use Rattle.link.proofs.Spans.{yields}
 use Rattle.link.proofs.Invariant.{View, Inv, inv-other, inv-gone, inv-beside, units-due, inv-next}
 use Rattle.link.proofs.Ends.{Ends, Sends, lent-own, lent-other, Heard}
 use Rattle.link.proofs.Views.{clean-gone, Safe, safe-kept, safe-apart, clean-other, clean-now, clean-before, due-not, flags-on, flags-off}
 
--- A view by its parts.
-parts : (a a′ b b′ : ℕ) (c c′ : Expect) (d d′ : List ℕ) (e e′ : List (List ℕ)) → a ≡ a′ → b ≡ b′ → c ≡ c′ → d ≡ d′ → e ≡ e′
-    → _≡_ {A = View} (record { start = a; count = b; expect = c; hold = d; units = e })
-    (record { start = a′; count = b′; expect = c′; hold = d′; units = e′ })
-parts a a′ b b′ c c′ d d′ e e′ p q r t u = λ y. record { start = p y; count = q y; expect = r y; hold = t y; units = u y }
+-- What is known of a view is known of its parts.
+moved : {n : ℕ} {whole : ℕ → Bool} {flags : List Bool} {a a′ b b′ : ℕ} {c c′ : Expect} {d d′ : List ℕ} {e e′ : List (List ℕ)}
+    → a′ ≡ a → b′ ≡ b → c′ ≡ c → d′ ≡ d → e′ ≡ e
+    → Inv n (record { start = a; count = b; expect = c; hold = d; units = e }) whole flags
+    → Inv n (record { start = a′; count = b′; expect = c′; hold = d′; units = e′ }) whole flags
+moved {n} {whole} {flags} p q r t u i =
+    subst (λ (v : View). Inv n v whole flags)
+    (λ y. record { start = (sym p) y; count = (sym q) y; expect = (sym r) y; hold = (sym t) y; units = (sym u) y }) i
 
 module _ (E : Ends) where
   -- ---- what is known of a lane
@@ -34,15 +35,12 @@ module _ (E : Ends) where
   abbrev pub Knows : ℕ → E .Writer → E .Hearer → (ℕ → List ℕ) → List Frame → List Frame → Type 0
   Knows l w r last past rest = Inv (E .octets l) (view l w r last) (clean l (E .channel l) past) (keptOn (E .channel l) rest)
 
-  -- ---- a call, after which the writer is w′
+  -- ---- a call that lends b and writes f, after which the writer is w′
 
-  module _ (w : E .Writer) (r : E .Hearer) (last : ℕ → List ℕ) (past : List Frame) (x : E .Call) (w′ : E .Writer) (k : Sends E w last x w′)
-      (rest : List Frame) where
-    abbrev f : Frame
-    f = E .frame w x
-
+  module _ (w : E .Writer) (r : E .Hearer) (last : ℕ → List ℕ) (b : List ℕ) (f : Frame) (w′ : E .Writer) (k : Sends E w last b f w′)
+      (past rest : List Frame) where
     abbrev last′ : ℕ → List ℕ
-    last′ = lending (f .lane) (E .batch x) last
+    last′ = lending (f .lane) b last
 
     module _ (l : ℕ) where
       abbrev c : ℕ
@@ -65,12 +63,11 @@ module _ (E : Ends) where
       if-gone lh q i =
           same (f .channel) c
           (λ e.
-          subst (λ (v : View). Inv (E .octets l) v whole′ flags) (parts _ _ _ _ _ _ _ _ _ _ refl (sym (k .count-on l lh e)) refl refl refl)
+          moved refl (k .count-on l lh e) refl refl refl
           (inv-gone _ (view l w r last) whole whole′ flags (E .start w′ l) (E .units l (last′ l)) (clean-gone l c f past e q)
           (subst (Inv (E .octets l) (view l w r last) whole) (flags-on c f rest false e q) i)))
           (λ n.
-          subst (λ (v : View). Inv (E .octets l) v whole′ flags)
-          (parts _ _ _ _ _ _ _ _ _ _ (sym (k .start-other l (apart n))) (sym (k .count-other l n)) refl refl (sym (lent-other E w last x w′ k l (apart n))))
+          moved (k .start-other l (apart n)) (k .count-other l n) refl refl (lent-other E w last b f w′ k l (apart n))
           (inv-other _ (view l w r last) whole whole′ flags (clean-other l c f past (safe-apart l c f past n) (apart n))
           (subst (Inv (E .octets l) (view l w r last) whole) (flags-off c f rest n) i)))
 
@@ -82,15 +79,12 @@ module _ (E : Ends) where
       if-other l lh n i =
           same (f .channel) (c l)
           (λ e.
-          subst (λ (v : View). Inv (E .octets l) v (whole′ l) (flags l))
-          (parts _ _ _ _ _ _ _ _ _ _ (sym (k .start-other l n)) (sym (k .count-on l lh e)) (sym (h .expect-on l lh e)) (sym (h .held-beside l lh e n))
-          (sym (lent-other E w last x w′ k l n)))
-          (inv-beside _ (view l w r last) (whole l) (flags l) (subst (Inv (E .octets l) (view l w r last) (whole l)) (flags-on (c l) f rest true e q) i) (whole′ l)
+          moved (k .start-other l n) (k .count-on l lh e) (h .expect-on l lh e) (h .held-beside l lh e n) (lent-other E w last b f w′ k l n)
+          (inv-beside _ (view l w r last) (whole l) (flags l)
+          (subst (Inv (E .octets l) (view l w r last) (whole l)) (flags-on (c l) f rest true e q) i) (whole′ l)
           (clean-other l (c l) f past (safe-kept l (c l) f past q) n)))
           (λ e.
-          subst (λ (v : View). Inv (E .octets l) v (whole′ l) (flags l))
-          (parts _ _ _ _ _ _ _ _ _ _ (sym (k .start-other l n)) (sym (k .count-other l e)) (sym (h .expect-other l e)) (sym (h .held-other l lh e n))
-          (sym (lent-other E w last x w′ k l n)))
+          moved (k .start-other l n) (k .count-other l e) (h .expect-other l e) (h .held-other l lh e n) (lent-other E w last b f w′ k l n)
           (inv-other _ (view l w r last) (whole l) (whole′ l) (flags l) (clean-other l (c l) f past (safe-kept l (c l) f past q) n)
           (subst (Inv (E .octets l) (view l w r last) (whole l)) (flags-off (c l) f rest e) i)))
 
@@ -104,8 +98,7 @@ module _ (E : Ends) where
 
         known : Inv (E .octets own) v (whole own) (true ∷ flags own)
         known =
-            subst (Inv (E .octets own) v (whole own)) (flags-on (c own) f rest true (k .channel) q)
-            (subst (λ (v : View). Inv (E .octets own) v (whole own) (keptOn (c own) (f ∷ rest))) (parts _ _ _ _ _ _ _ _ _ _ (k .starts) refl refl refl refl) i)
+            subst (Inv (E .octets own) v (whole own)) (flags-on (c own) f rest true (k .channel) q) (moved (sym (k .starts)) refl refl refl refl i)
 
         safe : Safe own (c own) f past
         safe = safe-kept own (c own) f past q
@@ -122,16 +115,14 @@ module _ (E : Ends) where
         own-due : out own ≡ dueIn own f past
         unfolding dueIn
         own-due =
-            units-due _ v (whole own) (flags own) known (f .units) (k .turn) (f .stop) on _ (h .reads) (whole′ own) now else
+            units-due _ v (whole own) (flags own) known (f .units) (k .turn) (f .stop) on _ (h .delivers) (whole′ own) now else
             ∙ ap (λ (d : ℕ). ending (f .start) (f .stop) (clean own d (f ∷ past)) 0 (f .units)) (sym (k .channel))
             ∙ sym (rw (eq-eqb own own refl))
 
         own-next : Knows own w′ r′ last′ (f ∷ past) rest
         own-next =
-            subst (λ (v : View). Inv (E .octets own) v (whole′ own) (flags own))
-            (parts _ _ _ _ _ _ _ _ _ _ refl (sym (k .count-on own (k .lane) (k .channel))) (sym (h .expect-on own (k .lane) (k .channel))) refl
-            (sym (lent-own E w last x w′ k)))
-            (inv-next _ v (whole own) (flags own) known (f .units) (k .turn) (f .stop) on _ (h .reads) (whole′ own) now else (E .start w′ own) (k .follows))
+            moved refl (k .count-on own (k .lane) (k .channel)) (h .expect-on own (k .lane) (k .channel)) refl (lent-own E w last b f w′ k)
+            (inv-next _ v (whole own) (flags own) known (f .units) (k .turn) (f .stop) on _ (h .delivers) (whole′ own) now else (E .start w′ own) (k .follows))
 
       -- Whosever it is: what is handed out on lane l, which may be none, is due.
       pub if-kept : (l : ℕ) → (l < E .lanes → Knows l w r last past (f ∷ rest))

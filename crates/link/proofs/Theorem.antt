@@ -1,5 +1,5 @@
 -- Demand 3: what is shown of any pair of ends, of USLP's calls from fresh ends.
-use mathlib.Core.Path.{_≡_, refl, sym, ap, ap₂, _∙_, subst}
+use mathlib.Core.Path.{_≡_, refl, sym, ap, _∙_, subst}
 use Prim.Native.Nat.{ℕ, _*_, _^_, _<_}
 use native.Mathlib.Nat.{zero-mul}
 use native.Mathlib.Omega.{arith}
@@ -8,7 +8,6 @@ use mathlib.Core.List.{List, [], _∷_, _++_}
 use lib.ListN.{length, getD, take, replicate, getD-replicate, length-replicate, List·getD-eq-default}
 use Rattle.rules.specs.declared.Setting.{Setting}
 use Rattle.rules.specs.declared.Expect.{Expect}
-use Rattle.rules.specs.declared.Reader.{Reader}
 use Rattle.rules.specs.declared.Writer.{Writer}
 use Rattle.rules.specs.declared.Listener.{Listener}
 use Rattle.rules.specs.declared.Sender.{Sender}
@@ -41,25 +40,28 @@ module _ (s : Setting) where
   hearing-reads l [] r = refl
   hearing-reads l (a ∷ more) r = ap (λ (us : List (List ℕ)). (uslp s) .hands r a l ++ us) (hearing-reads l more _)
 
-  all-inert : (xs : List Arrival) → allInert s xs ≡ true → AllInert (uslp s) xs
+  all-inert : (r : Hearer) (xs : List Arrival) → allInert s xs ≡ true → AllInert (uslp s) r xs
   unfolding allInert
-  all-inert [] q = tt
-  all-inert (a ∷ more) q = (and-left _ _ (and-left _ _ q), all-inert more (and-right (inert s (a .octets) && enough (a .lent)) _ q))
+  all-inert r [] q = tt
+  all-inert r (a ∷ more) q = (and-left _ _ (and-left _ _ q), all-inert r more (and-right (inert s (a .octets) && enough (a .lent)) _ q))
 
-  all-passes : (p : Passage) → passes s p ≡ true → Passes (uslp s) p
+  all-passes : (r : Hearer) (f : Frame) (p : Passage) → passes s p ≡ true → Passes (uslp s) r f p
   unfolding passes
-  all-passes (Kept lent after) q = (and-left _ _ q, all-inert after (and-right (enough lent) _ q))
-  all-passes (Gone instead) q = all-inert instead q
+  all-passes r f (Kept lent after) q = (and-left _ _ q, all-inert _ after (and-right (enough lent) _ q))
+  all-passes r f (Gone instead) q = all-inert r instead q
 
-  pub runs : (xs : List Call) (w : Writer) (last : ℕ → List ℕ) → InOrder w last xs → allPass s (sent w xs) ≡ true → Runs (uslp s) w last xs
+  pub runs : (xs : List Call) (w : Writer) (r : Hearer) (last : ℕ → List ℕ) → InOrder w last xs → allPass s (sent w xs) ≡ true → Runs (uslp s) w r last xs
   unfolding sent allPass frameBy
-  runs [] w last o q = tt
-  runs (x ∷ xs) w last o q =
-      ((o .0, o .1), all-passes (x .passage) (and-left _ _ q), runs xs _ (lending (x .lane) (x .batch) last) (o .2) (and-right (passes s (x .passage)) _ q))
+  runs [] w r last o q = tt
+  runs (x ∷ xs) w r last o q = (
+    (o .0, o .1),
+    all-passes r (frameBy w x) (x .passage) (and-left _ _ q),
+    runs xs _ _ (lending (x .lane) (x .batch) last) (o .2) (and-right (passes s (x .passage)) _ q),
+  )
 
 -- ---- fresh ends
 
-pub writer-accepted : (s : Setting) → (setUpWriter s) .outcome ≡ Done → settingOk s ≡ true
+writer-accepted : (s : Setting) → (setUpWriter s) .outcome ≡ Done → settingOk s ≡ true
 unfolding setUpWriter
 writer-accepted s e = go (settingOk s) e
   where
@@ -68,7 +70,7 @@ writer-accepted s e = go (settingOk s) e
     go true q = refl
     go false q = let z : _≡_ {A = ℕ} 0 1 = cc in absurd (omega arith)
 
-pub zeros : (n l : ℕ) → _≡_ {A = ℕ} (getD (replicate n 0) l 0) 0
+zeros : (n l : ℕ) → _≡_ {A = ℕ} (getD (replicate n 0) l 0) 0
 zeros n l = split n l (λ b. List·getD-eq-default (replicate n 0) 0 (rw length-replicate b)) (λ b. getD-replicate {A = ℕ} n l 0 0 b)
 
 module _ (s : Setting) (h : List ℕ) (full : length h ≡ heldSize) where
@@ -91,9 +93,9 @@ module _ (s : Setting) (h : List ℕ) (full : length h ≡ heldSize) where
   pub fresh-ends : (setUpWriter s) .outcome ≡ Done → Fresh (uslp s) ((setUpWriter s) .state) (record { reader = (setUpReader s) .state; area = h })
   fresh-ends e =
       let ok : settingOk s ≡ true = writer-accepted s e in
-      subst (λ (w : Writer). Fresh (uslp s) w (record { reader = (setUpReader s) .state; area = h })) (sym (ap (λ (o : Sender). o .state) (setup-accepted s ok .1)))
-      (subst (λ (r : Reader). Fresh (uslp s) (freshWriter s) (record { reader = r; area = h })) (sym (ap (λ (o : Listener). o .state) (setup-accepted s ok .0)))
-      (fresh ok))
+      let both = setup-accepted s ok in
+      subst (λ (o : Sender). Fresh (uslp s) (o .state) (record { reader = (setUpReader s) .state; area = h })) (sym (both .1))
+      (subst (λ (o : Listener). Fresh (uslp s) (freshWriter s) (record { reader = o .state; area = h })) (sym (both .0)) (fresh ok))
 
 -- ---- demand 3
 
@@ -104,7 +106,7 @@ demand s h xs d near l =
     let ok : settingOk s ≡ true = writer-accepted s (d .writer) in
     subst (λ (fs : List Frame). handedOut l (reads (r .reader) h (arrivals fs)) ≡ due l [] fs) (wrote-sent s xs w)
     (sym (hearing-reads s l _ r)
-    ∙ from-fresh (uslp s) (facts s) l xs w r (λ (l : ℕ). []) (fresh-ends s h (d .area) (d .writer)) (runs s xs w _ (d .calls) (d .link))
+    ∙ from-fresh (uslp s) (facts s) l xs w r (λ (l : ℕ). []) (fresh-ends s h (d .area) (d .writer)) (runs s xs w r _ (d .calls) (d .link))
     (λ lh.
     subst (λ (fs : List Frame). fewGone (256 ^ (channelOf s l) .octets) false 0 (keptOn (placeOf s l) fs) ≡ true) (sym (wrote-sent s xs w))
     (near (placeOf s l) (good s ok .lanes l lh .channel))))

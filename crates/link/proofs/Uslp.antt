@@ -26,13 +26,13 @@ use Rattle.rules.specs.Valid.{Good}
 use Rattle.rules.proofs.Valid.{good-channelOf}
 use Rattle.rules.proofs.Calls.{Accepted, none-refused, accepted}
 use Rattle.rules.proofs.Written.{FrameBack, write-back, zone-small}
-use Rattle.link.specs.Link.{Lent, Arrival, Call, called, Frame, placeOf, startOf, frameBy, handed}
+use Rattle.link.specs.Link.{Lent, Arrival, Call, called, placeOf, startOf, frameBy, handed}
 use Rattle.link.specs.Demand.{enough, inert}
-use Rattle.link.proofs.Spans.{Yield, yields, yield}
-use Rattle.link.proofs.Batches.{units, Delivers, lane-reads, Follows, follows}
+use Rattle.link.proofs.Spans.{yields, yield, Delivers, Follows}
+use Rattle.link.proofs.Batches.{units, lane-reads, follows}
 use Rattle.link.proofs.Invariant.{heldAfter}
 use Rattle.link.proofs.Received.{stray, reader, holds, left, gapped, length-left, holds-other, holds-gap, stored-length, stored-here, stored-other, makes, Taken, read-takes, read-ready}
-use Rattle.link.proofs.Ends.{Ends, Sends, Unmoved, Heard, Facts}
+use Rattle.link.proofs.Ends.{Ends, whole, Sends, Heard, Facts}
 
 -- ---- the pair
 
@@ -83,7 +83,7 @@ module _ (s : Setting) where
         Goes = λ (w : Writer) (last : ℕ → List ℕ) (x : Call).
             ((called w x) .sender .outcome ≡ Done) × ((number w (x .lane) ≡ 0) ⊎ (x .batch ≡ last (x .lane)));
         Enough = λ (a : Lent). enough a ≡ true;
-        Inert = λ (a : Arrival). inert s (a .octets) ≡ true;
+        Inert = λ (r : Hearer) (a : Arrival). inert s (a .octets) ≡ true;
         SoundWriter = SoundWriter;
         SoundHearer = SoundHearer;
       }
@@ -150,9 +150,9 @@ module _ (w : Writer) (last : ℕ → List ℕ) (x : Call) (go : (uslp (w .setti
     in-turn (inl e) = inl (ap (λ (m : ℕ). m * z) e ∙ zero-mul z)
     in-turn (inr e) = inr (ap (unitsOf kind) e)
 
-    sends : Sends (uslp s) w last x ((called w x) .sender .state)
+    sends : Sends (uslp s) w last (x .batch) (frameBy w x) ((called w x) .sender .state)
     sends =
-        subst (Sends (uslp s) w last x) (sym leaves)
+        subst (Sends (uslp s) w last (x .batch) (frameBy w x)) (sym leaves)
         (unfold writerAfter frameBy in
         record {
           sound = record { setting = refl; counts = rw length-set counts-8; next = rw length-set next-8 };
@@ -182,7 +182,7 @@ module _ (w : Writer) (last : ℕ → List ℕ) (x : Call) (go : (uslp (w .setti
     made = makes s es hs h i v (x .batch) k
 
     abbrev answer : Got
-    answer = readBy (record { reader = reader s es hs; area = h }) (record { octets = (frameBy w x) .octets; lent = lent })
+    answer = readBy (record { reader = reader s es hs; area = h }) (whole (frameBy w x) lent)
 
     took : Taken s es hs h i v made answer
     took = read-takes s es hs h lent i v (x .batch) (x .insert) (x .ocf) k ((frameBy w x) .octets) back (r .valid) (takes .numbered) (r .area) fits
@@ -248,15 +248,15 @@ module _ (w : Writer) (last : ℕ → List ℕ) (x : Call) (go : (uslp (w .setti
           held-beside = λ l lh e n. held-apart l n ∙ gap-same l lh e;
           held-other = λ l lh e n. held-apart l n ∙ holds-other s g l lh (placeOf s i) _ hs h (λ q. e (sym q));
           none = λ l n. took .units l ∙ ap (λ (t : Bool). cond t (made .units) []) (ne-eqb i l n);
-          reads = delivers;
+          delivers = delivers;
         })
 
 -- ---- the facts
 
 abbrev HeardBy : Setting → Writer → Call → Lent → Hearer → Type 0
 HeardBy s w x lent r =
-    Heard (uslp s) w r (frameBy w x) (leftBy (readBy r (record { octets = (frameBy w x) .octets; lent = lent })))
-    (λ (l : ℕ). handed l (readBy r (record { octets = (frameBy w x) .octets; lent = lent })))
+    Heard (uslp s) w r (frameBy w x) (leftBy (readBy r (whole (frameBy w x) lent)))
+    (λ (l : ℕ). handed l (readBy r (whole (frameBy w x) lent)))
 
 -- Two ends that name one setting have one setting.
 heard-of : (w : Writer) (last : ℕ → List ℕ) (x : Call) (lent : Lent) (r : Hearer) → (uslp (w .setting)) .Goes w last x → enough lent ≡ true
@@ -270,7 +270,8 @@ pub facts : (s : Setting) → Facts (uslp s)
 facts s =
     record {
       sends = λ w last x k go.
-          subst (λ (t : Setting). Sends (uslp t) w last x ((called w x) .sender .state)) (k .setting) (sends w last x go (k .counts) (k .next));
+          subst (λ (t : Setting). Sends (uslp t) w last (x .batch) (frameBy w x) ((called w x) .sender .state)) (k .setting)
+          (sends w last x go (k .counts) (k .next));
       unmoved = λ r a k q.
           let u = stray (r .reader) (a .octets) (r .area) (a .lent) (subst (λ (t : Setting). inert t (a .octets) ≡ true) (sym (k .setting)) q) in
           record { state = λ t. record { reader = (u .state) t; area = (u .area) t }; none = u .none };
