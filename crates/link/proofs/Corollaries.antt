@@ -20,7 +20,7 @@ use Rattle.link.specs.Corollaries.{unitsSent, unitsEnded, afterCalls, Be
 use Rattle.link.proofs.Ends.{Fresh}
 use Rattle.link.proofs.Views.{due-gone}
 use Rattle.link.proofs.Run.{wrote, after, Runs}
-use Rattle.link.proofs.Later.{later-due, later-units}
+use Rattle.link.proofs.Later.{Begins, later-due, later-units}
 use Rattle.link.proofs.Uslp.{uslp, facts}
 use Rattle.link.proofs.Theorem.{wrote-sent, runs, fresh-ends, demand}
 
@@ -91,8 +91,8 @@ module _ (s : Setting) where
   wrote-later : (xs ys : List Call) (w : Writer) → wrote (uslp s) (after (uslp s) w xs) ys ≡ sent (afterCalls w xs) ys
   wrote-later xs ys w = ap (λ (y : Writer). wrote (uslp s) y ys) (after-calls xs w) ∙ wrote-sent s ys (afterCalls w xs)
 
-  between : (xs : List Call) (w : Writer) (l : ℕ) → number (afterCalls w xs) l ≡ 0 → (uslp s) .start (after (uslp s) w xs) l ≡ 0
-  between xs w l e =
+  between : (xs : List Call) (w : Writer) (l : ℕ) → number (afterCalls w xs) l ≡ 0 → Begins (uslp s) l (after (uslp s) w xs)
+  between xs w l e b =
       ap (λ (y : Writer). startOf y l) (after-calls xs w) ∙ ap (λ (k : ℕ). k * zone ((afterCalls w xs) .setting) (channelOf ((afterCalls w xs) .setting) l)) e
       ∙ zero-mul _
 
@@ -107,7 +107,7 @@ module _ (s : Setting) (held : List ℕ) (xs ys : List Call) (run : Run s held (
   goes : Runs (uslp s) w (record { reader = (setUpReader s) .state; area = held }) (λ (l : ℕ). []) (xs ++ ys)
   goes = runs s (xs ++ ys) w _ _ (run .calls) (run .link)
 
-  module _ (b : (uslp s) .start (after (uslp s) w xs) l ≡ 0) where
+  module _ (b : Begins (uslp s) l (after (uslp s) w xs)) where
     due-later : noneGone (placeOf s l) (later s xs ys) ≡ true
         → due l [] (framesOf s (xs ++ ys)) ≡ due l [] (framesOf s xs) ++ unitsEnded l (later s xs ys)
     due-later n =

@@ -1,6 +1,6 @@
 -- A pair of ends, so far as demand 3 goes: the calls and the reads, what a setting says of its lanes, what the ends' states say of a lane, and
 -- the facts on which a run stands. Nothing here knows what a frame looks like, so a pair with other frames has no second proof of the demand.
-use mathlib.Core.Path.{_≡_, refl, sym}
+use mathlib.Core.Path.{_≡_, refl, sym, ap, _∙_}
 use mathlib.Core.Logic.{_⊎_}
 use Prim.Native.Nat.{ℕ, _^_, _<_}
 use mathlib.Core.Bool.{false}
@@ -31,9 +31,9 @@ pub record Ends : Type 1 where
   pub channel : ℕ → ℕ
   pub octets : ℕ → ℕ
   pub units : ℕ → List ℕ → List (List ℕ)
-  -- Of a lane: the octet of its batch with which its next frame starts, and its channel's count; the count that is expected there, and the
-  -- octets that are held.
-  pub start : Writer → ℕ → ℕ
+  -- Of a lane: the octet with which its next frame starts, if this is the batch that it is at, and its channel's count; the count that is
+  -- expected there, and the octets that are held.
+  pub start : Writer → ℕ → List ℕ → ℕ
   pub count : Writer → ℕ → ℕ
   pub expect : Hearer → ℕ → Expect
   pub held : Hearer → ℕ → List ℕ
@@ -60,24 +60,39 @@ module _ (E : Ends) where
     pub units : f .units ≡ E .units (f .lane) b
     pub filled : Filled (f .units)
     -- The frame starts where the lane is, has octets of the batch, and is followed by another or by a batch that begins.
-    pub starts : E .start w (f .lane) ≡ f .start
+    pub starts : E .start w (f .lane) (last (f .lane)) ≡ f .start
     pub some : f .start < f .stop
     pub turn : (f .start ≡ 0) ⊎ (f .units ≡ E .units (f .lane) (last (f .lane)))
-    pub follows : Follows (f .units) (f .stop) (E .start w′ (f .lane))
-    pub start-other : (l : ℕ) → (f .lane ≡ l → ⊥) → E .start w′ l ≡ E .start w l
+    pub follows : Follows (f .units) (f .stop) (E .start w′ (f .lane) b)
+    pub start-other : (l : ℕ) → (f .lane ≡ l → ⊥) → (b : List ℕ) → E .start w′ l b ≡ E .start w l b
     -- The channel's count rises by one, and no other.
     pub count-on : (l : ℕ) → l < E .lanes → f .channel ≡ E .channel l → E .count w′ l ≡ countAfter (E .octets l) (E .count w l)
     pub count-other : (l : ℕ) → (f .channel ≡ E .channel l → ⊥) → E .count w′ l ≡ E .count w l
 
-  -- The units that a lane last lent, after that.
+  -- What lanes have after that: the frame's own, and another, which is where it was.
   module _ (w : E .Writer) (last : ℕ → List ℕ) (b : List ℕ) (f : Frame) (w′ : E .Writer) (k : Sends w last b f w′) where
-    pub lent-own : E .units (f .lane) (lending (f .lane) b last (f .lane)) ≡ f .units
-    unfolding lending
-    lent-own = rw (eq-eqb (f .lane) (f .lane) refl) (sym (k .units))
+    abbrev last′ : ℕ → List ℕ
+    last′ = lending (f .lane) b last
 
-    pub lent-other : (l : ℕ) → (f .lane ≡ l → ⊥) → E .units l (lending (f .lane) b last l) ≡ E .units l (last l)
+    lent-own : last′ (f .lane) ≡ b
+    unfolding lending
+    lent-own = rw (eq-eqb (f .lane) (f .lane) refl)
+
+    lent-other : (l : ℕ) → (f .lane ≡ l → ⊥) → last′ l ≡ last l
     unfolding lending
     lent-other l n = rw (ne-eqb l (f .lane) (λ e. n (sym e)))
+
+    pub start-own : E .start w′ (f .lane) (last′ (f .lane)) ≡ E .start w′ (f .lane) b
+    start-own = ap (E .start w′ (f .lane)) lent-own
+
+    pub units-own : E .units (f .lane) (last′ (f .lane)) ≡ f .units
+    units-own = ap (E .units (f .lane)) lent-own ∙ sym (k .units)
+
+    pub start-same : (l : ℕ) → (f .lane ≡ l → ⊥) → E .start w′ l (last′ l) ≡ E .start w l (last l)
+    start-same l n = k .start-other l n (last′ l) ∙ ap (E .start w l) (lent-other l n)
+
+    pub units-same : (l : ℕ) → (f .lane ≡ l → ⊥) → E .units l (last′ l) ≡ E .units l (last l)
+    units-same l n = ap (E .units l) (lent-other l n)
 
   -- ---- what arrives and changes nothing
 
@@ -116,7 +131,7 @@ module _ (E : Ends) where
   pub record Fresh (w : E .Writer) (r : E .Hearer) : Type 0 where
     pub writer : E .SoundWriter w
     pub hearer : E .SoundHearer r
-    pub start : (l : ℕ) → E .start w l ≡ 0
+    pub start : (l : ℕ) (b : List ℕ) → E .start w l b ≡ 0
     pub unknown : (l : ℕ) → l < E .lanes → (E .expect r l) .known ≡ false
     pub below : (l : ℕ) → l < E .lanes → (E .expect r l) .count < 256 ^ E .octets l
     pub held : (l : ℕ) → l < E .lanes → E .held r l ≡ []

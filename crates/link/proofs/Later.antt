@@ -15,7 +15,7 @@ use Rattle.link.specs.Demand.{lending}
 use Rattle.link.specs.Corollaries.{begunIn, endedIn, unitsSent, unitsEnded}
 use Rattle.link.proofs.Spans.{Filled, Follows}
 use Rattle.link.proofs.Once.{endsIn, ends-on, ends-nowhere, ends-all}
-use Rattle.link.proofs.Ends.{Ends, Sends, lent-own, lent-other, Facts}
+use Rattle.link.proofs.Ends.{Ends, Sends, start-own, units-own, start-same, units-same, Facts}
 use Rattle.link.proofs.Views.{Safe, clean-other, clean-now, clean-before, due-not}
 use Rattle.link.proofs.Run.{wrote, after, Runs}
 
@@ -25,9 +25,12 @@ use Rattle.link.proofs.Run.{wrote, after, Runs}
 abbrev Even : ℕ → List (List ℕ) → List (List ℕ) → List (List ℕ) → Type 0
 Even n us e b = endsIn 0 n 0 us ++ e ≡ cond (n =? 0) [] us ++ b
 
+even-in : (m n : ℕ) (us vs e b : List (List ℕ)) → m ≡ n → us ≡ vs → Even m us e b → Even n vs e b
+even-in m n us vs e b p q h = subst (λ (i : ℕ). Even i vs e b) p (subst (λ (ws : List (List ℕ)). Even m ws e b) q h)
+
 -- Between batches: what ends later is what begins later.
 even-zero : (n : ℕ) (us e b : List (List ℕ)) → n ≡ 0 → Even n us e b → e ≡ b
-even-zero n us e b q h = ap (λ (vs : List (List ℕ)). vs ++ e) (sym (ends-nowhere 0 us 0)) ∙ subst (λ (i : ℕ). Even i us e b) q h
+even-zero n us e b q h = ap (λ (vs : List (List ℕ)). vs ++ e) (sym (ends-nowhere 0 us 0)) ∙ even-in n 0 us us e b q refl h
 
 -- A frame ends its units, and the last frame the last of them.
 all-end : (us last : List (List ℕ)) (start stop next : ℕ) → Filled us → start < stop → (start ≡ 0) ⊎ (us ≡ last) → Follows us stop next
@@ -49,18 +52,18 @@ all-end us last start stop next full on turn then e b h =
     other (inr q) n = q
 
     onwards : Follows us stop next → endsIn 0 stop 0 us ++ e ≡ us ++ b
-    onwards (inl q) = subst (λ (i : ℕ). Even i us e b) q h ∙ ap (λ (t : Bool). cond t [] us ++ b) (ne-eqb stop 0 (λ p. omega arith))
+    onwards (inl q) = even-in next stop us us e b q refl h ∙ ap (λ (t : Bool). cond t [] us ++ b) (ne-eqb stop 0 (λ p. omega arith))
     onwards (inr q) = ap₂ _++_ (ends-all stop us 0 full (omega (arith, q .1))) (even-zero next us e b (q .0) h)
 
 module _ (E : Ends) where
   -- ---- one call, as lane l sees it
 
   -- The frames of its batch so far are clean.
-  abbrev Clean : ℕ → E .Writer → List Frame → Type 0
-  Clean l w past = (a : ℕ) → a < E .start w l → clean l (E .channel l) past a ≡ true
+  abbrev Clean : ℕ → E .Writer → (ℕ → List ℕ) → List Frame → Type 0
+  Clean l w last past = (a : ℕ) → a < E .start w l (last l) → clean l (E .channel l) past a ≡ true
 
   abbrev EvenAt : ℕ → E .Writer → (ℕ → List ℕ) → List (List ℕ) → List (List ℕ) → Type 0
-  EvenAt l w last e b = Even (E .start w l) (E .units l (last l)) e b
+  EvenAt l w last e b = Even (E .start w l (last l)) (E .units l (last l)) e b
 
   module _ (w : E .Writer) (last : ℕ → List ℕ) (batch : List ℕ) (f : Frame) (w′ : E .Writer) (k : Sends E w last batch f w′) where
     abbrev last′ : ℕ → List ℕ
@@ -69,36 +72,32 @@ module _ (E : Ends) where
     even-own : (e b : List (List ℕ)) → EvenAt (f .lane) w′ last′ e b → EvenAt (f .lane) w last (endedIn (f .lane) f ++ e) (begunIn (f .lane) f ++ b)
     even-own e b h =
         rw (eq-eqb (f .lane) (f .lane) refl)
-        (subst
-        (λ (n : ℕ).
-        Even n (E .units (f .lane) (last (f .lane))) (endsIn (f .start) (f .stop) 0 (f .units) ++ e) (cond (f .start =? 0) (f .units) [] ++ b))
-        (sym (k .starts))
-        (all-end (f .units) (E .units (f .lane) (last (f .lane))) (f .start) (f .stop) (E .start w′ (f .lane)) (k .filled) (k .some) (k .turn) (k .follows) e b
-        (subst (λ (us : List (List ℕ)). Even (E .start w′ (f .lane)) us e b) (lent-own E w last batch f w′ k) h)))
+        (even-in _ _ _ _ _ _ (sym (k .starts)) refl
+        (all-end (f .units) (E .units (f .lane) (last (f .lane))) (f .start) (f .stop) (E .start w′ (f .lane) batch) (k .filled) (k .some) (k .turn)
+        (k .follows) e b
+        (even-in _ _ _ _ e b (start-own E w last batch f w′ k) (units-own E w last batch f w′ k) h)))
 
     even-step : (l : ℕ) (e b : List (List ℕ)) → EvenAt l w′ last′ e b → EvenAt l w last (endedIn l f ++ e) (begunIn l f ++ b)
     even-step l e b h =
         same (f .lane) l
         (λ q. subst (λ (i : ℕ). EvenAt i w′ last′ e b → EvenAt i w last (endedIn i f ++ e) (begunIn i f ++ b)) q (even-own e b) h)
         (λ n.
-        rw (ne-eqb (f .lane) l n)
-        (subst (λ (us : List (List ℕ)). Even (E .start w l) us e b) (lent-other E w last batch f w′ k l n)
-        (subst (λ (i : ℕ). Even i (E .units l (last′ l)) e b) (k .start-other l n) h)))
+        rw (ne-eqb (f .lane) l n) (even-in _ _ _ _ e b (start-same E w last batch f w′ k l n) (units-same E w last batch f w′ k l n) h))
 
     -- The frame is none of the lane's channel that is gone: what is due in it is what ends in it.
     module _ (past : List Frame) where
-      clean-own : Safe (f .lane) (E .channel (f .lane)) f past → Clean (f .lane) w past
+      clean-own : Safe (f .lane) (E .channel (f .lane)) f past → Clean (f .lane) w last past
           → (a : ℕ) → clean (f .lane) (E .channel (f .lane)) (f ∷ past) a ≡ true
       clean-own q h a =
           split (f .start) a (clean-now (f .lane) (E .channel (f .lane)) f past q refl a)
           (λ b. clean-before (f .lane) (E .channel (f .lane)) f past q refl a b ∙ h a (omega (arith, k .starts)))
 
-      due-step : (l : ℕ) → Safe l (E .channel l) f past → Clean l w past → (dueIn l f past ≡ endedIn l f) × Clean l w′ (f ∷ past)
+      due-step : (l : ℕ) → Safe l (E .channel l) f past → Clean l w last past → (dueIn l f past ≡ endedIn l f) × Clean l w′ last′ (f ∷ past)
       unfolding dueIn
       due-step l q h =
           same (f .lane) l
           (λ e.
-          subst (λ (i : ℕ). Safe i (E .channel i) f past → Clean i w past → (dueIn i f past ≡ endedIn i f) × Clean i w′ (f ∷ past)) e
+          subst (λ (i : ℕ). Safe i (E .channel i) f past → Clean i w last past → (dueIn i f past ≡ endedIn i f) × Clean i w′ last′ (f ∷ past)) e
           (λ q h. (
             ap (λ (d : ℕ). cond (f .lane =? f .lane) (ending (f .start) (f .stop) (clean (f .lane) d (f ∷ past)) 0 (f .units)) []) (k .channel)
                 ∙ ap (λ (p : ℕ → Bool). cond (f .lane =? f .lane) (ending (f .start) (f .stop) p 0 (f .units)) []) (λ t a. (clean-own q h a) t),
@@ -106,15 +105,19 @@ module _ (E : Ends) where
           )) q h)
           (λ n. (
             due-not l f past n ∙ sym (rw (ne-eqb (f .lane) l n)),
-            λ a b. clean-other l (E .channel l) f past q n a ∙ h a (subst (λ (m : ℕ). a < m) (k .start-other l n) b),
+            λ a b. clean-other l (E .channel l) f past q n a ∙ h a (subst (λ (m : ℕ). a < m) (start-same E w last batch f w′ k l n) b),
           ))
+
+  -- The lane stands between batches: whatever batch comes, its next frame starts with it.
+  abbrev pub Begins : ℕ → E .Writer → Type 0
+  Begins l w = (b : List ℕ) → E .start w l b ≡ 0
 
   -- ---- the calls
 
   module _ (facts : Facts E) (l : ℕ) where
     -- No frame of the channel is gone: every unit that ends is due.
     all-due : (xs : List (E .Call)) (w : E .Writer) (r : E .Hearer) (last : ℕ → List ℕ) (past : List Frame) → E .SoundWriter w → Runs E w r last xs
-        → Clean l w past → noneGone (E .channel l) (wrote E w xs) ≡ true → due l past (wrote E w xs) ≡ unitsEnded l (wrote E w xs)
+        → Clean l w last past → noneGone (E .channel l) (wrote E w xs) ≡ true → due l past (wrote E w xs) ≡ unitsEnded l (wrote E w xs)
     unfolding wrote due unitsEnded noneGone
     all-due [] w r last past s g h q = refl
     all-due (x ∷ xs) w r last past s g h q =
@@ -126,10 +129,10 @@ module _ (E : Ends) where
 
     -- The lane stands between batches afterwards: all that began has ended.
     all-ended : (xs : List (E .Call)) (w : E .Writer) (r : E .Hearer) (last : ℕ → List ℕ) → E .SoundWriter w → Runs E w r last xs
-        → E .start (after E w xs) l ≡ 0 → EvenAt l w last (unitsEnded l (wrote E w xs)) (unitsSent l (wrote E w xs))
+        → Begins l (after E w xs) → EvenAt l w last (unitsEnded l (wrote E w xs)) (unitsSent l (wrote E w xs))
     unfolding wrote unitsEnded unitsSent after
     all-ended [] w r last s g e =
-        subst (λ (n : ℕ). Even n (E .units l (last l)) [] []) (sym e) (ap (λ (us : List (List ℕ)). us ++ []) (ends-nowhere 0 (E .units l (last l)) 0))
+        even-in 0 _ (E .units l (last l)) _ [] [] (sym (e (last l))) refl (ap (λ (us : List (List ℕ)). us ++ []) (ends-nowhere 0 (E .units l (last l)) 0))
     all-ended (x ∷ xs) w r last s g e =
         let k = facts .sends w last x s (g .0) in
         even-step w last (E .batch x) (E .frame w x) (E .next w x) k l _ _ (all-ended xs (E .next w x) _ _ (k .sound) (g .2) e)
@@ -137,18 +140,18 @@ module _ (E : Ends) where
     -- After the calls xs the lane stands between batches: of the calls ys all that ends is due, if no frame of the channel is gone; and all that
     -- begins ends, if it stands there after them too.
     pub later-due : (xs ys : List (E .Call)) (w : E .Writer) (r : E .Hearer) (last : ℕ → List ℕ) (past : List Frame) → E .SoundWriter w
-        → Runs E w r last (xs ++ ys) → E .start (after E w xs) l ≡ 0 → noneGone (E .channel l) (wrote E (after E w xs) ys) ≡ true
+        → Runs E w r last (xs ++ ys) → Begins l (after E w xs) → noneGone (E .channel l) (wrote E (after E w xs) ys) ≡ true
         → due l past (wrote E w (xs ++ ys)) ≡ due l past (wrote E w xs) ++ unitsEnded l (wrote E (after E w xs) ys)
     unfolding wrote after due
-    later-due [] ys w r last past s g b n = all-due ys w r last past s g (λ a h. absurd (omega arith)) n
+    later-due [] ys w r last past s g b n = all-due ys w r last past s g (λ a h. absurd (omega (arith, b (last l)))) n
     later-due (x ∷ xs) ys w r last past s g b n =
         let k = facts .sends w last x s (g .0) in
         ap (λ (us : List (List ℕ)). dueIn l (E .frame w x) past ++ us) (later-due xs ys (E .next w x) _ _ (E .frame w x ∷ past) (k .sound) (g .2) b n)
         ∙ sym (append-assoc (dueIn l (E .frame w x) past) _ _)
 
     pub later-units : (xs ys : List (E .Call)) (w : E .Writer) (r : E .Hearer) (last : ℕ → List ℕ) → E .SoundWriter w → Runs E w r last (xs ++ ys)
-        → E .start (after E w xs) l ≡ 0 → E .start (after E w (xs ++ ys)) l ≡ 0
+        → Begins l (after E w xs) → Begins l (after E w (xs ++ ys))
         → unitsEnded l (wrote E (after E w xs) ys) ≡ unitsSent l (wrote E (after E w xs) ys)
     unfolding after
-    later-units [] ys w r last s g b e = even-zero (E .start w l) (E .units l (last l)) _ _ b (all-ended ys w r last s g e)
+    later-units [] ys w r last s g b e = even-zero (E .start w l (last l)) (E .units l (last l)) _ _ (b (last l)) (all-ended ys w r last s g e)
     later-units (x ∷ xs) ys w r last s g b e = later-units xs ys (E .next w x) _ _ ((facts .sends w last x s (g .0)) .sound) (g .2) b e

@@ -170,10 +170,14 @@ makes s es hs h i v b k =
     laneStep ((lane s i) .kind) ((lane s i) .longest) (ruleOf ((lane s i) .kind) k) (holds (gapped s es hs i v) h i)
     (pointsTo (pointerOf ((lane s i) .kind) (zone s (channelOf s i)) b k)) (zoneOf ((lane s i) .kind) (zone s (channelOf s i)) b k)
 
+-- The reader once lane i has made this of a frame with count v.
+abbrev pub readerAfter : Setting → List Expect → List ℕ → ℕ → ℕ → Made → Reader
+readerAfter s es hs i v m =
+    reader s (set es (placeOf s i) (expected ((channelOf s i) .octets) v)) (set (gapped s es hs i v) i (length (m .held)))
+
 -- What a read of it gives.
 pub record Taken (s : Setting) (es : List Expect) (hs h : List ℕ) (i v : ℕ) (m : Made) (o : Got) : Type 0 where
-  pub state : o .taken .state
-      ≡ reader s (set es (placeOf s i) (expected ((channelOf s i) .octets) v)) (set (gapped s es hs i v) i (length (m .held)))
+  pub state : o .taken .state ≡ readerAfter s es hs i v m
   pub area : o .heldArea ≡ laid h (partSize * i) (m .held)
   pub units : (l : ℕ) → handed l o ≡ cond (i =? l) (m .units) []
   pub small : length (m .held) ≤ 8192
@@ -249,6 +253,6 @@ module _ (s : Setting) (es : List Expect) (hs h : List ℕ) (a : Lent) (i v : �
             (zoneOf ((lane s i) .kind) (zone s (channelOf s i)) b k) (q .enough) in
             omega (arith, p, q .most)
 
-    pub read-ready : readerOk (reader s (set es c (expected n v)) (set after i (length ((made b k) .held)))) ≡ true
+    pub read-ready : readerOk (readerAfter s es hs i v (made b k)) ≡ true
     read-ready =
         subst (λ (r : Reader). readerOk r ≡ true) (read-takes .state) (read-valid (reader s es hs) f h (a .units) (a .records) ok)

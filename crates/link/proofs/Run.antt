@@ -108,11 +108,11 @@ module _ (E : Ends) where
           gone = 0;
           any = false;
           since = omega arith;
-          wholly = λ i b. absurd (omega (arith, new .start l));
+          wholly = λ i b. absurd (omega (arith, new .start l (last l)));
           known = new .unknown l lh;
           below = new .below l lh;
           count = λ a. absurd (false≢true a);
-          held = λ a. new .held l lh ∙ sym (held-none 0 0 _ (E .units l (last l)) (omega (arith, new .start l)));
+          held = λ a. new .held l lh ∙ sym (held-none 0 0 _ (E .units l (last l)) (omega (arith, new .start l (last l))));
           fresh = λ a. new .held l lh;
           lost = λ b. absurd (b refl);
           few = few lh;

@@ -11,7 +11,7 @@ use Rattle.link.specs.Link.{Frame}
 use Rattle.link.specs.Due.{ending, kept, clean, dueIn}
 use Rattle.link.specs.Demand.{lending, keptOn}
 use Rattle.link.proofs.Invariant.{View, Inv, inv-other, inv-gone, inv-beside, units-due, inv-next}
-use Rattle.link.proofs.Ends.{Ends, Sends, lent-own, lent-other, Heard}
+use Rattle.link.proofs.Ends.{Ends, Sends, start-own, units-own, start-same, units-same, Heard}
 use Rattle.link.proofs.Views.{clean-gone, Safe, safe-kept, safe-apart, clean-other, clean-now, clean-before, due-not, flags-on, flags-off}
 
 -- What is known of a view is known of its parts.
@@ -29,7 +29,7 @@ module _ (E : Ends) where
   -- Lane l's view of both ends, with the batches that lanes last lent.
   abbrev pub view : ℕ → E .Writer → E .Hearer → (ℕ → List ℕ) → View
   view l w r last =
-      record { start = E .start w l; count = E .count w l; expect = E .expect r l; hold = E .held r l; units = E .units l (last l) }
+      record { start = E .start w l (last l); count = E .count w l; expect = E .expect r l; hold = E .held r l; units = E .units l (last l) }
 
   -- The invariant, after the frames of the past and with those that are to come.
   abbrev pub Knows : ℕ → E .Writer → E .Hearer → (ℕ → List ℕ) → List Frame → List Frame → Type 0
@@ -64,10 +64,10 @@ module _ (E : Ends) where
           same (f .channel) c
           (λ e.
           moved refl (k .count-on l lh e) refl refl refl
-          (inv-gone _ (view l w r last) whole whole′ flags (E .start w′ l) (E .units l (last′ l)) (clean-gone l c f past e q)
+          (inv-gone _ (view l w r last) whole whole′ flags (E .start w′ l (last′ l)) (E .units l (last′ l)) (clean-gone l c f past e q)
           (subst (Inv (E .octets l) (view l w r last) whole) (flags-on c f rest false e q) i)))
           (λ n.
-          moved (k .start-other l (apart n)) (k .count-other l n) refl refl (lent-other E w last b f w′ k l (apart n))
+          moved (start-same E w last b f w′ k l (apart n)) (k .count-other l n) refl refl (units-same E w last b f w′ k l (apart n))
           (inv-other _ (view l w r last) whole whole′ flags (clean-other l c f past (safe-apart l c f past n) (apart n))
           (subst (Inv (E .octets l) (view l w r last) whole) (flags-off c f rest n) i)))
 
@@ -79,12 +79,14 @@ module _ (E : Ends) where
       if-other l lh n i =
           same (f .channel) (c l)
           (λ e.
-          moved (k .start-other l n) (k .count-on l lh e) (h .expect-on l lh e) (h .held-beside l lh e n) (lent-other E w last b f w′ k l n)
+          moved (start-same E w last b f w′ k l n) (k .count-on l lh e) (h .expect-on l lh e) (h .held-beside l lh e n)
+          (units-same E w last b f w′ k l n)
           (inv-beside _ (view l w r last) (whole l) (flags l)
           (subst (Inv (E .octets l) (view l w r last) (whole l)) (flags-on (c l) f rest true e q) i) (whole′ l)
           (clean-other l (c l) f past (safe-kept l (c l) f past q) n)))
           (λ e.
-          moved (k .start-other l n) (k .count-other l e) (h .expect-other l e) (h .held-other l lh e n) (lent-other E w last b f w′ k l n)
+          moved (start-same E w last b f w′ k l n) (k .count-other l e) (h .expect-other l e) (h .held-other l lh e n)
+          (units-same E w last b f w′ k l n)
           (inv-other _ (view l w r last) (whole l) (whole′ l) (flags l) (clean-other l (c l) f past (safe-kept l (c l) f past q) n)
           (subst (Inv (E .octets l) (view l w r last) (whole l)) (flags-off (c l) f rest e) i)))
 
@@ -121,8 +123,10 @@ module _ (E : Ends) where
 
         own-next : Knows own w′ r′ last′ (f ∷ past) rest
         own-next =
-            moved refl (k .count-on own (k .lane) (k .channel)) (h .expect-on own (k .lane) (k .channel)) refl (lent-own E w last b f w′ k)
-            (inv-next _ v (whole own) (flags own) known (f .units) (k .turn) (f .stop) on _ (h .delivers) (whole′ own) now else (E .start w′ own) (k .follows))
+            moved (start-own E w last b f w′ k) (k .count-on own (k .lane) (k .channel)) (h .expect-on own (k .lane) (k .channel)) refl
+            (units-own E w last b f w′ k)
+            (inv-next _ v (whole own) (flags own) known (f .units) (k .turn) (f .stop) on _ (h .delivers) (whole′ own) now else (E .start w′ own b)
+            (k .follows))
 
       -- Whosever it is: what is handed out on lane l, which may be none, is due.
       pub if-kept : (l : ℕ) → (l < E .lanes → Knows l w r last past (f ∷ rest))

@@ -80,7 +80,7 @@ module _ (s : Setting) (h : List ℕ) (full : length h ≡ heldSize) where
       record {
         writer = record { setting = refl; counts = refl; next = refl };
         hearer = record { setting = refl; expects = refl; held = refl; area = full; valid = fresh-reader s ok };
-        start = λ l. ap (λ (i : ℕ). i * zone s (channelOf s l)) (zeros 8 l) ∙ zero-mul _;
+        start = λ l b. ap (λ (i : ℕ). i * zone s (channelOf s l)) (zeros 8 l) ∙ zero-mul _;
         unknown = λ l lh. ap (λ (x : Expect). x .known) (none l lh);
         below = λ l lh. rw (none l lh) (pow256-pos ((channelOf s l) .octets));
         held = λ l lh. ap (λ (i : ℕ). take i (part l h)) (zeros 8 l);

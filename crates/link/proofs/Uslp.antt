@@ -31,7 +31,7 @@ use Rattle.link.specs.Demand.{enough, inert}
 use Rattle.link.proofs.Spans.{yields, yield, Delivers, Follows}
 use Rattle.link.proofs.Batches.{units, lane-reads, follows}
 use Rattle.link.proofs.Invariant.{heldAfter}
-use Rattle.link.proofs.Received.{stray, reader, holds, left, gapped, length-left, holds-other, holds-gap, stored-length, stored-here, stored-other, makes, Taken, read-takes, read-ready}
+use Rattle.link.proofs.Received.{stray, reader, holds, left, gapped, length-left, holds-other, holds-gap, stored-length, stored-here, stored-other, makes, readerAfter, Taken, read-takes, read-ready}
 use Rattle.link.proofs.Ends.{Ends, whole, Sends, Heard, Facts}
 
 -- ---- the pair
@@ -76,7 +76,7 @@ module _ (s : Setting) where
         channel = placeOf s;
         octets = λ (l : ℕ). (channelOf s l) .octets;
         units = λ (l : ℕ) (b : List ℕ). unitsOf ((lane s l) .kind) b;
-        start = startOf;
+        start = λ (w : Writer) (l : ℕ) (b : List ℕ). startOf w l;
         count = λ (w : Writer) (l : ℕ). count w (placeOf s l);
         expect = λ (r : Hearer) (l : ℕ). expect (r .reader) (placeOf s l);
         held = λ (r : Hearer) (l : ℕ). holds (r .reader .held) (r .area) l;
@@ -164,7 +164,7 @@ module _ (w : Writer) (last : ℕ → List ℕ) (x : Call) (go : (uslp (w .setti
           some = omega (arith, some);
           turn = in-turn (go .1);
           follows = next-start;
-          start-other = λ l n. ap (λ (m : ℕ). m * zone s (channelOf s l)) (getD-set-other (w .next) i l _ 0 (λ e. n (sym e)));
+          start-other = λ l n b. ap (λ (m : ℕ). m * zone s (channelOf s l)) (getD-set-other (w .next) i l _ 0 (λ e. n (sym e)));
           count-on = count-same;
           count-other = λ l n. getD-set-other (w .counts) (placeOf s i) (placeOf s l) _ 0 (λ e. n (sym e));
         })
@@ -191,11 +191,7 @@ module _ (w : Writer) (last : ℕ → List ℕ) (x : Call) (go : (uslp (w .setti
     gap-8 = length-left s _ _ hs ∙ r .held
 
     abbrev after : Hearer
-    after =
-        record {
-          reader = reader s (set es (placeOf s i) (expected ((channelOf s i) .octets) v)) (set gap i (length (made .held)));
-          area = laid h (partSize * i) (made .held);
-        }
+    after = record { reader = readerAfter s es hs i v made; area = laid h (partSize * i) (made .held) }
 
     sound : SoundHearer s after
     sound =

@@ -25,11 +25,12 @@ pub record Arrival : Type 0 where
   pub octets : List ℕ
   pub lent : Lent
 
--- "Each frame kept, or gone": what the read of a kept one is lent, and what arrives besides, after the frame or in its place.
+-- "Each frame kept, or gone." The read of a kept one is lent areas.
 pub data Passage : Type 0 where
   Kept : Lent → List Arrival → Passage
   Gone : List Arrival → Passage
 
+-- What arrives besides: after a kept frame, or in the place of one that is gone.
 abbrev pub besides : Passage → List Arrival
 besides (Kept lent after) = after
 besides (Gone instead) = instead
