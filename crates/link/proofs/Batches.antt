@@ -75,6 +75,7 @@ points-back z n h = go (n <? z) refl
 -- ---- a frame
 
 module _ (longest z : ℕ) (zp : 0 < z) (zl : z ≤ 4096) (k : ℕ) (b : List ℕ) where
+  -- A unit begins with the frame that starts with octet 0.
   starts-unit : (k * z =? 0) ≡ (ruleOf Access k =? 0b001)
   unfolding ruleOf
   starts-unit = same k 0 (λ e. rw (eq-eqb k 0 e, eq-eqb (k * z) 0 (ap (λ (i : ℕ). i * z) e ∙ zero-mul z)))

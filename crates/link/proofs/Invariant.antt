@@ -40,8 +40,8 @@ module _ (n : ℕ) where
   abbrev m : ℕ
   m = 256 ^ n
 
-  -- `whole i` says that no frame of the channel is gone since the frame where octet i of the batch is; the flags say which frames of the channel that are
-  -- to come are kept.
+  -- `whole i` says that no frame of the channel is gone since the frame where octet i of the batch is; the flags say which frames of the channel
+  -- that are to come are kept.
   pub record Inv (v : View) (whole : ℕ → Bool) (flags : List Bool) : Type 0 where
     pub j : ℕ
     pub gone : ℕ

@@ -49,7 +49,7 @@ module _ (longest : ℕ) (u : List ℕ) (w : Whole longest u) where
       rw (w .self ys, le-leb _ _ (w .fits), le-leb _ _ h)
 
   -- A packet at the front is given, and the walk goes on after it.
-  walk-whole : (ys : List ℕ) → yield (walk longest (u ++ ys)) ≡ yields (u ∷ (walk longest ys) .units) ((walk longest ys) .held)
+  walk-whole : (ys : List ℕ) → yield (walk longest (u ++ ys)) ≡ yields (u ∷ (yield (walk longest ys)) .units) ((walk longest ys) .held)
   walk-whole ys =
       ap yield (walk-front longest (u ++ ys) ∙ ap (λ (n : Next). front n (u ++ ys) (walk longest)) (next-whole ys))
       ∙ ap₂ (λ (p q : List ℕ). yield (hands p (walk longest q))) (take-append-seam u ys) (drop-append-seam u ys)
@@ -280,7 +280,7 @@ module _ (longest z : ℕ) (zp : 0 < z) (j start : ℕ) (js : j ≤ start) where
       all-due h =
           sym (ap₂ yields (first-within start (start + z) (λ (i : ℕ). j ≤? i) u us a (omega arith) (omega arith)) (held-past j a (o + z) u us (omega arith)))
 
-      both-yield : (x y : Made) → yield (both x y) ≡ yields (x .units ++ y .units) (y .held)
+      both-yield : (x y : Made) → yield (both x y) ≡ yields ((yield x) .units ++ (yield y) .units) (y .held)
       unfolding both
       both-yield x y = refl
 

@@ -32,7 +32,7 @@ use Rattle.rules.proofs.Calls.{verdict-cond, read-valid, read-fits}
 use Rattle.rules.proofs.Written.{FrameBack}
 use Rattle.link.specs.Link.{Lent, placeOf, unitsBy, handed}
 use Rattle.link.specs.Demand.{enough, inert}
-use Rattle.link.proofs.Spans.{either}
+use Rattle.link.proofs.Spans.{yield, either}
 use Rattle.link.proofs.Records.{handed-laid}
 
 -- ---- octets that change nothing
@@ -179,7 +179,7 @@ readerAfter s es hs i v m =
 pub record Taken (s : Setting) (es : List Expect) (hs h : List ℕ) (i v : ℕ) (m : Made) (o : Got) : Type 0 where
   pub state : o .taken .state ≡ readerAfter s es hs i v m
   pub area : o .heldArea ≡ laid h (partSize * i) (m .held)
-  pub units : (l : ℕ) → handed l o ≡ cond (i =? l) (m .units) []
+  pub units : (l : ℕ) → handed l o ≡ cond (i =? l) ((yield m) .units) []
   pub small : length (m .held) ≤ 8192
 
 module _ (s : Setting) (es : List Expect) (hs h : List ℕ) (a : Lent) (i v : ℕ) where

@@ -225,7 +225,7 @@ module _ (w : Writer) (last : ℕ → List ℕ) (x : Call) (go : (uslp (w .setti
     delivers : Delivers (unitsOf kind (x .batch)) (k * z) (k * z + z) (holding i) (yields (handed i answer) (holds (after .reader .held) (after .area) i))
     delivers =
         subst (Delivers (unitsOf kind (x .batch)) (k * z) (k * z + z) (holding i))
-        (ap₂ yields (sym (took .units i ∙ ap (λ (t : Bool). cond t (made .units) []) (eq-eqb i i refl)))
+        (ap₂ yields (sym (took .units i ∙ ap (λ (t : Bool). cond t ((yield made) .units) []) (eq-eqb i i refl)))
         (sym (stored-here gap h (made .held) i lane-8 gap-8 (r .area) (took .small))))
         (unfold makes in
         subst (λ (y : List ℕ). Delivers (unitsOf kind (x .batch)) (k * z) (k * z + z) y (yield made)) (gap-same i (takes .numbered) refl)
@@ -243,7 +243,7 @@ module _ (w : Writer) (last : ℕ → List ℕ) (x : Call) (go : (uslp (w .setti
           expect-other = λ l n. getD-set-other es (placeOf s i) (placeOf s l) _ noExpect (λ e. n (sym e));
           held-beside = λ l lh e n. held-apart l n ∙ gap-same l lh e;
           held-other = λ l lh e n. held-apart l n ∙ holds-other s g l lh (placeOf s i) _ hs h (λ q. e (sym q));
-          none = λ l n. took .units l ∙ ap (λ (t : Bool). cond t (made .units) []) (ne-eqb i l n);
+          none = λ l n. took .units l ∙ ap (λ (t : Bool). cond t ((yield made) .units) []) (ne-eqb i l n);
           delivers = delivers;
         })
 
