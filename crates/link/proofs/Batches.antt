@@ -1,12 +1,13 @@
 -- A lane of either kind that reads a frame of its batch. From here on packets and access units are alike: units back to back.
-use mathlib.Core.Path.{_≡_, refl, ap, _∙_, subst}
+use mathlib.Core.Path.{_≡_, refl, sym, ap, ap₂, _∙_, subst}
+use mathlib.Core.Logic.{inl, inr}
 use Prim.Native.Nat.{ℕ, _+_, _-_, _*_, _/_, _≤_, _<_}
-use native.Mathlib.Nat.{zero-add, le-div-iff-mul-le, div-lt-iff-lt-mul, lt-div-mul-add}
+use native.Mathlib.Nat.{zero-add, zero-mul, mul-pos, le-div-iff-mul-le, div-lt-iff-lt-mul, lt-div-mul-add}
 use native.Mathlib.Omega.{arith}
 use mathlib.Core.Bool.{Bool, true, false, cond}
 use mathlib.Core.List.{List, [], _∷_, append-nil}
 use lib.ListN.{length}
-use borrow.Author.Tests.{leb-true, ltb-true, ne-eqb}
+use borrow.Author.Tests.{leb-true, ltb-true, eq-eqb, ne-eqb}
 use Rattle.rules.specs.declared.Kind.{Kind}
 use Rattle.rules.specs.declared.Kind.the-variants.{Packets, Access}
 use Rattle.rules.specs.declared.Place.{Place}
@@ -15,13 +16,13 @@ use Rattle.rules.specs.Tests.{_≤?_, _<?_, _=?_}
 use Rattle.rules.specs.Areas.{joined}
 use Rattle.rules.specs.Packets.{packets}
 use Rattle.rules.specs.Frames.{pointerTo, pointsTo}
-use Rattle.rules.specs.Writing.{batchOk, unitsOf, frames, zoneOf, ruleOf, startFrom, offsetOf, inside, pointerOf}
+use Rattle.rules.specs.Writing.{batchOk, unitsOf, frames, zoneOf, ruleOf, startFrom, offsetOf, inside, pointerOf, numberAfter}
 use Rattle.rules.specs.Reading.{laneStep, packetLane, accessLane}
-use Rattle.rules.proofs.Tests.{all-at}
+use Rattle.rules.proofs.Tests.{same, all-at}
 use Rattle.rules.specs.Valid.{least}
-use Rattle.link.specs.Due.{spans, ending}
+use Rattle.link.specs.Due.{ending}
 use Rattle.link.proofs.Whole.{Batch, packet-batch}
-use Rattle.link.proofs.Spans.{Filled, yields, yield, heldFrom, held-over}
+use Rattle.link.proofs.Spans.{Filled, yields, yield, heldFrom, Delivers, Follows}
 use Rattle.link.proofs.PacketLane.{wholes-filled, packet-lane}
 use Rattle.link.proofs.AccessLane.{access-lane}
 
@@ -73,31 +74,41 @@ points-back z n h = go (n <? z) refl
 
 -- ---- a frame
 
-module _ (longest z : ℕ) (zp : 0 < z) (zl : z ≤ 4096) (j k : ℕ) (jk : j ≤ k) (b : List ℕ) where
-  -- What a lane makes of frame k: the units that end there, but for those that began before frame j, and what it then holds.
-  pub lane-reads : (kind : Kind) → least kind ≤ longest → batchOk kind longest b ≡ true → k < frames z b
-      → yield (laneStep kind longest (ruleOf kind k) (heldFrom z j 0 (k * z) (unitsOf kind b)) (pointsTo (pointerOf kind z b k)) (zoneOf kind z b k))
-      ≡ yields (ending k (λ (i : ℕ). j ≤? i) (spans z 0 (unitsOf kind b))) (heldFrom z j 0 (k * z + z) (unitsOf kind b))
+module _ (longest z : ℕ) (zp : 0 < z) (zl : z ≤ 4096) (k : ℕ) (b : List ℕ) where
+  -- A unit begins with the frame that starts with octet 0.
+  starts-unit : (k * z =? 0) ≡ (ruleOf Access k =? 0b001)
+  unfolding ruleOf
+  starts-unit = same k 0 (λ e. rw (eq-eqb k 0 e, eq-eqb (k * z) 0 (ap (λ (i : ℕ). i * z) e ∙ zero-mul z)))
+      (λ e. let p : 0 < k * z = mul-pos (omega arith) zp in rw (ne-eqb k 0 e, ne-eqb (k * z) 0 (λ q. omega arith)))
+
+  -- Frame k of a batch, as either kind of lane reads it.
+  pub lane-reads : (kind : Kind) (h : List ℕ) → least kind ≤ longest → batchOk kind longest b ≡ true → k < frames z b
+      → Delivers (unitsOf kind b) (k * z) (k * z + z) h (yield (laneStep kind longest (ruleOf kind k) h (pointsTo (pointerOf kind z b k)) (zoneOf kind z b k)))
   unfolding laneStep pointerOf offsetOf zoneOf
-  lane-reads Packets enough ok h =
+  lane-reads Packets h enough ok f j js e =
       let p : Batch longest b = packet-batch longest b ok in
-      let l : k * z < length (joined (packets b)) = rw (p .joins) (frame-within z zp b k h) in
-      ap (λ (q : Place). yield (packetLane longest (heldFrom z j 0 (k * z) (packets b)) q (zoneOf Packets z b k)))
-      (points-back z (startFrom (packets b) (k * z) - k * z) zl)
+      let l : k * z < length (joined (packets b)) = rw (p .joins) (frame-within z zp b k f) in
+      ap₂ (λ (x : List ℕ) (q : Place). yield (packetLane longest x q (zoneOf Packets z b k))) e (points-back z (startFrom (packets b) (k * z) - k * z) zl)
       ∙ subst
       (λ (x : List ℕ).
-      yield (packetLane longest (heldFrom z j 0 (k * z) (packets b)) (inside z (startFrom (packets b) (k * z) - k * z)) (zoneOf Packets z x k))
-      ≡ yields (ending k (λ (i : ℕ). j ≤? i) (spans z 0 (packets b))) (heldFrom z j 0 (k * z + z) (packets b)))
+      yield (packetLane longest (heldFrom j 0 (k * z) (packets b)) (inside z (startFrom (packets b) (k * z) - k * z)) (zoneOf Packets z x k))
+      ≡ yields (ending (k * z) (k * z + z) (λ (i : ℕ). j ≤? i) 0 (packets b)) (heldFrom j 0 (k * z + z) (packets b)))
       (p .joins)
-      (packet-lane longest z zp j k jk (omega arith) (packets b) 0 (k * z) (p .wholes) (zero-add (k * z)) l)
-  lane-reads Access enough ok h =
+      (packet-lane longest z zp j (k * z) js (omega arith) (packets b) 0 (k * z) (p .wholes) (zero-add (k * z)) l)
+  lane-reads Access h enough ok f j js e =
       unfold batchOk in
-      ap (λ (q : Place). yield (accessLane longest (ruleOf Access k =? 0b001) (heldFrom z j 0 (k * z) (b ∷ [])) q (zoneOf Access z b k)))
+      ap₂ (λ (x : List ℕ) (q : Place). yield (accessLane longest (ruleOf Access k =? 0b001) x q (zoneOf Access z b k))) e
       (points-back z (length b - 1 - k * z) zl)
-      ∙ access-lane longest z zp j k jk b (leb-true _ _ (all-at _ 1 ok)) (frame-within z zp b k h)
+      ∙ ap (λ (t : Bool). yield (accessLane longest t (heldFrom j 0 (k * z) (b ∷ [])) (inside z (length b - 1 - k * z)) (zoneOf Access z b k)))
+      (sym starts-unit)
+      ∙ access-lane longest z zp j (k * z) js b (leb-true _ _ (all-at _ 1 ok)) (frame-within z zp b k f)
 
--- After the last frame nothing is held.
-pub lane-over : (kind : Kind) (longest z j k : ℕ) → 0 < z → (b : List ℕ) → batchOk kind longest b ≡ true → k + 1 ≡ frames z b
-    → heldFrom z j 0 (k * z + z) (unitsOf kind b) ≡ []
-lane-over kind longest z j k zp b ok h =
-    held-over z j 0 (k * z + z) (unitsOf kind b) (rw (units kind longest b ok .joins) (frame-last z zp b k h))
+-- ---- the frame after it
+
+pub follows : (kind : Kind) (longest z k : ℕ) → 0 < z → (b : List ℕ) → batchOk kind longest b ≡ true
+    → Follows (unitsOf kind b) (k * z + z) (numberAfter k (frames z b) * z)
+unfolding numberAfter
+follows kind longest z k zp b ok =
+    same (k + 1) (frames z b)
+    (λ e. inr (rw (eq-eqb (k + 1) (frames z b) e) (zero-mul z), rw (units kind longest b ok .joins) (frame-last z zp b k e)))
+    (λ e. inl (rw (ne-eqb (k + 1) (frames z b) e) (omega arith)))

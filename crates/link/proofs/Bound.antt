@@ -19,11 +19,11 @@ abbrev mixture : List ℕ
 mixture = take 21 a₀ ++ drop 21 b₀
 
 -- Of the frames of channel 0, one is kept, 256 are gone, and one is kept: as many as the bound does not allow.
-pub gone-256 : keptOn mixed 0 (framesOf mixed far) ≡ true ∷ (replicate 256 false ++ (true ∷ []))
+pub gone-256 : keptOn 0 (framesOf mixed far) ≡ true ∷ (replicate 256 false ++ (true ∷ []))
 unfolding all
 gone-256 = refl
 
-pub not-near : fewGone 256 false 0 (keptOn mixed 0 (framesOf mixed far)) ≡ false
+pub not-near : fewGone 256 false 0 (keptOn 0 (framesOf mixed far)) ≡ false
 unfolding all
 not-near = refl
 
@@ -46,7 +46,7 @@ bound-needed d =
     absurd (omega arith)
 
 -- With one fewer gone the bound holds, and nothing comes out.
-pub one-fewer : (fewGone 256 false 0 (keptOn mixed 0 (framesOf mixed (gapOf 253))) ≡ true)
+pub one-fewer : (fewGone 256 false 0 (keptOn 0 (framesOf mixed (gapOf 253))) ≡ true)
     × (got mixed mixedLanes (gapOf 253) ≡ [] ∷ [] ∷ [])
 unfolding all
 one-fewer = (refl, refl)

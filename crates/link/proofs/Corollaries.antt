@@ -1,38 +1,37 @@
 -- What follows from the demand. Where nothing is gone from the begin of a batch on, what is due is all that ends; where all is gone, nothing
 -- is due; and in both cases the bound holds by itself.
 use mathlib.Core.Path.{_≡_, refl, sym, ap, ap₂, _∙_, subst}
-use Prim.Native.Nat.{ℕ, suc, _^_, _<_}
-use native.Mathlib.Nat.{not-suc-le-zero}
+use Prim.Native.Nat.{ℕ, suc, _*_, _^_, _<_}
+use native.Mathlib.Nat.{zero-mul}
 use mathlib.Core.Bool.{Bool, true, false, cond, not, _||_, false≢true}
 use mathlib.Core.List.{List, [], _∷_, _++_}
-use lib.ListN.{length, getD, replicate, getD-replicate, length-replicate, List·getD-eq-default}
 use borrow.Author.Tests.{lt-ltb}
 use Rattle.rules.specs.declared.Setting.{Setting}
-use Rattle.rules.specs.declared.Reader.{Reader}
 use Rattle.rules.specs.declared.Writer.{Writer}
 use Rattle.rules.specs.Tests.{_=?_, _<?_}
-use Rattle.rules.specs.Settings.{channel, number, settingOk}
-use Rattle.rules.proofs.Tests.{split, same, and-left, and-right, and-both}
+use Rattle.rules.specs.Settings.{channel, channelOf, number, zone}
+use Rattle.rules.specs.Calls.{setUpReader, setUpWriter}
+use Rattle.rules.proofs.Tests.{and-left, and-right, and-both}
 use Rattle.rules.proofs.Octets.{pow256-pos}
-use Rattle.rules.proofs.Valid.{good}
-use Rattle.link.specs.Link.{Call, Frame, sent}
-use Rattle.link.specs.Due.{kept, placeOf, noneGone, dueIn, due}
-use Rattle.link.specs.Demand.{InOrder, keptOn, fewGone, framesOf}
-use Rattle.link.specs.Corollaries.{unitsSent, unitsEnded, afterCalls, Between, allKept, allGone, NothingGone, EverythingGone, NoMoreGone, LaterBatches}
-use Rattle.link.proofs.Run.{sender}
-use Rattle.link.proofs.Views.{due-not, due-gone}
-use Rattle.link.proofs.Later.{Reached, reached, all-due, all-units}
-use Rattle.link.proofs.Theorem.{fresh, fresh-ready, fresh-ends, demand}
-use Rattle.rules.specs.Areas.{heldSize}
+use Rattle.link.specs.Link.{Call, Frame, placeOf, startOf, sent}
+use Rattle.link.specs.Due.{kept, noneGone, due}
+use Rattle.link.specs.Demand.{keptOn, fewGone, framesOf, Run}
+use Rattle.link.specs.Corollaries.{unitsSent, unitsEnded, afterCalls, Between, later, allKept, allGone, NothingGone, EverythingGone, NoMoreGone, LaterBatches}
+use Rattle.link.proofs.Ends.{Fresh}
+use Rattle.link.proofs.Views.{due-gone}
+use Rattle.link.proofs.Run.{wrote, after, Runs}
+use Rattle.link.proofs.Later.{Begins, later-due, later-units}
+use Rattle.link.proofs.Uslp.{uslp, facts}
+use Rattle.link.proofs.Theorem.{wrote-sent, runs, fresh-ends, demand}
 
 -- ---- frames that are all kept, or all gone
 
-module _ (s : Setting) (c : ℕ) where
-  kept-none-gone : (fs : List Frame) → allKept fs ≡ true → noneGone s c fs ≡ true
+module _ (c : ℕ) where
+  kept-none-gone : (fs : List Frame) → allKept fs ≡ true → noneGone c fs ≡ true
   unfolding allKept noneGone
   kept-none-gone [] h = refl
   kept-none-gone (f ∷ fs) h =
-      and-both (cond (placeOf s (f .lane) =? c) (kept (f .passage)) true) (noneGone s c fs) (by (placeOf s (f .lane) =? c))
+      and-both (cond (f .channel =? c) (kept (f .passage)) true) (noneGone c fs) (by (f .channel =? c))
       (kept-none-gone fs (and-right (kept (f .passage)) _ h))
     where
       by : (t : Bool) → cond t (kept (f .passage)) true ≡ true
@@ -40,102 +39,98 @@ module _ (s : Setting) (c : ℕ) where
       by false = refl
 
   -- Frames kept, or gone, do not break the bound.
-  kept-few : (m : ℕ) → 0 < m → (any : Bool) (fs : List Frame) → allKept fs ≡ true → fewGone m any 0 (keptOn s c fs) ≡ true
+  kept-few : (m : ℕ) → 0 < m → (any : Bool) (fs : List Frame) → allKept fs ≡ true → fewGone m any 0 (keptOn c fs) ≡ true
   unfolding allKept keptOn fewGone
   kept-few m p any [] h = refl
   kept-few m p any (f ∷ fs) h =
-      by (placeOf s (f .lane) =? c) (kept (f .passage)) (and-left _ _ h) (λ t. kept-few m p t fs (and-right (kept (f .passage)) _ h))
+      by (f .channel =? c) (kept (f .passage)) (and-left _ _ h) (λ t. kept-few m p t fs (and-right (kept (f .passage)) _ h))
     where
       near : (t : Bool) → (not t || 0 <? m) ≡ true
       near true = lt-ltb 0 m p
       near false = refl
 
-      by : (t k : Bool) → k ≡ true → ((t : Bool) → fewGone m t 0 (keptOn s c fs) ≡ true) → fewGone m any 0 (cond t (k ∷ []) [] ++ keptOn s c fs) ≡ true
+      by : (t k : Bool) → k ≡ true → ((t : Bool) → fewGone m t 0 (keptOn c fs) ≡ true) → fewGone m any 0 (cond t (k ∷ []) [] ++ keptOn c fs) ≡ true
       by true true e r = and-both (not any || 0 <? m) _ (near any) (r true)
       by true false e r = absurd (false≢true e)
       by false k e r = r any
 
-  gone-few : (m g : ℕ) (fs : List Frame) → allGone fs ≡ true → fewGone m false g (keptOn s c fs) ≡ true
+  gone-few : (m g : ℕ) (fs : List Frame) → allGone fs ≡ true → fewGone m false g (keptOn c fs) ≡ true
   unfolding allGone keptOn fewGone
   gone-few m g [] h = refl
   gone-few m g (f ∷ fs) h =
-      by (placeOf s (f .lane) =? c) (kept (f .passage)) (and-left _ _ h) (λ i. gone-few m i fs (and-right (not (kept (f .passage))) _ h))
+      by (f .channel =? c) (kept (f .passage)) (and-left _ _ h) (λ i. gone-few m i fs (and-right (not (kept (f .passage))) _ h))
     where
-      by : (t k : Bool) → not k ≡ true → ((i : ℕ) → fewGone m false i (keptOn s c fs) ≡ true) → fewGone m false g (cond t (k ∷ []) [] ++ keptOn s c fs) ≡ true
+      by : (t k : Bool) → not k ≡ true → ((i : ℕ) → fewGone m false i (keptOn c fs) ≡ true) → fewGone m false g (cond t (k ∷ []) [] ++ keptOn c fs) ≡ true
       by true true e r = absurd (false≢true e)
       by true false e r = r (suc g)
       by false k e r = r g
 
 -- Nothing is due where all is gone.
-gone-due : (s : Setting) (l : ℕ) (fs past : List Frame) → allGone fs ≡ true → due s l past fs ≡ []
+gone-due : (l : ℕ) (fs past : List Frame) → allGone fs ≡ true → due l past fs ≡ []
 unfolding allGone due
-gone-due s l [] past h = refl
-gone-due s l (f ∷ fs) past h = ap₂ _++_ none (gone-due s l fs (f ∷ past) (and-right (not (kept (f .passage))) _ h))
+gone-due l [] past h = refl
+gone-due l (f ∷ fs) past h =
+    ap₂ _++_ (due-gone l f past (gone (kept (f .passage)) (and-left _ _ h))) (gone-due l fs (f ∷ past) (and-right (not (kept (f .passage))) _ h))
   where
     gone : (k : Bool) → not k ≡ true → k ≡ false
     gone true e = absurd (false≢true e)
     gone false e = refl
 
-    none : dueIn s l f past ≡ []
-    none = same (f .lane) l (λ e. due-gone s l f past (ap (placeOf s) e) (gone (kept (f .passage)) (and-left _ _ h))) (due-not s l f past)
-
 pub everything-gone : EverythingGone
 everything-gone s held xs run h l =
-    demand s held xs run (λ c b. gone-few s c (256 ^ (channel s c) .octets) 0 (framesOf s xs) h) l ∙ gone-due s l (framesOf s xs) [] h
+    demand s held xs run (λ c b. gone-few c (256 ^ (channel s c) .octets) 0 (framesOf s xs) h) l ∙ gone-due l (framesOf s xs) [] h
 
--- ---- from fresh ends
+-- ---- no more is gone
 
-zeros : (n l : ℕ) → _≡_ {A = ℕ} (getD (replicate n 0) l 0) 0
-zeros n l = split n l (λ b. List·getD-eq-default (replicate n 0) 0 (rw length-replicate b)) (λ b. getD-replicate {A = ℕ} n l 0 0 b)
+module _ (s : Setting) where
+  after-calls : (xs : List Call) (w : Writer) → after (uslp s) w xs ≡ afterCalls w xs
+  unfolding after afterCalls
+  after-calls [] w = refl
+  after-calls (x ∷ xs) w = after-calls xs _
 
--- The state between xs and ys.
-module _ (s : Setting) (ok : settingOk s ≡ true) (held : List ℕ) (full : length held ≡ heldSize) (xs ys : List Call)
-    (o : InOrder (sender s (fresh held)) (λ (l : ℕ). []) (xs ++ ys)) where
-  between : Reached s (fresh held) xs ys
-  unfolding fresh
-  between = reached s xs ys (fresh held) (fresh-ready s ok held full) o
+  wrote-later : (xs ys : List Call) (w : Writer) → wrote (uslp s) (after (uslp s) w xs) ys ≡ sent (afterCalls w xs) ys
+  wrote-later xs ys w = ap (λ (y : Writer). wrote (uslp s) y ys) (after-calls xs w) ∙ wrote-sent s ys (afterCalls w xs)
 
-  due-later : (l : ℕ) → number (afterCalls (sender s (fresh held)) xs) l ≡ 0 → noneGone s (placeOf s l) (sent (afterCalls (sender s (fresh held)) xs) ys) ≡ true
-      → due s l [] (sent (sender s (fresh held)) (xs ++ ys))
-      ≡ due s l [] (sent (sender s (fresh held)) xs) ++ unitsEnded s l (sent (afterCalls (sender s (fresh held)) xs) ys)
-  unfolding fresh
-  due-later l b n =
-      let q : Reached s (fresh held) xs ys = between in
-      let none : number (sender s (q .state)) l ≡ 0 = subst (λ (w : Writer). number w l ≡ 0) (q .leaves) b in
-      q .owes l
-      ∙ ap (λ (us : List (List ℕ)). due s l [] (sent (sender s (fresh held)) xs) ++ us)
-      (all-due s (good s ok) l ys (q .state) (q .ready) (q .order) (λ i h. absurd (not-suc-le-zero (subst (λ (k : ℕ). i < k) none h)))
-      (subst (λ (w : Writer). noneGone s (placeOf s l) (sent w ys) ≡ true) (q .leaves) n)
-      ∙ ap (λ (w : Writer). unitsEnded s l (sent w ys)) (sym (q .leaves)))
+  between : (xs : List Call) (w : Writer) (l : ℕ) → number (afterCalls w xs) l ≡ 0 → Begins (uslp s) l (after (uslp s) w xs)
+  between xs w l e b =
+      ap (λ (y : Writer). startOf y l) (after-calls xs w) ∙ ap (λ (k : ℕ). k * zone ((afterCalls w xs) .setting) (channelOf ((afterCalls w xs) .setting) l)) e
+      ∙ zero-mul _
 
-  units-later : (l : ℕ) → number (afterCalls (sender s (fresh held)) xs) l ≡ 0 → number (afterCalls (sender s (fresh held)) (xs ++ ys)) l ≡ 0
-      → unitsEnded s l (sent (afterCalls (sender s (fresh held)) xs) ys) ≡ unitsSent s l (sent (afterCalls (sender s (fresh held)) xs) ys)
-  units-later l b e =
-      let q : Reached s (fresh held) xs ys = between in
-      rw (q .leaves)
-      (all-units s (good s ok) l ys (q .state) (q .ready) (q .order) (subst (λ (w : Writer). number w l ≡ 0) (q .leaves) b)
-      (subst (λ (w : Writer). number w l ≡ 0) (q .ends) e))
+-- After the calls xs the lane stands between batches.
+module _ (s : Setting) (held : List ℕ) (xs ys : List Call) (run : Run s held (xs ++ ys)) (l : ℕ) where
+  abbrev w : Writer
+  w = (setUpWriter s) .state
+
+  new : Fresh (uslp s) w (record { reader = (setUpReader s) .state; area = held })
+  new = fresh-ends s held (run .area) (run .writer)
+
+  goes : Runs (uslp s) w (record { reader = (setUpReader s) .state; area = held }) (λ (l : ℕ). []) (xs ++ ys)
+  goes = runs s (xs ++ ys) w _ _ (run .calls) (run .link)
+
+  module _ (b : Begins (uslp s) l (after (uslp s) w xs)) where
+    due-later : noneGone (placeOf s l) (later s xs ys) ≡ true
+        → due l [] (framesOf s (xs ++ ys)) ≡ due l [] (framesOf s xs) ++ unitsEnded l (later s xs ys)
+    due-later n =
+        ap (due l []) (sym (wrote-sent s (xs ++ ys) w))
+        ∙ later-due (uslp s) (facts s) l xs ys w _ _ [] (new .writer) goes b
+        (subst (λ (fs : List Frame). noneGone (placeOf s l) fs ≡ true) (sym (wrote-later s xs ys w)) n)
+        ∙ ap₂ (λ (fs gs : List Frame). due l [] fs ++ unitsEnded l gs) (wrote-sent s xs w) (wrote-later s xs ys w)
+
+    units-later : Between s (xs ++ ys) l → unitsEnded l (later s xs ys) ≡ unitsSent l (later s xs ys)
+    units-later e =
+        subst (λ (fs : List Frame). unitsEnded l fs ≡ unitsSent l fs) (wrote-later s xs ys w)
+        (later-units (uslp s) (facts s) l xs ys w _ _ (new .writer) goes b (between s (xs ++ ys) w l e))
 
 pub no-more-gone : NoMoreGone
 no-more-gone s held xs ys run near l b n =
-    demand s held (xs ++ ys) run near l
-    ∙ fresh-ends s held
-    (λ (w : Writer) (r : Reader). InOrder w (λ (l : ℕ). []) (xs ++ ys) → number (afterCalls w xs) l ≡ 0
-    → noneGone s (placeOf s l) (sent (afterCalls w xs) ys) ≡ true
-    → due s l [] (sent w (xs ++ ys)) ≡ due s l [] (sent w xs) ++ unitsEnded s l (sent (afterCalls w xs) ys))
-    (run .writer) (λ ok o. due-later s ok held (run .area) xs ys o l) (run .calls) b n
+    demand s held (xs ++ ys) run near l ∙ due-later s held xs ys run l (between s xs ((setUpWriter s) .state) l b) n
 
 pub later-batches : LaterBatches
-later-batches s held xs ys run l =
-    fresh-ends s held
-    (λ (w : Writer) (r : Reader). InOrder w (λ (l : ℕ). []) (xs ++ ys) → number (afterCalls w xs) l ≡ 0 → number (afterCalls w (xs ++ ys)) l ≡ 0
-    → unitsEnded s l (sent (afterCalls w xs) ys) ≡ unitsSent s l (sent (afterCalls w xs) ys))
-    (run .writer) (λ ok o. units-later s ok held (run .area) xs ys o l) (run .calls)
+later-batches s held xs ys run l b e = units-later s held xs ys run l (between s xs ((setUpWriter s) .state) l b) e
 
 pub nothing-gone : NothingGone
-unfolding afterCalls due sent
+unfolding after afterCalls due sent
 nothing-gone s held xs run h l e =
-    let b : Between s [] l = fresh-ends s held (λ (w : Writer) (r : Reader). number w l ≡ 0) (run .writer) (λ ok. unfold fresh in zeros 8 l) in
-    no-more-gone s held [] xs run (λ c p. kept-few s c (256 ^ (channel s c) .octets) (pow256-pos ((channel s c) .octets)) false (framesOf s xs) h) l b
-    (kept-none-gone s (placeOf s l) (framesOf s xs) h)
-    ∙ later-batches s held [] xs run l b e
+    let b = (new s held [] xs run l) .start l in
+    demand s held xs run (λ c p. kept-few c (256 ^ (channel s c) .octets) (pow256-pos ((channel s c) .octets)) false (framesOf s xs) h) l
+    ∙ due-later s held [] xs run l b (kept-none-gone (placeOf s l) (framesOf s xs) h) ∙ units-later s held [] xs run l b e

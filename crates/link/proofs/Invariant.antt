@@ -1,71 +1,64 @@
 -- One lane and its channel, through a run: what both ends know of it, and what each frame makes of that.
 --
--- So many frames are gone since the last kept one, and units that begin in a frame of the batch before frame j are lost. The reader drops
+-- So many frames are gone since the last kept one, and units that begin before octet j of the batch are lost. The reader drops
 -- what it holds only at the next kept frame, so nothing is said of held octets while frames are gone.
 use mathlib.Core.Path.{_≡_, refl, sym, ap, ap₂, _∙_}
 use mathlib.Core.Logic.{_⊎_, inl, inr}
-use Prim.Native.Nat.{ℕ, suc, _+_, _*_, _%_, _^_, _≤_, _<_}
-use native.Mathlib.Nat.{le-refl, not-suc-le-zero, suc-ne-zero, zero-add}
+use Prim.Native.Nat.{ℕ, suc, _+_, _%_, _^_, _≤_, _<_}
+use native.Mathlib.Nat.{le-refl, suc-ne-zero}
 use native.Mathlib.Omega.{arith}
 use mathlib.Core.Bool.{Bool, true, false, cond, not, _||_, true≢false, false≢true}
 use mathlib.Core.List.{List, [], _∷_}
-use borrow.Author.Tests.{ltb-true, le-leb, lt-leb, eq-eqb, ne-eqb}
-use Rattle.rules.specs.declared.Kind.{Kind}
+use borrow.Author.Tests.{ltb-true, le-leb, lt-leb, ne-eqb}
 use Rattle.rules.specs.declared.Expect.{Expect}
 use Rattle.rules.specs.Tests.{_≤?_, _<?_, _=?_}
-use Rattle.rules.specs.Frames.{pointsTo}
-use Rattle.rules.specs.Writing.{batchOk, unitsOf, frames, zoneOf, ruleOf, pointerOf, numberAfter, countAfter}
-use Rattle.rules.specs.Reading.{missing, expected, octetsOf, Made, laneStep}
-use Rattle.rules.proofs.Tests.{same, and-left, and-right}
+use Rattle.rules.specs.Writing.{countAfter}
+use Rattle.rules.specs.Reading.{missing, expected}
+use Rattle.rules.proofs.Tests.{split, same, and-left, and-right}
 use Rattle.rules.proofs.Counts.{missing-unknown, missing-gone, expected-below, one-further, none-further}
-use Rattle.rules.specs.Valid.{least}
-use Rattle.link.specs.Due.{spans, ending}
+use Rattle.link.specs.Due.{ending}
 use Rattle.link.specs.Demand.{fewGone}
-use Rattle.link.proofs.Spans.{Yield, yields, yield, heldFrom, held-none, ends-same}
-use Rattle.link.proofs.Batches.{units, lane-reads, lane-over}
+use Rattle.link.proofs.Spans.{Yield, yields, heldFrom, held-none, held-over, Delivers, Follows}
 
 -- ---- a lane's view
 
--- What is known of a lane: its next frame number and its channel's count, at the writer; the count that the reader expects, and the
--- octets that the reader holds; the batch last lent.
+-- What is known of a lane: the octet of its batch with which its next frame starts and its channel's count, at the writer; the count that the
+-- reader expects, and the octets that the reader holds; the units of the batch last lent.
 pub record View : Type 0 where
-  pub number : ℕ
+  pub start : ℕ
   pub count : ℕ
   pub expect : Expect
   pub hold : List ℕ
-  pub batch : List ℕ
+  pub units : List (List ℕ)
 
 -- What is held after a frame with count v, before the frame is read.
 unfoldable pub heldAfter : ℕ → Expect → ℕ → List ℕ → List ℕ
 heldAfter n e v hold = cond (missing n e v =? 0) hold []
 
--- A lane of this kind, with frames of z octets, whose channel's counts have n octets.
-module _ (kind : Kind) (longest z n : ℕ) (zp : 0 < z) (zl : z ≤ 4096) (enough : least kind ≤ longest) where
+-- A lane whose channel's counts have n octets.
+module _ (n : ℕ) where
   abbrev m : ℕ
   m = 256 ^ n
 
-  abbrev holding : ℕ → ℕ → List ℕ → List ℕ
-  holding j k b = heldFrom z j 0 (k * z) (unitsOf kind b)
-
-  -- `whole i` says that no frame of the channel is gone since frame i of the batch; the flags say which frames of the channel that are
-  -- to come are kept.
+  -- `whole i` says that no frame of the channel is gone since the frame where octet i of the batch is; the flags say which frames of the channel
+  -- that are to come are kept.
   pub record Inv (v : View) (whole : ℕ → Bool) (flags : List Bool) : Type 0 where
     pub j : ℕ
     pub gone : ℕ
     pub any : Bool
-    pub since : j ≤ v .number
-    pub wholly : (i : ℕ) → i < v .number → whole i ≡ j ≤? i
+    pub since : j ≤ v .start
+    pub wholly : (i : ℕ) → i < v .start → whole i ≡ j ≤? i
     pub known : v .expect .known ≡ any
     pub below : v .expect .count < 256 ^ n
     pub count : any ≡ true → v .count ≡ (v .expect .count + gone) % 256 ^ n
-    pub held : gone ≡ 0 → v .hold ≡ heldFrom z j 0 (v .number * z) (unitsOf kind (v .batch))
+    pub held : gone ≡ 0 → v .hold ≡ heldFrom j 0 (v .start) (v .units)
     pub fresh : any ≡ false → v .hold ≡ []
-    pub lost : (gone ≡ 0 → ⊥) → j ≡ v .number
+    pub lost : (gone ≡ 0 → ⊥) → j ≡ v .start
     pub few : fewGone (256 ^ n) any gone flags ≡ true
 
   -- Where all that began is lost, nothing is held.
-  none-left : (k : ℕ) (b : List ℕ) → holding k k b ≡ []
-  none-left k b = held-none z zp k 0 (k * z) (unitsOf kind b) (zero-add (k * z))
+  none-left : (start : ℕ) (us : List (List ℕ)) → heldFrom start 0 start us ≡ []
+  none-left start us = held-none start 0 start us (omega arith)
 
   -- ---- a frame of another channel
 
@@ -88,17 +81,17 @@ module _ (kind : Kind) (longest z n : ℕ) (zp : 0 < z) (zl : z ≤ 4096) (enoug
 
   -- ---- a frame of the channel is gone: the reader knows nothing of it
 
-  pub inv-gone : (v : View) (whole whole′ : ℕ → Bool) (flags : List Bool) (number : ℕ) (batch : List ℕ) → ((i : ℕ) → whole′ i ≡ false)
+  pub inv-gone : (v : View) (whole whole′ : ℕ → Bool) (flags : List Bool) (start : ℕ) (us : List (List ℕ)) → ((i : ℕ) → whole′ i ≡ false)
       → Inv v whole (false ∷ flags)
-      → Inv (record { number = number; count = countAfter n (v .count); expect = v .expect; hold = v .hold; batch = batch }) whole′ flags
+      → Inv (record { start = start; count = countAfter n (v .count); expect = v .expect; hold = v .hold; units = us }) whole′ flags
   unfolding fewGone
-  inv-gone v whole whole′ flags number batch h r =
+  inv-gone v whole whole′ flags start us h r =
       record {
-        j = number;
+        j = start;
         gone = suc (r .gone);
         any = r .any;
-        since = le-refl number;
-        wholly = λ i l. h i ∙ sym (lt-leb number i l);
+        since = le-refl start;
+        wholly = λ i l. h i ∙ sym (lt-leb start i l);
         known = r .known;
         below = r .below;
         count = λ a. ap (countAfter n) (r .count a) ∙ one-further n (v .expect .count) (r .gone);
@@ -135,14 +128,14 @@ module _ (kind : Kind) (longest z n : ℕ) (zp : 0 < z) (zl : z ≤ 4096) (enoug
         ∙ missing-unknown n (v .expect .count) (v .count)
 
     -- The reader then holds what it should: the gap, if there is one, drops what is lost.
-    settled : heldAfter n (v .expect) (v .count) (v .hold) ≡ holding (r .j) (v .number) (v .batch)
+    settled : heldAfter n (v .expect) (v .count) (v .hold) ≡ heldFrom (r .j) 0 (v .start) (v .units)
     unfolding heldAfter
     settled = go (r .any) refl
       where
-        lost-now : (r .gone ≡ 0 → ⊥) → holding (r .j) (v .number) (v .batch) ≡ []
-        lost-now e = ap (λ (i : ℕ). holding i (v .number) (v .batch)) (r .lost e) ∙ none-left (v .number) (v .batch)
+        lost-now : (r .gone ≡ 0 → ⊥) → heldFrom (r .j) 0 (v .start) (v .units) ≡ []
+        lost-now e = ap (λ (i : ℕ). heldFrom i 0 (v .start) (v .units)) (r .lost e) ∙ none-left (v .start) (v .units)
 
-        go : (t : Bool) → r .any ≡ t → cond (missing n (v .expect) (v .count) =? 0) (v .hold) [] ≡ holding (r .j) (v .number) (v .batch)
+        go : (t : Bool) → r .any ≡ t → cond (missing n (v .expect) (v .count) =? 0) (v .hold) [] ≡ heldFrom (r .j) 0 (v .start) (v .units)
         go true a =
             same (r .gone) 0
             (λ e. ap (λ (x : ℕ). cond (x =? 0) (v .hold) []) (missed true a ∙ e) ∙ r .held e)
@@ -152,11 +145,11 @@ module _ (kind : Kind) (longest z n : ℕ) (zp : 0 < z) (zl : z ≤ 4096) (enoug
             ∙ same (r .gone) 0 (λ e. r .held e) (λ e. r .fresh a ∙ sym (lost-now e))
 
     -- What both ends know afterwards, where the reader holds what it should.
-    kept : (number j : ℕ) (hold batch : List ℕ) (whole′ : ℕ → Bool) → j ≤ number → ((i : ℕ) → i < number → whole′ i ≡ j ≤? i)
-        → hold ≡ holding j number batch
-        → Inv (record { number = number; count = countAfter n (v .count); expect = expected n (v .count); hold = hold; batch = batch }) whole′ flags
+    kept : (start j : ℕ) (hold : List ℕ) (us : List (List ℕ)) (whole′ : ℕ → Bool) → j ≤ start → ((i : ℕ) → i < start → whole′ i ≡ j ≤? i)
+        → hold ≡ heldFrom j 0 start us
+        → Inv (record { start = start; count = countAfter n (v .count); expect = expected n (v .count); hold = hold; units = us }) whole′ flags
     unfolding expected countAfter
-    kept number j hold batch whole′ h w q =
+    kept start j hold us whole′ h w q =
         record {
           j = j;
           gone = 0;
@@ -172,68 +165,40 @@ module _ (kind : Kind) (longest z n : ℕ) (zp : 0 < z) (zl : z ≤ 4096) (enoug
           few = few-next;
         }
 
+    abbrev hold-now : List ℕ
+    hold-now = heldAfter n (v .expect) (v .count) (v .hold)
+
     -- It is another lane's.
     pub inv-beside : (whole′ : ℕ → Bool) → ((i : ℕ) → whole′ i ≡ whole i)
-        → Inv (record {
-          number = v .number;
-          count = countAfter n (v .count);
-          expect = expected n (v .count);
-          hold = heldAfter n (v .expect) (v .count) (v .hold);
-          batch = v .batch;
-        }) whole′ flags
-    inv-beside whole′ h = kept (v .number) (r .j) (heldAfter n (v .expect) (v .count) (v .hold)) (v .batch) whole′ (r .since)
-        (λ i l. h i ∙ r .wholly i l) settled
+        → Inv (record { start = v .start; count = countAfter n (v .count); expect = expected n (v .count); hold = hold-now; units = v .units }) whole′ flags
+    inv-beside whole′ h = kept (v .start) (r .j) hold-now (v .units) whole′ (r .since) (λ i l. h i ∙ r .wholly i l) settled
 
-    -- It is the lane's next frame, of the batch b.
-    module _ (b : List ℕ) (ok : batchOk kind longest b ≡ true) (turn : (v .number ≡ 0) ⊎ (b ≡ v .batch)) (inside : v .number < frames z b)
-        (whole′ : ℕ → Bool) (now : whole′ (v .number) ≡ true) (else : (i : ℕ) → (i ≡ v .number → ⊥) → whole′ i ≡ whole i) where
-      abbrev k : ℕ
-      k = v .number
-
-      unfoldable pub made : Made
-      made = laneStep kind longest (ruleOf kind k) (heldAfter n (v .expect) (v .count) (v .hold)) (pointsTo (pointerOf kind z b k)) (zoneOf kind z b k)
-
-      -- A batch that begins is held no more than the one before it.
-      turned : holding (r .j) k (v .batch) ≡ holding (r .j) k b
+    -- It is the lane's next frame, of these units.
+    module _ (us : List (List ℕ)) (turn : (v .start ≡ 0) ⊎ (us ≡ v .units)) (stop : ℕ) (on : v .start ≤ stop)
+        (y : Yield) (does : Delivers us (v .start) stop hold-now y)
+        (whole′ : ℕ → Bool) (now : (i : ℕ) → v .start ≤ i → whole′ i ≡ true) (else : (i : ℕ) → i < v .start → whole′ i ≡ whole i) where
+      -- Of a batch that begins no more is held than of the one before it.
+      turned : heldFrom (r .j) 0 (v .start) (v .units) ≡ heldFrom (r .j) 0 (v .start) us
       turned = go turn
         where
-          go : (v .number ≡ 0) ⊎ (b ≡ v .batch) → holding (r .j) k (v .batch) ≡ holding (r .j) k b
-          go (inl e) =
-              let q : r .j ≡ k = omega (arith, r .since) in
-              ap (λ (i : ℕ). holding i k (v .batch)) q ∙ none-left k (v .batch) ∙ sym (ap (λ (i : ℕ). holding i k b) q ∙ none-left k b)
-          go (inr e) = ap (holding (r .j) k) (sym e)
+          go : (v .start ≡ 0) ⊎ (us ≡ v .units) → heldFrom (r .j) 0 (v .start) (v .units) ≡ heldFrom (r .j) 0 (v .start) us
+          go (inl e) = held-none (r .j) 0 (v .start) (v .units) (omega arith) ∙ sym (held-none (r .j) 0 (v .start) us (omega arith))
+          go (inr e) = ap (heldFrom (r .j) 0 (v .start)) (sym e)
 
-      reads : yield made ≡ yields (ending k (λ (i : ℕ). r .j ≤? i) (spans z 0 (unitsOf kind b))) (heldFrom z (r .j) 0 (k * z + z) (unitsOf kind b))
-      unfolding made
-      reads =
-          ap (λ (h : List ℕ). yield (laneStep kind longest (ruleOf kind k) h (pointsTo (pointerOf kind z b k)) (zoneOf kind z b k))) (settled ∙ turned)
-          ∙ lane-reads longest z zp zl (r .j) k (r .since) b kind enough ok inside
+      made : y ≡ yields (ending (v .start) stop (λ (i : ℕ). r .j ≤? i) 0 us) (heldFrom (r .j) 0 stop us)
+      made = does (r .j) (r .since) (settled ∙ turned)
 
-      up-to : (i : ℕ) → i ≤ k → whole′ i ≡ r .j ≤? i
-      up-to i h = same i k (λ e. ap whole′ e ∙ now ∙ sym (le-leb (r .j) i (omega (arith, r .since)))) (λ e. else i e ∙ r .wholly i (omega arith))
+      wholly : (i : ℕ) → whole′ i ≡ r .j ≤? i
+      wholly i =
+          split (v .start) i (λ h. now i h ∙ sym (le-leb (r .j) i (omega (arith, r .since)))) (λ h. else i h ∙ r .wholly i h)
 
       -- It hands out the units that end in this frame and lost none.
-      pub units-due : octetsOf (made .units) ≡ ending k whole′ (spans z 0 (unitsOf kind b))
-      units-due =
-          ap (λ (y : Yield). y .units) reads
-          ∙ sym (ends-same z zp k whole′ (λ (i : ℕ). r .j ≤? i) up-to (unitsOf kind b) 0 (units kind longest b ok .filled))
+      pub units-due : y .units ≡ ending (v .start) stop whole′ 0 us
+      units-due = ap (λ (x : Yield). x .units) made ∙ ap (λ (p : ℕ → Bool). ending (v .start) stop p 0 us) (λ t i. (sym (wholly i)) t)
 
-      pub inv-next : Inv (record {
-        number = numberAfter k (frames z b);
-        count = countAfter n (v .count);
-        expect = expected n (v .count);
-        hold = made .held;
-        batch = b;
-      }) whole′ flags
-      unfolding numberAfter
-      inv-next =
-          same (k + 1) (frames z b)
-          (λ e.
-          rw (eq-eqb (k + 1) (frames z b) e)
-          (kept 0 0 (made .held) b whole′ (le-refl 0) (λ i l. absurd (not-suc-le-zero l))
-          (ap (λ (y : Yield). y .held) reads ∙ lane-over kind longest z (r .j) k zp b ok e ∙ sym (none-left 0 b))))
-          (λ e.
-          let q : k * z + z ≡ (k + 1) * z = omega arith in
-          rw (ne-eqb (k + 1) (frames z b) e)
-          (kept (k + 1) (r .j) (made .held) b whole′ (omega (arith, r .since)) (λ i l. up-to i (omega arith))
-          (ap (λ (y : Yield). y .held) reads ∙ ap (λ (o : ℕ). heldFrom z (r .j) 0 o (unitsOf kind b)) q)))
+      pub inv-next : (next : ℕ) → Follows us stop next
+          → Inv (record { start = next; count = countAfter n (v .count); expect = expected n (v .count); hold = y .held; units = us }) whole′ flags
+      inv-next next (inl e) = kept next (r .j) (y .held) us whole′ (omega (arith, r .since)) (λ i l. wholly i)
+          (ap (λ (x : Yield). x .held) made ∙ ap (λ (o : ℕ). heldFrom (r .j) 0 o us) (sym e))
+      inv-next next (inr e) = kept next 0 (y .held) us whole′ (omega arith) (λ i l. absurd (omega (arith, e .0)))
+          (ap (λ (x : Yield). x .held) made ∙ held-over (r .j) 0 stop us (e .1) ∙ sym (held-none 0 0 next us (omega (arith, e .0))))

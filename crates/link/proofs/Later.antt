@@ -2,252 +2,156 @@
 -- unit that ends is due; and where the lane ends between batches, each batch's units have ended, once and in order.
 use mathlib.Core.Path.{_≡_, refl, sym, ap, ap₂, _∙_, subst}
 use mathlib.Core.Logic.{_⊎_, inl, inr}
-use Prim.Native.Nat.{ℕ, suc, _+_, _≤_, _<_}
-use native.Mathlib.Nat.{not-suc-le-zero, suc-ne-zero}
+use Prim.Native.Nat.{ℕ, _<_}
 use native.Mathlib.Omega.{arith}
-use mathlib.Core.Bool.{Bool, true, false, cond}
+use mathlib.Core.Bool.{Bool, true, cond}
 use mathlib.Core.List.{List, [], _∷_, _++_, append-assoc}
-use lib.ListN.{getD}
-use lib.Seq.{getD-set-same}
 use borrow.Author.Tests.{ne-eqb, eq-eqb}
-use Rattle.rules.specs.declared.Kind.{Kind}
-use Rattle.rules.specs.declared.Setting.{Setting}
-use Rattle.rules.specs.declared.Writer.{Writer}
 use Rattle.rules.specs.Tests.{_=?_}
-use Rattle.rules.specs.Settings.{lane, channelOf, number, zone}
-use Rattle.rules.specs.Writing.{batchOk, unitsOf, frames, numberAfter}
-use Rattle.rules.proofs.Tests.{same, and-left, and-right}
-use Rattle.rules.specs.Valid.{Good}
-use Rattle.link.specs.Link.{Call, called, Frame, frameBy, sent}
-use Rattle.link.specs.Due.{spans, ending, kept, placeOf, noneGone, clean, dueIn, due}
-use Rattle.link.specs.Demand.{lending, InOrder}
-use Rattle.link.specs.Corollaries.{begunIn, endedIn, unitsSent, unitsEnded, afterCalls}
-use Rattle.link.proofs.Spans.{ends-same}
-use Rattle.link.proofs.Batches.{units}
-use Rattle.link.proofs.Once.{ended, once}
-use Rattle.link.proofs.Run.{State, sender, frame, numberOf, afterGone, Ready, ready-gone, Goes, Onward, onward}
-use Rattle.link.proofs.Views.{clean-apart, clean-beside, clean-now, clean-before, due-not, number-other, batch-other}
-use Rattle.link.proofs.Steps.{zone-some}
-
--- ---- after the first calls of some
-
-module _ (s : Setting) where
-  -- The state that they leave: the others are in order after it, and what is due is what is due in both parts.
-  pub record Reached (st : State) (xs ys : List Call) : Type 0 where
-    pub state : State
-    pub ready : Ready s state
-    pub order : InOrder (sender s state) (state .last) ys
-    pub leaves : afterCalls (sender s st) xs ≡ sender s state
-    pub ends : afterCalls (sender s st) (xs ++ ys) ≡ afterCalls (sender s state) ys
-    pub owes : (l : ℕ) → due s l (st .past) (sent (sender s st) (xs ++ ys))
-        ≡ due s l (st .past) (sent (sender s st) xs) ++ due s l (state .past) (sent (sender s state) ys)
-
-  pub reached : (xs ys : List Call) (st : State) → Ready s st → InOrder (sender s st) (st .last) (xs ++ ys) → Reached st xs ys
-  unfolding afterCalls sent due afterGone
-  reached [] ys st r o = record { state = st; ready = r; order = o; leaves = refl; ends = refl; owes = λ l. refl }
-  reached (x ∷ xs) ys st r o =
-      let n : Onward s st x (xs ++ ys) = onward s st x (xs ++ ys) o in
-      let w = n .first .leaves in
-      let q : Reached (afterGone s st x) xs ys = reached xs ys (afterGone s st x) (ready-gone s st x r) (n .order) in
-      record {
-        state = q .state;
-        ready = q .ready;
-        order = q .order;
-        leaves = ap (λ (y : Writer). afterCalls y xs) w ∙ q .leaves;
-        ends = ap (λ (y : Writer). afterCalls y (xs ++ ys)) w ∙ q .ends;
-        owes = λ l.
-            let f : List Frame = frame s st x ∷ st .past in
-            let d : List (List ℕ) = dueIn s l (frame s st x) (st .past) in
-            ap (λ (us : List (List ℕ)). d ++ us)
-            (ap (λ (y : Writer). due s l f (sent y (xs ++ ys))) w ∙ q .owes l
-            ∙ ap (λ (y : Writer). due s l f (sent y xs) ++ due s l (q .state .past) (sent (sender s (q .state)) ys)) (sym w))
-            ∙ sym (append-assoc d (due s l f (sent ((called (sender s st) x) .sender .state) xs)) (due s l (q .state .past) (sent (sender s (q .state)) ys)));
-      }
+use Rattle.rules.proofs.Tests.{split, same, and-left, and-right}
+use Rattle.link.specs.Link.{Frame}
+use Rattle.link.specs.Due.{ending, kept, noneGone, clean, dueIn, due}
+use Rattle.link.specs.Demand.{lending}
+use Rattle.link.specs.Corollaries.{begunIn, endedIn, unitsSent, unitsEnded}
+use Rattle.link.proofs.Spans.{Filled, Follows}
+use Rattle.link.proofs.Once.{endsIn, ends-on, ends-nowhere, ends-all}
+use Rattle.link.proofs.Ends.{Ends, Sends, start-own, units-own, start-same, units-same, Facts}
+use Rattle.link.proofs.Views.{Safe, clean-other, clean-now, clean-before, due-not}
+use Rattle.link.proofs.Run.{wrote, after, Runs}
 
 -- ---- the frames of one batch
 
--- Of a batch at frame n: the units that ended before, and those that began with the batch.
-abbrev over : Kind → ℕ → ℕ → List ℕ → List (List ℕ)
-over kind z n b = ended n (spans z 0 (unitsOf kind b))
+-- Of units so far as octet n: with what ends and what begins later, all has ended that began.
+abbrev Even : ℕ → List (List ℕ) → List (List ℕ) → List (List ℕ) → Type 0
+Even n us e b = endsIn 0 n 0 us ++ e ≡ cond (n =? 0) [] us ++ b
 
-abbrev begun : Kind → ℕ → List ℕ → List (List ℕ)
-begun kind n b = cond (n =? 0) [] (unitsOf kind b)
+even-in : (m n : ℕ) (us vs e b : List (List ℕ)) → m ≡ n → us ≡ vs → Even m us e b → Even n vs e b
+even-in m n us vs e b p q h = subst (λ (i : ℕ). Even i vs e b) p (subst (λ (ws : List (List ℕ)). Even m ws e b) q h)
 
--- With what ends and what begins later, all has ended that began.
-abbrev Even : Kind → ℕ → ℕ → List ℕ → List (List ℕ) → List (List ℕ) → Type 0
-Even kind z n b e f = over kind z n b ++ e ≡ begun kind n b ++ f
+-- Between batches: what ends later is what begins later.
+even-zero : (n : ℕ) (us e b : List (List ℕ)) → n ≡ 0 → Even n us e b → e ≡ b
+even-zero n us e b q h = ap (λ (vs : List (List ℕ)). vs ++ e) (sym (ends-nowhere 0 us 0)) ∙ even-in n 0 us us e b q refl h
 
--- Frame k ends its units, and the last frame the last of them.
-all-end : (kind : Kind) (longest z k : ℕ) (b last : List ℕ) → 0 < z → batchOk kind longest b ≡ true → (k ≡ 0) ⊎ (b ≡ last) → (e f : List (List ℕ))
-    → Even kind z (numberAfter k (frames z b)) b e f
-    → Even kind z k last (ending k (λ (i : ℕ). true) (spans z 0 (unitsOf kind b)) ++ e) (cond (k =? 0) (unitsOf kind b) [] ++ f)
-unfolding ended
-all-end kind longest z k b last zp ok turn e f h =
-    ap (λ (us : List (List ℕ)). us ++ (here ++ e)) (turned turn) ∙ sym (append-assoc (over kind z k b) here e) ∙ onwards
-    ∙ same k 0 (λ q. sym (ap parts (eq-eqb k 0 q))) (λ q. ap (λ (c : List ℕ). unitsOf kind c ++ f) (other turn q) ∙ sym (ap parts (ne-eqb k 0 q)))
+-- A frame ends its units, and the last frame the last of them.
+all-end : (us last : List (List ℕ)) (start stop next : ℕ) → Filled us → start < stop → (start ≡ 0) ⊎ (us ≡ last) → Follows us stop next
+    → (e b : List (List ℕ)) → Even next us e b → Even start last (endsIn start stop 0 us ++ e) (cond (start =? 0) us [] ++ b)
+all-end us last start stop next full on turn then e b h =
+    ap (λ (vs : List (List ℕ)). vs ++ (endsIn start stop 0 us ++ e)) (turned turn) ∙ sym (append-assoc (endsIn 0 start 0 us) (endsIn start stop 0 us) e)
+    ∙ ap (λ (vs : List (List ℕ)). vs ++ e) (ends-on 0 start stop (omega arith) (omega arith) us 0) ∙ onwards then
+    ∙ same start 0 (λ q. sym (ap parts (eq-eqb start 0 q))) (λ q. ap (λ (vs : List (List ℕ)). vs ++ b) (other turn q) ∙ sym (ap parts (ne-eqb start 0 q)))
   where
-    here : List (List ℕ)
-    here = ending k (λ (i : ℕ). true) (spans z 0 (unitsOf kind b))
-
     parts : Bool → List (List ℕ)
-    parts t = cond t [] (unitsOf kind last) ++ (cond t (unitsOf kind b) [] ++ f)
+    parts t = cond t [] last ++ (cond t us [] ++ b)
 
-    turned : (k ≡ 0) ⊎ (b ≡ last) → over kind z k last ≡ over kind z k b
-    turned (inl q) = ap (λ (n : ℕ). over kind z n last) q ∙ ap (λ (n : ℕ). over kind z n b) (sym q)
-    turned (inr q) = ap (over kind z k) (sym q)
+    turned : (start ≡ 0) ⊎ (us ≡ last) → endsIn 0 start 0 last ≡ endsIn 0 start 0 us
+    turned (inl q) = ap (λ (n : ℕ). endsIn 0 n 0 last) q ∙ ends-nowhere 0 last 0 ∙ sym (ap (λ (n : ℕ). endsIn 0 n 0 us) q ∙ ends-nowhere 0 us 0)
+    turned (inr q) = ap (endsIn 0 start 0) (sym q)
 
-    other : (k ≡ 0) ⊎ (b ≡ last) → (k ≡ 0 → ⊥) → b ≡ last
+    other : (start ≡ 0) ⊎ (us ≡ last) → (start ≡ 0 → ⊥) → us ≡ last
     other (inl q) n = absurd (n q)
     other (inr q) n = q
 
-    onwards : over kind z (suc k) b ++ e ≡ unitsOf kind b ++ f
-    onwards =
-        same (k + 1) (frames z b)
-        (λ q.
-        let n : numberAfter k (frames z b) ≡ 0 = unfold numberAfter in rw (eq-eqb (k + 1) (frames z b) q) in
-        let m : suc k ≡ frames z b = omega arith in
-        ap₂ _++_ (ap (λ (i : ℕ). over kind z i b) m ∙ once kind longest z zp b ok) (subst (λ (i : ℕ). Even kind z i b e f) n h))
-        (λ q.
-        let n : numberAfter k (frames z b) ≡ suc k = unfold numberAfter in rw (ne-eqb (k + 1) (frames z b) q) (omega arith) in
-        subst (λ (i : ℕ). Even kind z i b e f) n h ∙ ap (λ (t : Bool). cond t [] (unitsOf kind b) ++ f) (ne-eqb (suc k) 0 (suc-ne-zero k)))
+    onwards : Follows us stop next → endsIn 0 stop 0 us ++ e ≡ us ++ b
+    onwards (inl q) = even-in next stop us us e b q refl h ∙ ap (λ (t : Bool). cond t [] us ++ b) (ne-eqb stop 0 (λ p. omega arith))
+    onwards (inr q) = ap₂ _++_ (ends-all stop us 0 full (omega (arith, q .1))) (even-zero next us e b (q .0) h)
 
--- ---- what a lane has of a state and of a frame
-
-module _ (s : Setting) (l : ℕ) where
-  abbrev kind : Kind
-  kind = (lane s l) .kind
-
-  abbrev z : ℕ
-  z = zone s (channelOf s l)
-
-  -- Its next frame's number.
-  abbrev next : State → ℕ
-  next st = getD (st .next) l 0
+module _ (E : Ends) where
+  -- ---- one call, as lane l sees it
 
   -- The frames of its batch so far are clean.
-  abbrev Clean : State → Type 0
-  Clean st = (i : ℕ) → i < next st → clean s l (st .past) i ≡ true
+  abbrev Clean : ℕ → E .Writer → (ℕ → List ℕ) → List Frame → Type 0
+  Clean l w last past = (a : ℕ) → a < E .start w l (last l) → clean l (E .channel l) past a ≡ true
 
-  abbrev EvenIn : State → List (List ℕ) → List (List ℕ) → Type 0
-  EvenIn st e f = Even kind z (next st) (st .last l) e f
+  abbrev EvenAt : ℕ → E .Writer → (ℕ → List ℕ) → List (List ℕ) → List (List ℕ) → Type 0
+  EvenAt l w last e b = Even (E .start w l (last l)) (E .units l (last l)) e b
 
-  -- The state by its parts.
-  even-in : (st : State) (n : ℕ) (b : List ℕ) (e f : List (List ℕ)) → next st ≡ n → st .last l ≡ b → EvenIn st e f → Even kind z n b e f
-  even-in st n b e f p q h = subst (λ (i : ℕ). Even kind z i b e f) p (subst (λ (y : List ℕ). Even kind z (next st) y e f) q h)
+  module _ (w : E .Writer) (last : ℕ → List ℕ) (batch : List ℕ) (f : Frame) (w′ : E .Writer) (k : Sends E w last batch f w′) where
+    abbrev last′ : ℕ → List ℕ
+    last′ = lending (f .lane) batch last
 
--- ---- the frame is the lane's own
+    even-own : (e b : List (List ℕ)) → EvenAt (f .lane) w′ last′ e b → EvenAt (f .lane) w last (endedIn (f .lane) f ++ e) (begunIn (f .lane) f ++ b)
+    even-own e b h =
+        rw (eq-eqb (f .lane) (f .lane) refl)
+        (even-in _ _ _ _ _ _ (sym (k .starts)) refl
+        (all-end (f .units) (E .units (f .lane) (last (f .lane))) (f .start) (f .stop) (E .start w′ (f .lane) batch) (k .filled) (k .some) (k .turn)
+        (k .follows) e b
+        (even-in _ _ _ _ e b (start-own E w last batch f w′ k) (units-own E w last batch f w′ k) h)))
 
-module _ (s : Setting) (g : Good s) (st : State) (x : Call) (r : Ready s st) (c : Goes s st x) where
-  abbrev own : ℕ
-  own = x .lane
+    even-step : (l : ℕ) (e b : List (List ℕ)) → EvenAt l w′ last′ e b → EvenAt l w last (endedIn l f ++ e) (begunIn l f ++ b)
+    even-step l e b h =
+        same (f .lane) l
+        (λ q. subst (λ (i : ℕ). EvenAt i w′ last′ e b → EvenAt i w last (endedIn i f ++ e) (begunIn i f ++ b)) q (even-own e b) h)
+        (λ n.
+        rw (ne-eqb (f .lane) l n) (even-in _ _ _ _ e b (start-same E w last batch f w′ k l n) (units-same E w last batch f w′ k l n) h))
 
-  abbrev k : ℕ
-  k = numberOf s st x
+    -- The frame is none of the lane's channel that is gone: what is due in it is what ends in it.
+    module _ (past : List Frame) where
+      clean-own : Safe (f .lane) (E .channel (f .lane)) f past → Clean (f .lane) w last past
+          → (a : ℕ) → clean (f .lane) (E .channel (f .lane)) (f ∷ past) a ≡ true
+      clean-own q h a =
+          split (f .start) a (clean-now (f .lane) (E .channel (f .lane)) f past q refl a)
+          (λ b. clean-before (f .lane) (E .channel (f .lane)) f past q refl a b ∙ h a (omega (arith, k .starts)))
 
-  next-own : next s own (afterGone s st x) ≡ numberAfter k (frames (z s own) (x .batch))
-  unfolding afterGone
-  next-own = getD-set-same (st .next) own _ 0 (omega (arith, r .next-8, c .takes .numbered, g .numbered))
+      due-step : (l : ℕ) → Safe l (E .channel l) f past → Clean l w last past → (dueIn l f past ≡ endedIn l f) × Clean l w′ last′ (f ∷ past)
+      unfolding dueIn
+      due-step l q h =
+          same (f .lane) l
+          (λ e.
+          subst (λ (i : ℕ). Safe i (E .channel i) f past → Clean i w last past → (dueIn i f past ≡ endedIn i f) × Clean i w′ last′ (f ∷ past)) e
+          (λ q h. (
+            ap (λ (d : ℕ). cond (f .lane =? f .lane) (ending (f .start) (f .stop) (clean (f .lane) d (f ∷ past)) 0 (f .units)) []) (k .channel)
+                ∙ ap (λ (p : ℕ → Bool). cond (f .lane =? f .lane) (ending (f .start) (f .stop) p 0 (f .units)) []) (λ t a. (clean-own q h a) t),
+            λ a b. clean-own q h a,
+          )) q h)
+          (λ n. (
+            due-not l f past n ∙ sym (rw (ne-eqb (f .lane) l n)),
+            λ a b. clean-other l (E .channel l) f past q n a ∙ h a (subst (λ (m : ℕ). a < m) (start-same E w last batch f w′ k l n) b),
+          ))
 
-  last-own : (afterGone s st x) .last own ≡ x .batch
-  unfolding afterGone lending
-  last-own = rw (eq-eqb own own refl)
-
-  even-own : (e f : List (List ℕ)) → EvenIn s own (afterGone s st x) e f
-      → EvenIn s own st (endedIn s own (frame s st x) ++ e) (begunIn s own (frame s st x) ++ f)
-  unfolding frameBy
-  even-own e f h =
-      rw (eq-eqb own own refl)
-      (all-end (kind s own) ((lane s own) .longest) (z s own) k (x .batch) (st .last own) (zone-some s g own (c .takes .numbered)) (c .takes .batch) (c .turn)
-      e f (even-in s own (afterGone s st x) _ (x .batch) e f next-own last-own h))
-
-  -- It is kept.
-  module _ (q : kept (x .passage) ≡ true) (h : Clean s own st) where
-    clean-up-to : (i : ℕ) → i ≤ k → clean s own (frame s st x ∷ st .past) i ≡ true
-    unfolding frameBy
-    clean-up-to i b =
-        same k i (λ e. clean-now s own (frame s st x) (st .past) refl q i e)
-        (λ e. clean-before s own (frame s st x) (st .past) refl q i e ∙ h i (omega arith))
-
-    clean-own : Clean s own (afterGone s st x)
-    unfolding numberAfter afterGone
-    clean-own i b = clean-up-to i (up-to ((k + 1) =? frames (z s own) (x .batch)) (subst (λ (n : ℕ). i < n) next-own b))
-      where
-        up-to : (t : Bool) → i < cond t 0 (k + 1) → i ≤ k
-        up-to true b = absurd (not-suc-le-zero b)
-        up-to false b = omega arith
-
-    due-own : dueIn s own (frame s st x) (st .past) ≡ endedIn s own (frame s st x)
-    unfolding dueIn frameBy
-    due-own =
-        ap (λ (us : List (List ℕ)). cond (own =? own) us [])
-        (ends-same (z s own) (zone-some s g own (c .takes .numbered)) k _ (λ (i : ℕ). true) clean-up-to (unitsOf (kind s own) (x .batch)) 0
-        (units _ _ (x .batch) (c .takes .batch) .filled))
-
--- ---- the frame is any lane's
-
-module _ (s : Setting) (g : Good s) (l : ℕ) where
-  even-step : (st : State) (x : Call) → Ready s st → Goes s st x → (e f : List (List ℕ)) → EvenIn s l (afterGone s st x) e f
-      → EvenIn s l st (endedIn s l (frame s st x) ++ e) (begunIn s l (frame s st x) ++ f)
-  unfolding frameBy
-  even-step st x r c e f h =
-      same (x .lane) l
-      (λ q.
-      subst (λ (i : ℕ). EvenIn s i (afterGone s st x) e f → EvenIn s i st (endedIn s i (frame s st x) ++ e) (begunIn s i (frame s st x) ++ f)) q
-      (even-own s g st x r c e f) h)
-      (λ n. rw (ne-eqb (x .lane) l n) (even-in s l (afterGone s st x) (next s l st) (st .last l) e f (number-other s l st x n) (batch-other s l st x n) h))
-
-  -- It is kept, if it is of the lane's channel: what is due in it is what ends in it.
-  due-step : (st : State) (x : Call) → Ready s st → Goes s st x → cond (placeOf s (x .lane) =? placeOf s l) (kept (x .passage)) true ≡ true → Clean s l st
-      → (dueIn s l (frame s st x) (st .past) ≡ endedIn s l (frame s st x)) × Clean s l (afterGone s st x)
-  unfolding frameBy afterGone
-  due-step st x r c q h =
-      same (x .lane) l
-      (λ e.
-      subst (λ (i : ℕ). Clean s i st → (dueIn s i (frame s st x) (st .past) ≡ endedIn s i (frame s st x)) × Clean s i (afterGone s st x)) e
-      (λ o. (due-own s g st x r c (is-kept (ap (placeOf s) e)) o, clean-own s g st x r c (is-kept (ap (placeOf s) e)) o)) h)
-      (λ n. (
-        due-not s l (frame s st x) (st .past) n ∙ sym (rw (ne-eqb (x .lane) l n)),
-        λ i b. beside n i ∙ h i (subst (λ (m : ℕ). i < m) (number-other s l st x n) b),
-      ))
-    where
-      is-kept : placeOf s (x .lane) ≡ placeOf s l → kept (x .passage) ≡ true
-      is-kept e = sym (ap (λ (t : Bool). cond t (kept (x .passage)) true) (eq-eqb (placeOf s (x .lane)) (placeOf s l) e)) ∙ q
-
-      beside : (x .lane ≡ l → ⊥) → (i : ℕ) → clean s l (frame s st x ∷ st .past) i ≡ clean s l (st .past) i
-      beside n i =
-          same (placeOf s (x .lane)) (placeOf s l) (λ e. clean-beside s l (frame s st x) (st .past) e (is-kept e) n i)
-          (λ e. clean-apart s l (frame s st x) (st .past) e i)
+  -- The lane stands between batches: whatever batch comes, its next frame starts with it.
+  abbrev pub Begins : ℕ → E .Writer → Type 0
+  Begins l w = (b : List ℕ) → E .start w l b ≡ 0
 
   -- ---- the calls
 
-  -- No frame of the channel is gone: every unit that ends is due.
-  pub all-due : (xs : List Call) (st : State) → Ready s st → InOrder (sender s st) (st .last) xs → Clean s l st
-      → noneGone s (placeOf s l) (sent (sender s st) xs) ≡ true → due s l (st .past) (sent (sender s st) xs) ≡ unitsEnded s l (sent (sender s st) xs)
-  unfolding sent due unitsEnded noneGone frameBy afterGone
-  all-due [] st r o h q = refl
-  all-due (x ∷ xs) st r o h q =
-      let n : Onward s st x xs = onward s st x xs o in
-      let q′ = subst (λ (fs : List Frame). noneGone s (placeOf s l) fs ≡ true) (n .sends) q in
-      let d = due-step st x r (n .first) (and-left _ _ q′) h in
-      ap (due s l (st .past)) (n .sends)
-      ∙ ap₂ _++_ (d .0)
-      (all-due xs (afterGone s st x) (ready-gone s st x r) (n .order) (d .1)
-      (and-right (cond (placeOf s (x .lane) =? placeOf s l) (kept (x .passage)) true) _ q′))
-      ∙ ap (unitsEnded s l) (sym (n .sends))
+  module _ (facts : Facts E) (l : ℕ) where
+    -- No frame of the channel is gone: every unit that ends is due.
+    all-due : (xs : List (E .Call)) (w : E .Writer) (r : E .Hearer) (last : ℕ → List ℕ) (past : List Frame) → E .SoundWriter w → Runs E w r last xs
+        → Clean l w last past → noneGone (E .channel l) (wrote E w xs) ≡ true → due l past (wrote E w xs) ≡ unitsEnded l (wrote E w xs)
+    unfolding wrote due unitsEnded noneGone
+    all-due [] w r last past s g h q = refl
+    all-due (x ∷ xs) w r last past s g h q =
+        let k = facts .sends w last x s (g .0) in
+        let d = due-step w last (E .batch x) (E .frame w x) (E .next w x) k past l (and-left _ _ q) h in
+        ap₂ _++_ (d .0)
+        (all-due xs (E .next w x) _ _ (E .frame w x ∷ past) (k .sound) (g .2) (d .1)
+        (and-right (cond ((E .frame w x) .channel =? E .channel l) (kept ((E .frame w x) .passage)) true) _ q))
 
-  -- The lane stands between batches afterwards: all that began has ended.
-  all-ended : (xs : List Call) (st : State) → Ready s st → InOrder (sender s st) (st .last) xs → number (afterCalls (sender s st) xs) l ≡ 0
-      → EvenIn s l st (unitsEnded s l (sent (sender s st) xs)) (unitsSent s l (sent (sender s st) xs))
-  unfolding sent unitsEnded unitsSent afterCalls ended
-  all-ended [] st r o e = rw e
-  all-ended (x ∷ xs) st r o e =
-      let n : Onward s st x xs = onward s st x xs o in
-      subst (λ (fs : List Frame). EvenIn s l st (unitsEnded s l fs) (unitsSent s l fs)) (sym (n .sends))
-      (even-step st x r (n .first) _ _
-      (all-ended xs (afterGone s st x) (ready-gone s st x r) (n .order) (subst (λ (w : Writer). number (afterCalls w xs) l ≡ 0) (n .first .leaves) e)))
+    -- The lane stands between batches afterwards: all that began has ended.
+    all-ended : (xs : List (E .Call)) (w : E .Writer) (r : E .Hearer) (last : ℕ → List ℕ) → E .SoundWriter w → Runs E w r last xs
+        → Begins l (after E w xs) → EvenAt l w last (unitsEnded l (wrote E w xs)) (unitsSent l (wrote E w xs))
+    unfolding wrote unitsEnded unitsSent after
+    all-ended [] w r last s g e =
+        even-in 0 _ (E .units l (last l)) _ [] [] (sym (e (last l))) refl (ap (λ (us : List (List ℕ)). us ++ []) (ends-nowhere 0 (E .units l (last l)) 0))
+    all-ended (x ∷ xs) w r last s g e =
+        let k = facts .sends w last x s (g .0) in
+        even-step w last (E .batch x) (E .frame w x) (E .next w x) k l _ _ (all-ended xs (E .next w x) _ _ (k .sound) (g .2) e)
 
-  -- It stood there before them too: what ended is what began.
-  pub all-units : (xs : List Call) (st : State) → Ready s st → InOrder (sender s st) (st .last) xs → next s l st ≡ 0
-      → number (afterCalls (sender s st) xs) l ≡ 0 → unitsEnded s l (sent (sender s st) xs) ≡ unitsSent s l (sent (sender s st) xs)
-  unfolding ended
-  all-units xs st r o b e = even-in s l st 0 (st .last l) _ _ b refl (all-ended xs st r o e)
+    -- After the calls xs the lane stands between batches: of the calls ys all that ends is due, if no frame of the channel is gone; and all that
+    -- begins ends, if it stands there after them too.
+    pub later-due : (xs ys : List (E .Call)) (w : E .Writer) (r : E .Hearer) (last : ℕ → List ℕ) (past : List Frame) → E .SoundWriter w
+        → Runs E w r last (xs ++ ys) → Begins l (after E w xs) → noneGone (E .channel l) (wrote E (after E w xs) ys) ≡ true
+        → due l past (wrote E w (xs ++ ys)) ≡ due l past (wrote E w xs) ++ unitsEnded l (wrote E (after E w xs) ys)
+    unfolding wrote after due
+    later-due [] ys w r last past s g b n = all-due ys w r last past s g (λ a h. absurd (omega (arith, b (last l)))) n
+    later-due (x ∷ xs) ys w r last past s g b n =
+        let k = facts .sends w last x s (g .0) in
+        ap (λ (us : List (List ℕ)). dueIn l (E .frame w x) past ++ us) (later-due xs ys (E .next w x) _ _ (E .frame w x ∷ past) (k .sound) (g .2) b n)
+        ∙ sym (append-assoc (dueIn l (E .frame w x) past) _ _)
+
+    pub later-units : (xs ys : List (E .Call)) (w : E .Writer) (r : E .Hearer) (last : ℕ → List ℕ) → E .SoundWriter w → Runs E w r last (xs ++ ys)
+        → Begins l (after E w xs) → Begins l (after E w (xs ++ ys))
+        → unitsEnded l (wrote E (after E w xs) ys) ≡ unitsSent l (wrote E (after E w xs) ys)
+    unfolding after
+    later-units [] ys w r last s g b e = even-zero (E .start w l (last l)) (E .units l (last l)) _ _ (b (last l)) (all-ended ys w r last s g e)
+    later-units (x ∷ xs) ys w r last s g b e = later-units xs ys (E .next w x) _ _ ((facts .sends w last x s (g .0)) .sound) (g .2) b e

@@ -1,78 +1,86 @@
 -- What is due is well defined: each unit of a batch ends in exactly one of the batch's frames, and they end in the order in which
 -- they stand. So a batch that is worked off with no frame gone owes all its units, each once.
 use mathlib.Core.Path.{_≡_, refl, sym, ap, ap₂, _∙_}
-use Prim.Native.Nat.{ℕ, zero, suc, _+_, _-_, _*_, _/_, _≤_, _<_}
-use native.Mathlib.Nat.{le-trans, not-suc-le-zero}
+use Prim.Native.Nat.{ℕ, zero, suc, _+_, _*_, _≤_, _<_}
+use native.Mathlib.Nat.{zero-mul}
 use native.Mathlib.Omega.{arith}
-use mathlib.Core.Bool.{true}
+use mathlib.Core.Bool.{Bool, true}
 use mathlib.Core.List.{List, [], _∷_, _++_}
 use lib.ListN.{length, length-append}
-use borrow.Author.Tests.{eq-eqb, ne-eqb}
 use Rattle.rules.specs.declared.Kind.{Kind}
 use Rattle.rules.specs.Areas.{joined}
 use Rattle.rules.specs.Writing.{batchOk, unitsOf, frames}
-use Rattle.rules.proofs.Tests.{same}
-use Rattle.link.specs.Due.{Span, spans, ending}
-use Rattle.link.proofs.Spans.{frame-before, frame-order, Filled}
+use Rattle.rules.proofs.Tests.{split}
+use Rattle.link.specs.Due.{ending}
+use Rattle.link.proofs.Spans.{Filled, first-before, first-within, ends-later, first-after}
 use Rattle.link.proofs.Batches.{Units, units, frame-all}
 
--- The units that end in the first n frames, frame by frame.
-unfoldable pub ended : ℕ → List Span → List (List ℕ)
-ended zero xs = []
-ended (suc n) xs = ended n xs ++ ending n (λ (i : ℕ). true) xs
+abbrev any : ℕ → Bool
+any i = true
 
--- All of these end in frame n or later.
-abbrev From : ℕ → List Span → Type 0
-From n [] = Unit {0}
-From n (x ∷ xs) = (n ≤ x .end) × From n xs
+-- The units that end in a frame.
+abbrev pub endsIn : ℕ → ℕ → ℕ → List (List ℕ) → List (List ℕ)
+endsIn start stop a us = ending start stop any a us
 
-from-less : (m n : ℕ) (xs : List Span) → m ≤ n → From n xs → From m xs
-from-less m n [] h f = tt
-from-less m n (x ∷ xs) h f = (le-trans h (f .0), from-less m n xs h (f .1))
-
-none-in : (n : ℕ) (xs : List Span) → From (suc n) xs → ending n (λ (i : ℕ). true) xs ≡ []
+-- Those of two frames, one behind the other.
+pub ends-on : (from start stop : ℕ) → from ≤ start → start ≤ stop → (us : List (List ℕ)) (a : ℕ)
+    → endsIn from start a us ++ endsIn start stop a us ≡ endsIn from stop a us
 unfolding ending
-none-in n [] f = refl
-none-in n (x ∷ xs) f = rw (ne-eqb (x .end) n (λ e. omega (arith, f .0))) (none-in n xs (f .1))
+ends-on from start stop g h [] a = refl
+ends-on from start stop g h (u ∷ us) a = by (ends-on from start stop g h us (a + length u))
+  where
+    by : endsIn from start (a + length u) us ++ endsIn start stop (a + length u) us ≡ endsIn from stop (a + length u) us
+        → endsIn from start a (u ∷ us) ++ endsIn start stop a (u ∷ us) ≡ endsIn from stop a (u ∷ us)
+    by ih =
+        split (a + length u) start
+        (λ k.
+        split (a + length u) from
+        (λ l.
+        ap₂ _++_ (first-before from start any u us a l) (first-before start stop any u us a k) ∙ ih ∙ sym (first-before from stop any u us a l))
+        (λ l.
+        ap₂ _++_ (first-within from start any u us a l k) (first-before start stop any u us a k)
+        ∙ ap (λ (vs : List (List ℕ)). u ∷ vs) ih ∙ sym (first-within from stop any u us a l (omega arith))))
+        (λ k.
+        split (a + length u) stop
+        (λ l.
+        ap₂ _++_ (first-after from start any u us a k) (first-within start stop any u us a k l)
+        ∙ ap (λ (vs : List (List ℕ)). u ∷ (vs ++ endsIn start stop (a + length u) us)) (sym (ends-later from start any us (a + length u) k))
+        ∙ ap (λ (vs : List (List ℕ)). u ∷ vs) ih ∙ sym (first-within from stop any u us a (omega arith) l))
+        (λ l. ap₂ _++_ (first-after from start any u us a k) (first-after start stop any u us a l) ∙ sym (first-after from stop any u us a l)))
 
-none-before : (n : ℕ) (xs : List Span) → From n xs → ended n xs ≡ []
+-- None in a frame without octets, and all in one with all octets.
+pub ends-nowhere : (n : ℕ) (us : List (List ℕ)) (a : ℕ) → endsIn n n a us ≡ []
+unfolding ending
+ends-nowhere n [] a = refl
+ends-nowhere n (u ∷ us) a =
+    split (a + length u) n (λ h. first-before n n any u us a h ∙ ends-nowhere n us (a + length u)) (λ h. first-after n n any u us a h)
+
+pub ends-all : (stop : ℕ) (us : List (List ℕ)) (a : ℕ) → Filled us → a + length (joined us) ≤ stop → endsIn 0 stop a us ≡ us
+unfolding ending joined
+ends-all stop [] a f h = refl
+ends-all stop (u ∷ us) a f h =
+    let l = length-append u (joined us) in
+    first-within 0 stop any u us a (omega (arith, f .0)) (omega (arith, l))
+    ∙ ap (λ (vs : List (List ℕ)). u ∷ vs) (ends-all stop us (a + length u) (f .1) (omega (arith, l)))
+
+-- ---- frames of z octets
+
+-- The units that end in the first n frames, frame by frame.
+unfoldable pub ended : ℕ → ℕ → List (List ℕ) → List (List ℕ)
+ended z zero us = []
+ended z (suc n) us = ended z n us ++ endsIn (n * z) (n * z + z) 0 us
+
+ended-to : (z n : ℕ) (us : List (List ℕ)) → ended z n us ≡ endsIn 0 (n * z) 0 us
 unfolding ended
-none-before zero xs f = refl
-none-before (suc n) xs f = ap₂ _++_ (none-before n xs (from-less n (suc n) xs (omega arith) f)) (none-in n xs f)
-
--- The first of some comes first, if none ends before it.
-first-out : (n : ℕ) (x : Span) (xs : List Span) → x .end < n → From (x .end) xs → ended n (x ∷ xs) ≡ x .unit ∷ ended n xs
-unfolding ended ending
-first-out zero x xs h f = absurd (not-suc-le-zero h)
-first-out (suc n) x xs h f =
-    same (x .end) n
-    (λ e.
-    rw (eq-eqb (x .end) n e)
-    (ap (λ (us : List (List ℕ)). us ++ x .unit ∷ ending n (λ (i : ℕ). true) xs) (none-before n (x ∷ xs) (omega arith, from-less n (x .end) xs (omega arith) f))
-    ∙ ap (λ (us : List (List ℕ)). x .unit ∷ (us ++ ending n (λ (i : ℕ). true) xs)) (sym (none-before n xs (from-less n (x .end) xs (omega arith) f)))))
-    (λ e.
-    rw (ne-eqb (x .end) n e)
-    (ap (λ (us : List (List ℕ)). us ++ ending n (λ (i : ℕ). true) xs) (first-out n x xs (omega arith) f)))
-
-module _ (z : ℕ) (zp : 0 < z) where
-  -- Those after octet a end no earlier than an octet before it.
-  behind : (us : List (List ℕ)) (a x : ℕ) → Filled us → x ≤ a → From (x / z) (spans z a us)
-  unfolding spans
-  behind [] a x f h = tt
-  behind (u ∷ us) a x f h = (frame-order z zp x (a + length u - 1) (omega (arith, f .0)), behind us (a + length u) x (f .1) (omega arith))
-
-  all-ended : (us : List (List ℕ)) (a n : ℕ) → Filled us → a + length (joined us) ≤ n * z → ended n (spans z a us) ≡ us
-  unfolding spans joined
-  all-ended [] a n f h = none-before n [] tt
-  all-ended (u ∷ us) a n f h =
-      let l = length-append u (joined us) in
-      first-out n (record { unit = u; begin = a / z; end = (a + length u - 1) / z }) (spans z (a + length u) us)
-      (frame-before z zp (a + length u - 1) n (omega (arith, l, f .0))) (behind us (a + length u) (a + length u - 1) (f .1) (omega arith))
-      ∙ ap (λ (vs : List (List ℕ)). u ∷ vs) (all-ended us (a + length u) n (f .1) (omega (arith, l)))
+ended-to z zero us = sym (ap (λ (i : ℕ). endsIn 0 i 0 us) (zero-mul z) ∙ ends-nowhere 0 us 0)
+ended-to z (suc n) us =
+    let q : n * z + z ≡ suc n * z = omega arith in
+    ap (λ (vs : List (List ℕ)). vs ++ endsIn (n * z) (n * z + z) 0 us) (ended-to z n us) ∙ ends-on 0 (n * z) (n * z + z) (omega arith) (omega arith) us 0
+    ∙ ap (λ (i : ℕ). endsIn 0 i 0 us) q
 
 -- Of a batch: its units end in its frames, each once and in order.
-pub once : (kind : Kind) (longest z : ℕ) → 0 < z → (b : List ℕ) → batchOk kind longest b ≡ true → ended (frames z b) (spans z 0 (unitsOf kind b))
-    ≡ unitsOf kind b
+pub once : (kind : Kind) (longest z : ℕ) → 0 < z → (b : List ℕ) → batchOk kind longest b ≡ true → ended z (frames z b) (unitsOf kind b) ≡ unitsOf kind b
 once kind longest z zp b ok =
     let u : Units kind b = units kind longest b ok in
-    all-ended z zp (unitsOf kind b) 0 (frames z b) (u .filled) (rw (u .joins) (omega (arith, frame-all z zp b)))
+    ended-to z (frames z b) (unitsOf kind b)
+    ∙ ends-all (frames z b * z) (unitsOf kind b) 0 (u .filled) (rw (u .joins) (omega (arith, frame-all z zp b)))

@@ -1,8 +1,8 @@
--- A packet lane that reads frame k of a batch of whole packets: it hands out those that end there, but for those that began before
--- frame j, and holds what there is of the one that goes on.
+-- A packet lane that reads a frame of a batch of whole packets, with z octets of it from `start` on: it hands out those that end there, but for
+-- those that began before octet j, and holds what there is of the one that goes on.
 use mathlib.Core.Path.{_≡_, refl, sym, ap, ap₂, _∙_}
 use mathlib.Core.Logic.{_⊎_, inl, inr}
-use Prim.Native.Nat.{ℕ, zero, suc, _+_, _-_, _*_, _/_, _≤_, _<_}
+use Prim.Native.Nat.{ℕ, zero, suc, _+_, _-_, _≤_, _<_}
 use native.Mathlib.Nat.{le-trans, not-suc-le-zero, zero-add, add-zero, add-sub-of-le, sub-self, sub-eq-zero-of-le, le-antisymm}
 use native.Mathlib.Omega.{arith}
 use mathlib.Core.Bool.{Bool, true, false, cond}
@@ -25,9 +25,9 @@ use Rattle.rules.specs.Reading.{DataUnit, unitFrom, Made, hands, both, endFate,
 use Rattle.rules.proofs.Tests.{split}
 use Rattle.rules.proofs.Measures.{measure-none, measure-fill}
 use Rattle.rules.proofs.Lanes.{walk-front}
-use Rattle.link.specs.Due.{spans, ending}
+use Rattle.link.specs.Due.{ending}
 use Rattle.link.proofs.Whole.{Whole, Wholes}
-use Rattle.link.proofs.Spans.{frame-from, Filled, Yield, yields, yield, becomes, become-is, heldFrom, either, held-past, held-here, first-before, first-within, first-after}
+use Rattle.link.proofs.Spans.{Filled, Yield, yields, yield, becomes, become-is, heldFrom, either, held-past, held-here, first-before, first-within, first-after}
 
 pub wholes-filled : (longest : ℕ) (us : List (List ℕ)) → Wholes longest us → Filled us
 wholes-filled longest [] w = tt
@@ -103,16 +103,16 @@ module _ (longest : ℕ) (on : Bool) where
 
 -- ---- the octets from the pointer on
 
-module _ (longest z : ℕ) (zp : 0 < z) (j k : ℕ) (jk : j ≤ k) where
+module _ (longest z : ℕ) (zp : 0 < z) (j start : ℕ) (js : j ≤ start) where
   abbrev ends : ℕ → List (List ℕ) → List (List ℕ)
-  ends a us = ending k (λ (i : ℕ). j ≤? i) (spans z a us)
+  ends a us = ending start (start + z) (λ (i : ℕ). j ≤? i) a us
 
   abbrev held : ℕ → ℕ → List (List ℕ) → List ℕ
-  held a o us = heldFrom z j a o us
+  held a o us = heldFrom j a o us
 
   -- A unit that begins in this frame is not lost.
-  not-lost : (a : ℕ) → k * z ≤ a → j ≤? (a / z) ≡ true
-  not-lost a h = le-leb _ _ (le-trans jk (frame-from z zp a k h))
+  not-lost : (a : ℕ) → start ≤ a → j ≤? a ≡ true
+  not-lost a h = le-leb _ _ (le-trans js h)
 
   fill-next : (n : ℕ) → 1 ≤ longest → nextOf longest (measure (filler (suc n))) (length (filler (suc n))) ≡ Skip 1
   unfolding nextOf sizedNext
@@ -128,9 +128,9 @@ module _ (longest z : ℕ) (zp : 0 < z) (j k : ℕ) (jk : j ≤ k) where
       ∙ walk-fill n h
 
   -- Units that begin in this frame, with m octets of them in it, and fill where they end in it.
-  walk-due : (us : List (List ℕ)) (a m n : ℕ) → 1 ≤ longest → Wholes longest us → k * z ≤ a → a + m ≡ k * z + z → (n ≡ 0) ⊎ (length (joined us) ≤ m)
+  walk-due : (us : List (List ℕ)) (a m n : ℕ) → 1 ≤ longest → Wholes longest us → start ≤ a → a + m ≡ start + z → (n ≡ 0) ⊎ (length (joined us) ≤ m)
       → yield (walk longest (take m (joined us) ++ filler n)) ≡ yields (ends a us) (held a m us)
-  unfolding joined spans ending heldFrom
+  unfolding joined ending heldFrom
   walk-due [] a m n one w h e f = ap (λ (xs : List ℕ). yield (walk longest (xs ++ filler n))) (take-nil m) ∙ walk-fill n one
   walk-due (u ∷ us) a m n one w h e f =
       split (length u) m
@@ -153,9 +153,9 @@ module _ (longest z : ℕ) (zp : 0 < z) (j k : ℕ) (jk : j ≤ k) where
           ∙ ap (λ (r : Yield). yields (u ∷ r .units) (r .held)) ih
           ∙ sym
           (ap₂ yields
-          (first-within z zp k (λ (i : ℕ). j ≤? i) u us a (omega (arith, s)) (omega arith) ∙ ap (λ (t : Bool). cond t (u ∷ []) [] ++ ends (a + length u) us)
-          (not-lost a h))
-          (held-past z j a m u us g))
+          (first-within start (start + z) (λ (i : ℕ). j ≤? i) u us a (omega (arith, s)) (omega arith)
+          ∙ ap (λ (t : Bool). cond t (u ∷ []) [] ++ ends (a + length u) us) (not-lost a h))
+          (held-past j a m u us g))
 
       part : m < length u → (n ≡ 0) ⊎ (length (u ++ joined us) ≤ m)
           → yield (walk longest (take m (u ++ joined us) ++ filler n)) ≡ yields (ends a (u ∷ us)) (held a m (u ∷ us))
@@ -166,8 +166,8 @@ module _ (longest z : ℕ) (zp : 0 < z) (j k : ℕ) (jk : j ≤ k) where
           ∙ walk-part longest u (w .0) m g
           ∙ sym
           (ap₂ yields
-          (first-after z zp k (λ (i : ℕ). j ≤? i) u us a (wholes-filled longest us (w .1)) (omega arith))
-          (held-here z j a m u us g ∙ ap (λ (t : Bool). cond t (take m u) []) (not-lost a h)))
+          (first-after start (start + z) (λ (i : ℕ). j ≤? i) u us a (omega arith))
+          (held-here j a m u us g ∙ ap (λ (t : Bool). cond t (take m u) []) (not-lost a h)))
 
   -- ---- the frame's zone, from octet o of the units on
 
@@ -187,7 +187,7 @@ module _ (longest z : ℕ) (zp : 0 < z) (j k : ℕ) (jk : j ≤ k) where
   inside-not n h = rw (le-ltb _ _ h)
 
   -- The packet that stands at octet o is u, which begins at octet a of the batch.
-  module _ (one : 1 ≤ longest) (u : List ℕ) (us : List (List ℕ)) (a o : ℕ) (w : Wholes longest (u ∷ us)) (e : a + o ≡ k * z) where
+  module _ (one : 1 ≤ longest) (u : List ℕ) (us : List (List ℕ)) (a o : ℕ) (w : Wholes longest (u ∷ us)) (e : a + o ≡ start) where
     abbrev Says : List ℕ → Place → List ℕ → Type 0
     Says h p zs = yield (packetLane longest h p zs) ≡ yields (ends a (u ∷ us)) (held a (o + z) (u ∷ us))
 
@@ -227,7 +227,7 @@ module _ (longest z : ℕ) (zp : 0 < z) (j k : ℕ) (jk : j ≤ k) where
       lead-goes h false = lead-none longest true (take z (drop o u))
 
       abbrev live : Bool
-      live = j ≤? (a / z)
+      live = j ≤? a
 
       octets-from : drop o (joined (u ∷ us)) ≡ drop o u ++ joined us
       unfolding joined
@@ -250,8 +250,8 @@ module _ (longest z : ℕ) (zp : 0 < z) (j k : ℕ) (jk : j ≤ k) where
           ∙ lead-goes h live
           ∙ sym
           (ap₂ yields
-          (first-after z zp k (λ (i : ℕ). j ≤? i) u us a (wholes-filled longest us (w .1)) (omega arith))
-          (held-here z j a (o + z) u us (omega arith)))
+          (first-after start (start + z) (λ (i : ℕ). j ≤? i) u us a (omega arith))
+          (held-here j a (o + z) u us (omega arith)))
 
       -- It ends in this frame.
       zone-ends : left ≤ z → zoneFrom o (u ∷ us) ≡ drop o u ++ (take (z - left) (joined us) ++ filler behind)
@@ -278,7 +278,7 @@ module _ (longest z : ℕ) (zp : 0 < z) (j k : ℕ) (jk : j ≤ k) where
           → yields (cond live (u ∷ []) [] ++ ends (a + length u) us) (held (a + length u) (o + z - length u) us)
           ≡ yields (ends a (u ∷ us)) (held a (o + z) (u ∷ us))
       all-due h =
-          sym (ap₂ yields (first-within z zp k (λ (i : ℕ). j ≤? i) u us a (omega arith) (omega arith)) (held-past z j a (o + z) u us (omega arith)))
+          sym (ap₂ yields (first-within start (start + z) (λ (i : ℕ). j ≤? i) u us a (omega arith) (omega arith)) (held-past j a (o + z) u us (omega arith)))
 
       both-yield : (x y : Made) → yield (both x y) ≡ yields ((yield x) .units ++ (yield y) .units) (y .held)
       unfolding both
@@ -330,7 +330,7 @@ module _ (longest z : ℕ) (zp : 0 < z) (j k : ℕ) (jk : j ≤ k) where
   unfolding startFrom
   start-on u us o h = rw (ne-eqb o 0 (λ e. omega arith))
 
-  pub packet-lane : 1 ≤ longest → (us : List (List ℕ)) (a o : ℕ) → Wholes longest us → a + o ≡ k * z → o < length (joined us)
+  pub packet-lane : 1 ≤ longest → (us : List (List ℕ)) (a o : ℕ) → Wholes longest us → a + o ≡ start → o < length (joined us)
       → yield (packetLane longest (held a o us) (inside z (startFrom us o - o)) (zoneFrom o us)) ≡ yields (ends a us) (held a (o + z) us)
   unfolding joined
   packet-lane one [] a o w e l = absurd (not-suc-le-zero l)
@@ -351,23 +351,23 @@ module _ (longest z : ℕ) (zp : 0 < z) (j k : ℕ) (jk : j ≤ k) where
           let d : drop o (u ++ joined us) ≡ drop (o - length u) (joined us) = ap (λ (i : ℕ). drop i (u ++ joined us)) (sym (add-sub-of-le h))
           ∙ drop-append-add u (joined us) (o - length u) in
           let n : o - length u + z ≡ o + z - length u = omega arith in
-          ap₂ (λ (x : List ℕ) (q : Place). yield (packetLane longest x q (zoneFrom o (u ∷ us)))) (held-past z j a o u us h) (ap (inside z) p)
+          ap₂ (λ (x : List ℕ) (q : Place). yield (packetLane longest x q (zoneFrom o (u ∷ us)))) (held-past j a o u us h) (ap (inside z) p)
           ∙ ap (λ (xs : List ℕ). yield (packetLane longest (held (a + length u) (o - length u) us) (inside z (startFrom us (o - length u) - (o - length u)))
           (take z xs ++ filler (z - length (take z xs))))) d
           ∙ ih
           ∙ ap (λ (i : ℕ). yields (ends (a + length u) us) (held (a + length u) i us)) n
-          ∙ sym (ap₂ yields (first-before z zp k (λ (i : ℕ). j ≤? i) u us a s (omega arith)) (held-past z j a (o + z) u us (omega arith)))
+          ∙ sym (ap₂ yields (first-before start (start + z) (λ (i : ℕ). j ≤? i) u us a (omega arith)) (held-past j a (o + z) u us (omega arith)))
 
-      here : (o : ℕ) → a + o ≡ k * z → o < length u
+      here : (o : ℕ) → a + o ≡ start → o < length u
           → yield (packetLane longest (held a o (u ∷ us)) (inside z (startFrom (u ∷ us) o - o)) (zoneFrom o (u ∷ us))) ≡ yields (ends a (u ∷ us))
           (held a (o + z) (u ∷ us))
       here zero e h =
           ap₂ (λ (x : List ℕ) (n : ℕ). yield (packetLane longest x (inside z n) (zoneFrom 0 (u ∷ us))))
-          (held-here z j a 0 u us h ∙ either (j ≤? (a / z)) []) (ap (λ (n : ℕ). n - 0) (start-zero (u ∷ us)))
+          (held-here j a 0 u us h ∙ either (j ≤? a) []) (ap (λ (n : ℕ). n - 0) (start-zero (u ∷ us)))
           ∙ starts one u us a 0 w e refl
       here (suc o) e h =
           let p : startFrom (u ∷ us) (suc o) - suc o ≡ length u - suc o = ap (λ (n : ℕ). n - suc o)
           (start-on u us (suc o) (omega arith) ∙ ap (λ (n : ℕ). length u + startFrom us n) (sub-eq-zero-of-le (omega arith)) ∙ ap
           (λ (n : ℕ). length u + n) (start-zero us) ∙ add-zero (length u)) in
-          ap₂ (λ (x : List ℕ) (n : ℕ). yield (packetLane longest x (inside z n) (zoneFrom (suc o) (u ∷ us)))) (held-here z j a (suc o) u us h) p
+          ap₂ (λ (x : List ℕ) (n : ℕ). yield (packetLane longest x (inside z n) (zoneFrom (suc o) (u ∷ us)))) (held-here j a (suc o) u us h) p
           ∙ began one u us a (suc o) w e (omega arith) h

@@ -1,11 +1,10 @@
--- What one read does: refused octets leave everything, and a written frame takes its count, makes its lane step, and leaves the other
+-- What one read does: inert octets leave everything, and a written frame takes its count, makes its lane step, and leaves the other
 -- lanes' octets where they are.
 use mathlib.Core.Path.{_≡_, refl, sym, ap, ap₂, _∙_, subst}
-use mathlib.Core.Logic.{_≢_}
 use Prim.Native.Nat.{ℕ, zero, suc, _+_, _*_, _≤_, _<_}
 use native.Mathlib.Nat.{not-suc-le-zero, le-of-suc-le-suc, suc-ne-zero}
 use native.Mathlib.Omega.{arith}
-use mathlib.Core.Bool.{Bool, true, false, cond, not}
+use mathlib.Core.Bool.{Bool, true, false, cond, not, false≢true}
 use mathlib.Core.List.{List, [], _∷_}
 use lib.ListN.{length, getD, take, drop, set, length-take, List·getD-eq-default}
 use lib.Seq.{take-take, getD-take, getD-set-same, getD-set-other}
@@ -13,15 +12,16 @@ use borrow.Author.Tests.{leb-true, le-ltb, eq-eqb, ne-eqb}
 use Rattle.rules.specs.declared.Lane.{Lane}
 use Rattle.rules.specs.declared.Setting.{Setting}
 use Rattle.rules.specs.declared.Expect.{Expect}
+use Rattle.rules.specs.declared.Slot.{Slot}
 use Rattle.rules.specs.declared.Reader.{Reader}
 use Rattle.rules.specs.declared.Gap.{Gap}
 use Rattle.rules.specs.declared.Verdict.{Verdict}
-use Rattle.rules.specs.Tests.{_≤?_, _=?_, given}
+use Rattle.rules.specs.Tests.{_≤?_, _=?_, _≠?_, given}
 use Rattle.rules.specs.Areas.{laid, joined, part, heldSize, partSize, recordsSize, unitsSize}
-use Rattle.rules.specs.Settings.{noLane, noExpect, lane, channelOf, zone, readerOk}
+use Rattle.rules.specs.Settings.{noLane, noExpect, noSlot, lane, channelOf, zone, readerOk}
 use Rattle.rules.specs.Frames.{ruleIn, pointerIn, zoneIn, pointsTo}
 use Rattle.rules.specs.Writing.{zoneOf, ruleOf, pointerOf}
-use Rattle.rules.specs.Reading.{missing, expected, emptied, lanesOf, gapBy, gap, octetsOf, Made, laneStep}
+use Rattle.rules.specs.Reading.{missing, expected, emptied, lanesOf, gapBy, gap, octetsOf, Made, keeps, laneStep}
 use Rattle.rules.specs.Refusals.{refusals, judged, judge}
 use Rattle.rules.specs.Calls.{Got, areasShort, laidOut, madeBy, readOn, onVerdict, read}
 use Rattle.rules.proofs.Tests.{split, and-left, and-right}
@@ -31,15 +31,14 @@ use Rattle.rules.proofs.Valid.{good-reader}
 use Rattle.rules.proofs.Lanes.{lane-below}
 use Rattle.rules.proofs.Calls.{verdict-cond, read-valid, read-fits}
 use Rattle.rules.proofs.Written.{FrameBack}
-use Rattle.link.specs.Link.{Lent, unitsBy, handed}
-use Rattle.link.specs.Due.{placeOf}
-use Rattle.link.specs.Demand.{enough}
-use Rattle.link.proofs.Spans.{either}
+use Rattle.link.specs.Link.{Lent, placeOf, unitsBy, handed}
+use Rattle.link.specs.Demand.{enough, inert}
+use Rattle.link.proofs.Spans.{yield, either}
 use Rattle.link.proofs.Records.{handed-laid}
 
--- ---- octets that are refused
+-- ---- octets that change nothing
 
-module _ (r : Reader) (f h : List ℕ) (a : Lent) (no : given (refusals (r .setting) f) ≢ 0) where
+module _ (r : Reader) (f h : List ℕ) (a : Lent) (no : inert (r .setting) f ≡ true) where
   pub record Untouched (o : Got) : Type 0 where
     pub state : o .taken .state ≡ r
     pub area : o .heldArea ≡ h
@@ -50,36 +49,36 @@ module _ (r : Reader) (f h : List ℕ) (a : Lent) (no : given (refusals (r .sett
   refused n = record { state = refl; area = refl; none = λ l. refl }
 
   pub stray : Untouched (read r f h (a .units) (a .records))
-  unfolding read judge judged
+  unfolding read judge judged inert
   stray = rw (verdict-cond r f h (a .units) (a .records)) (go (readerOk r) (areasShort h (a .units) (a .records)) (given (refusals (r .setting) f)) no)
     where
-      go : (p q : Bool) (n : ℕ) → n ≢ 0
+      go : (p q : Bool) (n : ℕ) → (n ≠? 0) ≡ true
           → Untouched (onVerdict (cond (not p) (Verdict.Refused 1) (cond q (Verdict.Refused 2) (judged (r .setting) f n))) r f h (a .units) (a .records))
       go false q n e = refused 1
       go true true n e = refused 2
-      go true false zero e = absurd (e refl)
+      go true false zero e = absurd (false≢true e)
       go true false (suc n) e = refused (suc n)
 
 -- ---- the reader's state by its parts
 
-abbrev pub reader : Setting → List Expect → List ℕ → Reader
-reader s es hs = record { setting = s; expects = es; held = hs }
+abbrev pub reader : Setting → List Expect → List Slot → Reader
+reader s es hs = record { setting = s; expects = es; slots = hs }
 
 -- What lane l holds: the first octets of its part of the held area.
-abbrev pub holds : List ℕ → List ℕ → ℕ → List ℕ
-holds hs h l = take (getD hs l 0) (part l h)
+abbrev pub holds : List Slot → List ℕ → ℕ → List ℕ
+holds hs h l = take ((getD hs l noSlot) .held) (part l h)
 
--- How many octets each lane holds once m frames of channel c were missed.
-unfoldable pub left : Setting → ℕ → ℕ → List ℕ → List ℕ
+-- The slots once m frames of channel c were missed.
+unfoldable pub left : Setting → ℕ → ℕ → List Slot → List Slot
 left s c m hs = cond (m =? 0) hs (emptied (λ (l : Lane). l .channel =? c) (lanesOf s) hs)
 
-length-emptied : (p : Lane → Bool) (ls : List Lane) (hs : List ℕ) → length (emptied p ls hs) ≡ length hs
+length-emptied : (p : Lane → Bool) (ls : List Lane) (hs : List Slot) → length (emptied p ls hs) ≡ length hs
 unfolding emptied
 length-emptied p [] hs = refl
 length-emptied p (x ∷ ls) [] = refl
 length-emptied p (x ∷ ls) (y ∷ hs) = ap suc (length-emptied p ls hs)
 
-pub length-left : (s : Setting) (c m : ℕ) (hs : List ℕ) → length (left s c m hs) ≡ length hs
+pub length-left : (s : Setting) (c m : ℕ) (hs : List Slot) → length (left s c m hs) ≡ length hs
 unfolding left
 length-left s c m hs = go (m =? 0)
   where
@@ -87,11 +86,11 @@ length-left s c m hs = go (m =? 0)
     go true = refl
     go false = length-emptied (λ (l : Lane). l .channel =? c) (lanesOf s) hs
 
-emptied-at : (p : Lane → Bool) (ls : List Lane) (hs : List ℕ) (l : ℕ) → l < length ls
-    → getD (emptied p ls hs) l 0 ≡ cond (p (getD ls l noLane)) 0 (getD hs l 0)
+emptied-at : (p : Lane → Bool) (ls : List Lane) (hs : List Slot) (l : ℕ) → l < length ls
+    → getD (emptied p ls hs) l noSlot ≡ cond (p (getD ls l noLane)) noSlot (getD hs l noSlot)
 unfolding emptied
 emptied-at p [] hs l h = absurd (not-suc-le-zero h)
-emptied-at p (x ∷ ls) [] l h = sym (either (p (getD (x ∷ ls) l noLane)) 0)
+emptied-at p (x ∷ ls) [] l h = sym (either (p (getD (x ∷ ls) l noLane)) noSlot)
 emptied-at p (x ∷ ls) (y ∷ hs) zero h = refl
 emptied-at p (x ∷ ls) (y ∷ hs) (suc l) h = emptied-at p ls hs l (le-of-suc-le-suc h)
 
@@ -104,51 +103,53 @@ module _ (s : Setting) (g : Good s) (l : ℕ) (lh : l < s .numbered) where
       bad e h = omega (arith, subst (λ (x : Lane). least (x .kind) ≤ x .longest) e h)
 
   -- Of another channel, a gap drops nothing; of this one, all.
-  pub left-at : (c m : ℕ) (hs : List ℕ) → getD (left s c m hs) l 0 ≡ cond (m =? 0) (getD hs l 0) (cond (placeOf s l =? c) 0 (getD hs l 0))
+  pub left-at : (c m : ℕ) (hs : List Slot) → getD (left s c m hs) l noSlot ≡ cond (m =? 0) (getD hs l noSlot) (cond (placeOf s l =? c) noSlot (getD hs l noSlot))
   unfolding left
   left-at c m hs = go (m =? 0)
     where
       n : l < length (lanesOf s)
       n = omega (arith, length-take (s .numbered) (s .lanes), slot)
 
-      go : (t : Bool) → getD (cond t hs (emptied (λ (x : Lane). x .channel =? c) (lanesOf s) hs)) l 0 ≡ cond t (getD hs l 0)
-          (cond (placeOf s l =? c) 0 (getD hs l 0))
+      go : (t : Bool) → getD (cond t hs (emptied (λ (x : Lane). x .channel =? c) (lanesOf s) hs)) l noSlot ≡ cond t (getD hs l noSlot)
+          (cond (placeOf s l =? c) noSlot (getD hs l noSlot))
       go true = refl
       go false =
           emptied-at (λ (x : Lane). x .channel =? c) (lanesOf s) hs l n
-          ∙ ap (λ (x : Lane). cond (x .channel =? c) 0 (getD hs l 0)) (getD-take (s .numbered) (s .lanes) l noLane lh)
+          ∙ ap (λ (x : Lane). cond (x .channel =? c) noSlot (getD hs l noSlot)) (getD-take (s .numbered) (s .lanes) l noLane lh)
 
-  pub holds-other : (c m : ℕ) (hs h : List ℕ) → (placeOf s l ≡ c → ⊥) → holds (left s c m hs) h l ≡ holds hs h l
-  holds-other c m hs h e = ap (λ (n : ℕ). take n (part l h)) (left-at c m hs ∙ go (m =? 0))
+  pub holds-other : (c m : ℕ) (hs : List Slot) (h : List ℕ) → (placeOf s l ≡ c → ⊥) → holds (left s c m hs) h l ≡ holds hs h l
+  holds-other c m hs h e = ap (λ (x : Slot). take (x .held) (part l h)) (left-at c m hs ∙ go (m =? 0))
     where
-      go : (t : Bool) → cond t (getD hs l 0) (cond (placeOf s l =? c) 0 (getD hs l 0)) ≡ getD hs l 0
+      go : (t : Bool) → cond t (getD hs l noSlot) (cond (placeOf s l =? c) noSlot (getD hs l noSlot)) ≡ getD hs l noSlot
       go true = refl
       go false = rw (ne-eqb (placeOf s l) c e)
 
-  pub holds-gap : (m : ℕ) (hs h : List ℕ) → holds (left s (placeOf s l) m hs) h l ≡ cond (m =? 0) (holds hs h l) []
-  holds-gap m hs h = ap (λ (n : ℕ). take n (part l h)) (left-at (placeOf s l) m hs) ∙ go (m =? 0)
+  pub holds-gap : (m : ℕ) (hs : List Slot) (h : List ℕ) → holds (left s (placeOf s l) m hs) h l ≡ cond (m =? 0) (holds hs h l) []
+  holds-gap m hs h = ap (λ (x : Slot). take (x .held) (part l h)) (left-at (placeOf s l) m hs) ∙ go (m =? 0)
     where
-      go : (t : Bool) → take (cond t (getD hs l 0) (cond (placeOf s l =? placeOf s l) 0 (getD hs l 0))) (part l h) ≡ cond t (holds hs h l) []
+      go : (t : Bool) → take ((cond t (getD hs l noSlot) (cond (placeOf s l =? placeOf s l) noSlot (getD hs l noSlot))) .held) (part l h) ≡ cond t (holds hs h l) []
       go true = refl
       go false = rw (eq-eqb (placeOf s l) (placeOf s l) refl)
 
 -- ---- octets laid into a lane's part of the held area
 
-module _ (hs h xs : List ℕ) (i : ℕ) (ih : i < 8) (slots : length hs ≡ 8) (area : length h ≡ heldSize) (small : length xs ≤ 8192) where
+module _ (hs : List Slot) (h xs : List ℕ) (kept : Slot) (its : kept .held ≡ length xs) (i : ℕ) (ih : i < 8) (slots : length hs ≡ 8)
+    (area : length h ≡ heldSize) (small : length xs ≤ 8192) where
   room : partSize * i + length xs ≤ length h
   room = omega arith
 
   pub stored-length : length (laid h (partSize * i) xs) ≡ 65536
   stored-length = length-laid h (partSize * i) xs room ∙ area
 
-  pub stored-here : holds (set hs i (length xs)) (laid h (partSize * i) xs) i ≡ xs
+  pub stored-here : holds (set hs i kept) (laid h (partSize * i) xs) i ≡ xs
   stored-here =
-      ap (λ (n : ℕ). take n (part i (laid h (partSize * i) xs))) (getD-set-same hs i (length xs) 0 (omega arith))
+      ap (λ (x : Slot). take (x .held) (part i (laid h (partSize * i) xs))) (getD-set-same hs i kept noSlot (omega arith))
+      ∙ ap (λ (n : ℕ). take n (part i (laid h (partSize * i) xs))) its
       ∙ take-take (length xs) 8192 (drop (partSize * i) (laid h (partSize * i) xs)) small ∙ laid-at h (partSize * i) xs room
 
-  pub stored-other : (l : ℕ) → (l ≡ i → ⊥) → holds (set hs i (length xs)) (laid h (partSize * i) xs) l ≡ holds hs h l
+  pub stored-other : (l : ℕ) → (l ≡ i → ⊥) → holds (set hs i kept) (laid h (partSize * i) xs) l ≡ holds hs h l
   stored-other l e =
-      ap₂ (λ (n : ℕ) (y : List ℕ). take n y) (getD-set-other hs i l (length xs) 0 e)
+      ap₂ (λ (x : Slot) (y : List ℕ). take (x .held) y) (getD-set-other hs i l kept noSlot e)
       (split i l
       (λ q. ap (take 8192) (laid-after h (partSize * i) xs room (partSize * l) (omega arith)))
       (λ q. laid-before h (partSize * i) xs room (partSize * l) 8192 (omega arith)))
@@ -162,32 +163,36 @@ enough-areas h a e q =
     let c : recordsSize ≤ length (a .records) = leb-true _ _ (and-right (unitsSize ≤? length (a .units)) _ q) in
     rw (eq-eqb (length h) 65536 e, le-ltb _ _ u, le-ltb _ _ c)
 
--- What the lanes hold once the count v of a frame of lane i is taken.
-abbrev pub gapped : Setting → List Expect → List ℕ → ℕ → ℕ → List ℕ
+-- The slots once the count v of a frame of lane i is taken.
+abbrev pub gapped : Setting → List Expect → List Slot → ℕ → ℕ → List Slot
 gapped s es hs i v = left s (placeOf s i) (missing ((channelOf s i) .octets) (getD es (placeOf s i) noExpect) v) hs
 
 -- What lane i makes of frame k of the batch b.
-unfoldable pub makes : Setting → List Expect → List ℕ → List ℕ → ℕ → ℕ → List ℕ → ℕ → Made
+unfoldable pub makes : Setting → List Expect → List Slot → List ℕ → ℕ → ℕ → List ℕ → ℕ → Made
 makes s es hs h i v b k =
     laneStep ((lane s i) .kind) ((lane s i) .longest) (ruleOf ((lane s i) .kind) k) (holds (gapped s es hs i v) h i)
     (pointsTo (pointerOf ((lane s i) .kind) (zone s (channelOf s i)) b k)) (zoneOf ((lane s i) .kind) (zone s (channelOf s i)) b k)
 
+-- The reader once lane i has made this of a frame with count v.
+abbrev pub readerAfter : Setting → List Expect → List Slot → ℕ → ℕ → Made → Reader
+readerAfter s es hs i v m =
+    reader s (set es (placeOf s i) (expected ((channelOf s i) .octets) v)) (set (gapped s es hs i v) i (keeps m))
+
 -- What a read of it gives.
-pub record Taken (s : Setting) (es : List Expect) (hs h : List ℕ) (i v : ℕ) (m : Made) (o : Got) : Type 0 where
-  pub state : o .taken .state
-      ≡ reader s (set es (placeOf s i) (expected ((channelOf s i) .octets) v)) (set (gapped s es hs i v) i (length (m .held)))
+pub record Taken (s : Setting) (es : List Expect) (hs : List Slot) (h : List ℕ) (i v : ℕ) (m : Made) (o : Got) : Type 0 where
+  pub state : o .taken .state ≡ readerAfter s es hs i v m
   pub area : o .heldArea ≡ laid h (partSize * i) (m .held)
-  pub units : (l : ℕ) → handed l o ≡ cond (i =? l) (octetsOf (m .units)) []
+  pub units : (l : ℕ) → handed l o ≡ cond (i =? l) ((yield m) .units) []
   pub small : length (m .held) ≤ 8192
 
-module _ (s : Setting) (es : List Expect) (hs h : List ℕ) (a : Lent) (i v : ℕ) where
+module _ (s : Setting) (es : List Expect) (hs : List Slot) (h : List ℕ) (a : Lent) (i v : ℕ) where
   abbrev c : ℕ
   c = placeOf s i
 
   abbrev n : ℕ
   n = (channelOf s i) .octets
 
-  abbrev after : List ℕ
+  abbrev after : List Slot
   after = gapped s es hs i v
 
   abbrev made : List ℕ → ℕ → Made
@@ -219,7 +224,7 @@ module _ (s : Setting) (es : List Expect) (hs h : List ℕ) (a : Lent) (i v : �
     unfolding madeBy makes
     made-is =
         ap (λ (r : Reader).
-        laneStep ((lane (r .setting) i) .kind) ((lane (r .setting) i) .longest) (ruleIn (r .setting) (channelOf s i) f) (holds (r .held) h i)
+        laneStep ((lane (r .setting) i) .kind) ((lane (r .setting) i) .longest) (ruleIn (r .setting) (channelOf s i) f) (holds (r .slots) h i)
         (pointsTo (pointerIn (r .setting) (channelOf s i) f)) (zoneIn (r .setting) (channelOf s i) f)) gap-state
         ∙ rw (back .rule, back .pointer, back .octets)
 
@@ -228,7 +233,7 @@ module _ (s : Setting) (es : List Expect) (hs h : List ℕ) (a : Lent) (i v : �
     read-takes =
         subst (Taken s es hs h i v (made b k)) (sym (read-is ∙ ap (λ (m : Made). laidOut g i v m h (a .units) (a .records)) made-is))
         (record {
-          state = ap (λ (r : Reader). reader (r .setting) (r .expects) (set (r .held) i (length ((made b k) .held)))) gap-state;
+          state = ap (λ (r : Reader). reader (r .setting) (r .expects) (set (r .slots) i (keeps (made b k)))) gap-state;
           area = refl;
           units = λ l. handed-laid l g i v (made b k) h (a .units) (a .records) fits;
           small = below;
@@ -251,6 +256,6 @@ module _ (s : Setting) (es : List Expect) (hs h : List ℕ) (a : Lent) (i v : �
             (zoneOf ((lane s i) .kind) (zone s (channelOf s i)) b k) (q .enough) in
             omega (arith, p, q .most)
 
-    pub read-ready : readerOk (reader s (set es c (expected n v)) (set after i (length ((made b k) .held)))) ≡ true
+    pub read-ready : readerOk (readerAfter s es hs i v (made b k)) ≡ true
     read-ready =
         subst (λ (r : Reader). readerOk r ≡ true) (read-takes .state) (read-valid (reader s es hs) f h (a .units) (a .records) ok)

@@ -15,7 +15,7 @@ use Rattle.rules.specs.Reading.{DataUnit, octetsOf, Made, recordOf, recordsFrom
 use Rattle.rules.specs.Calls.{laidOut}
 use Rattle.rules.proofs.Octets.{num-be-below}
 use Rattle.link.specs.Link.{unitBy, unitsBy, handed}
-use Rattle.link.proofs.Spans.{either}
+use Rattle.link.proofs.Spans.{yield, either}
 
 -- A list where a test passes, and none where it does not, may be made piece by piece.
 pick-append {ℓ} : {A : Type ℓ} (t : Bool) (xs ys : List A) → cond t xs [] ++ cond t ys [] ≡ cond t (xs ++ ys) []
@@ -51,7 +51,7 @@ module _ (i : Info) (l : ℕ) where
 
 -- What a read that lays a lane's units and records out hands out on lane l.
 pub handed-laid : (l : ℕ) (g : Gap) (ours count : ℕ) (m : Made) (h u c : List ℕ) → length (joined (octetsOf (m .units))) ≤ unitsSize
-    → handed l (laidOut g ours count m h u c) ≡ cond (ours =? l) (octetsOf (m .units)) []
+    → handed l (laidOut g ours count m h u c) ≡ cond (ours =? l) ((yield m) .units) []
 unfolding handed laidOut laid infoOf
 handed-laid l g ours count m h u c b =
     by-records (infoOf (g .state .setting) ours count) l (m .units) 0 [] (drop (0 + length (joined (octetsOf (m .units)))) u)

@@ -1,6 +1,6 @@
 -- Which octets a run refuses. A read of a valid reader with areas of the size asked for ends as refusals 3 to 12 say of its octets, and leaves
 -- such a reader; so do all reads of a run, whatever arrives. Frames that were written are refused by none.
-use mathlib.Core.Path.{_≡_, refl, sym, ap, ap₂, _∙_, subst}
+use mathlib.Core.Path.{_≡_, refl, ap, ap₂, _∙_, subst}
 use Prim.Native.Nat.{ℕ, zero, suc, _*_}
 use native.Mathlib.Omega.{arith}
 use mathlib.Core.Bool.{Bool, true, false, cond, not, _&&_, false≢true}
@@ -19,17 +19,17 @@ use Rattle.rules.specs.Tests.{_=?_, _≠?_, given}
 use Rattle.rules.specs.Settings.{lane, channelOf, readerOk}
 use Rattle.rules.specs.Frames.{vc, map, bypass, command, countIn}
 use Rattle.rules.specs.Refusals.{channelAt, laneAt, refusals, onChannel, passed, judged, judge}
-use Rattle.rules.specs.Calls.{Got, laidOut, readOn, onVerdict, verdict, read}
+use Rattle.rules.specs.Calls.{setUpReader, setUpWriter, Got, laidOut, readOn, onVerdict, verdict, read}
 use Rattle.rules.proofs.Tests.{and-left, and-right}
 use Rattle.rules.proofs.Areas.{length-laid}
 use Rattle.rules.proofs.States.{gap-setting}
 use Rattle.rules.proofs.Calls.{Ruled, verdict-cond, verdict-facts, made-below, read-valid}
-use Rattle.link.specs.Link.{Lent, Arrival, Passage, Kept, Gone, Call, Frame, frameBy, sent, arriving, arrivals, reads}
-use Rattle.link.specs.Demand.{InOrder, enough, allRefused, passes, allPass, framesOf}
-use Rattle.link.specs.Corollaries.{endOf, ends, refusedBy, applying, RefusedOctets, refusedOf, octetsOf, inPlaceOf, inPlaces, KeptAccepted}
+use Rattle.link.specs.Link.{Lent, Arrival, Passage, Kept, Gone, besides, Call, called, Frame, frameBy, sent, arriving, arrivals, reads}
+use Rattle.link.specs.Demand.{lending, InOrder, enough, inert, allInert, passes, allPass, framesOf}
+use Rattle.link.specs.Corollaries.{endOf, ends, refusedBy, applying, RefusedOctets, refusedOf, octetsOf, allBesides, KeptAccepted}
 use Rattle.link.proofs.Received.{enough-areas}
-use Rattle.link.proofs.Run.{State, sender, hearer, frame, afterGone, Ready, ready-gone, Onward, onward}
-use Rattle.link.proofs.Theorem.{fresh, fresh-ready, fresh-ends}
+use Rattle.link.proofs.Uslp.{SoundWriter, back, facts}
+use Rattle.link.proofs.Theorem.{fresh-ends}
 use Rattle.rules.specs.Areas.{heldSize, partSize}
 
 -- ---- one read
@@ -118,20 +118,20 @@ reads-end s (a ∷ more) r h e ok full z =
     (area-stays r (a .octets) h (a .lent) ok full (z .0)) (z .1))
 
 module _ (s : Setting) where
-  -- What stands in a gone frame's place, before what arrives later.
-  strays-sized : (xs more : List Arrival) → allRefused s xs ≡ true → Sized more → Sized (xs ++ more)
-  unfolding allRefused
-  strays-sized [] more q z = z
-  strays-sized (x ∷ xs) more q z =
-      let t = and-left (given (refusals s (x .octets)) ≠? 0 && enough (x .lent)) _ q in
-      (and-right (given (refusals s (x .octets)) ≠? 0) _ t, strays-sized xs more (and-right (given (refusals s (x .octets)) ≠? 0 && enough (x .lent)) _ q) z)
+  -- What arrives besides frames, before what arrives later.
+  inert-sized : (xs more : List Arrival) → allInert s xs ≡ true → Sized more → Sized (xs ++ more)
+  unfolding allInert
+  inert-sized [] more q z = z
+  inert-sized (x ∷ xs) more q z =
+      let t = and-left (inert s (x .octets) && enough (x .lent)) _ q in
+      (and-right (inert s (x .octets)) _ t, inert-sized xs more (and-right (inert s (x .octets) && enough (x .lent)) _ q) z)
 
-  strays-refused : (xs more : List Arrival) → allRefused s xs ≡ true → refusedOf s (xs ++ more) ≡ octetsOf xs ++ refusedOf s more
-  unfolding allRefused refusedOf octetsOf
-  strays-refused [] more q = refl
-  strays-refused (x ∷ xs) more q =
+  inert-refused : (xs more : List Arrival) → allInert s xs ≡ true → refusedOf s (xs ++ more) ≡ octetsOf xs ++ refusedOf s more
+  unfolding inert allInert refusedOf octetsOf
+  inert-refused [] more q = refl
+  inert-refused (x ∷ xs) more q =
       ap₂ _++_ (by (given (refusals s (x .octets)) =? 0) (and-left _ _ (and-left _ _ q)))
-      (strays-refused xs more (and-right (given (refusals s (x .octets)) ≠? 0 && enough (x .lent)) _ q))
+      (inert-refused xs more (and-right (given (refusals s (x .octets)) ≠? 0 && enough (x .lent)) _ q))
     where
       by : (t : Bool) → not t ≡ true → cond t [] (x .octets ∷ []) ≡ x .octets ∷ []
       by true e = absurd (false≢true e)
@@ -143,48 +143,36 @@ module _ (s : Setting) where
   all-sized (f ∷ fs) q = by (f .passage) (and-left _ _ q) (all-sized fs (and-right (passes s (f .passage)) _ q))
     where
       by : (p : Passage) → passes s p ≡ true → Sized (arrivals fs) → Sized (arriving p (f .octets) ++ arrivals fs)
-      by (Kept a) h z = (h, z)
-      by (Gone instead) h z = strays-sized instead (arrivals fs) h z
+      by (Kept a after) h z = (and-left _ _ h, inert-sized after (arrivals fs) (and-right (enough a) _ h) z)
+      by (Gone instead) h z = inert-sized instead (arrivals fs) h z
 
   -- ---- frames that were written
 
-  read-accepted : (f : List ℕ) (l : ℕ) → judge s f ≡ Verdict.Read l → given (refusals s f) ≡ 0
-  unfolding judge
-  read-accepted f l e = go (given (refusals s f)) e
+  written-accepted : (xs : List Call) (w : Writer) (last : ℕ → List ℕ) → SoundWriter s w → InOrder w last xs → allPass s (sent w xs) ≡ true
+      → refusedOf s (arrivals (sent w xs)) ≡ allBesides (sent w xs)
+  unfolding sent arrivals refusedOf allBesides passes allPass frameBy
+  written-accepted [] w last k o p = refl
+  written-accepted (x ∷ xs) w last k o p =
+      by (subst (λ (t : Setting). given (refusals t ((frameBy w x) .octets)) ≡ 0) (k .setting) (back w last x (o .0, o .1) .accepted)) (x .passage)
+      (and-left _ _ p)
+      (written-accepted xs _ (lending (x .lane) (x .batch) last) ((facts s) .sends w last x k (o .0, o .1) .sound) (o .2)
+      (and-right (passes s (x .passage)) _ p))
     where
-      go : (n : ℕ) → judged s f n ≡ Verdict.Read l → n ≡ 0
-      go zero q = refl
-      go (suc n) q = unfold judged in let z : _≡_ {A = ℕ} 0 1 = cc in absurd (omega arith)
+      rest : List Frame
+      rest = sent ((called w x) .sender .state) xs
 
-  written-accepted : (xs : List Call) (st : State) → Ready s st → InOrder (sender s st) (st .last) xs → allPass s (sent (sender s st) xs) ≡ true
-      → refusedOf s (arrivals (sent (sender s st) xs)) ≡ inPlaces (sent (sender s st) xs)
-  unfolding sent arrivals refusedOf inPlaces passes allPass frameBy afterGone
-  written-accepted [] st r o p = refl
-  written-accepted (x ∷ xs) st r o p =
-      let n : Onward s st x xs = onward s st x xs o in
-      let rest : List Frame = sent (sender s (afterGone s st x)) xs in
-      let p′ : (passes s (x .passage) && allPass s rest) ≡ true = subst (λ (fs : List Frame). allPass s fs ≡ true) (n .sends) p in
-      subst (λ (fs : List Frame). refusedOf s (arrivals fs) ≡ inPlaces fs) (sym (n .sends))
-      (by rest (read-accepted ((frame s st x) .octets) (x .lane) (n .first .back .read)) (x .passage) (and-left _ _ p′)
-      (written-accepted xs (afterGone s st x) (ready-gone s st x r) (n .order) (and-right (passes s (x .passage)) _ p′)))
-    where
-      by : (rest : List Frame) → given (refusals s ((frame s st x) .octets)) ≡ 0 → (q : Passage) → passes s q ≡ true
-          → refusedOf s (arrivals rest) ≡ inPlaces rest
-          → refusedOf s (arriving q ((frame s st x) .octets) ++ arrivals rest) ≡ inPlaceOf q ++ inPlaces rest
-      by rest e (Kept a) h i = ap (λ (t : Bool). cond t [] ((frame s st x) .octets ∷ []) ++ refusedOf s (arrivals rest)) (eq-eqb _ 0 e) ∙ i
-      by rest e (Gone instead) h i = strays-refused instead (arrivals rest) h ∙ ap (λ (us : List (List ℕ)). octetsOf instead ++ us) i
+      by : given (refusals s ((frameBy w x) .octets)) ≡ 0 → (q : Passage) → passes s q ≡ true → refusedOf s (arrivals rest) ≡ allBesides rest
+          → refusedOf s (arriving q ((frameBy w x) .octets) ++ arrivals rest) ≡ octetsOf (besides q) ++ allBesides rest
+      by e (Kept a after) h i =
+          ap (λ (t : Bool). cond t [] ((frameBy w x) .octets ∷ []) ++ refusedOf s (after ++ arrivals rest)) (eq-eqb _ 0 e)
+          ∙ inert-refused after (arrivals rest) (and-right (enough a) _ h) ∙ ap (λ (us : List (List ℕ)). octetsOf after ++ us) i
+      by e (Gone instead) h i = inert-refused instead (arrivals rest) h ∙ ap (λ (us : List (List ℕ)). octetsOf instead ++ us) i
 
 pub refused-octets : RefusedOctets
 refused-octets s held xs run =
-    fresh-ends s held
-    (λ (w : Writer) (r : Reader). ends (reads r held (arrivals (framesOf s xs))) ≡ applying s (arrivals (framesOf s xs)))
-    (run .writer)
-    (λ ok.
-    reads-end s (arrivals (framesOf s xs)) (hearer s (fresh held)) held refl (unfold fresh in (fresh-ready s ok held (run .area)) .valid) (run .area)
-    (all-sized s (framesOf s xs) (run .link)))
+    let k = (fresh-ends s held (run .area) (run .writer)) .hearer in
+    reads-end s (arrivals (framesOf s xs)) ((setUpReader s) .state) held (k .setting) (k .valid) (run .area) (all-sized s (framesOf s xs) (run .link))
 
 pub kept-accepted : KeptAccepted
 kept-accepted s held xs run =
-    fresh-ends s held
-    (λ (w : Writer) (r : Reader). InOrder w (λ (l : ℕ). []) xs → allPass s (sent w xs) ≡ true → refusedOf s (arrivals (sent w xs)) ≡ inPlaces (sent w xs))
-    (run .writer) (λ ok. unfold fresh in written-accepted s xs (fresh held) (fresh-ready s ok held (run .area))) (run .calls) (run .link)
+    written-accepted s xs ((setUpWriter s) .state) (λ (l : ℕ). []) ((fresh-ends s held (run .area) (run .writer)) .writer) (run .calls) (run .link)

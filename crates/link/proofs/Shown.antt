@@ -45,8 +45,8 @@ unharmed-out = (
 
 -- After 22 calls of the example run lanes 0 and 1 stand between batches, and no more of their channel is gone.
 pub later-out :
-    (handedOut 0 (readsOf paired held calls) ≡ due paired 0 [] (framesOf paired (take 22 calls)) ++ (d₀ ∷ []))
-    × (handedOut 1 (readsOf paired held calls) ≡ due paired 1 [] (framesOf paired (take 22 calls)) ++ (packet 10 0xF1 ∷ packet 11 0xF2 ∷ []))
+    (handedOut 0 (readsOf paired held calls) ≡ due 0 [] (framesOf paired (take 22 calls)) ++ (d₀ ∷ []))
+    × (handedOut 1 (readsOf paired held calls) ≡ due 1 [] (framesOf paired (take 22 calls)) ++ (packet 10 0xF1 ∷ packet 11 0xF2 ∷ []))
 unfolding all
 later-out = (
   no-more-gone paired held (take 22 calls) (drop 22 calls) meets near 0 refl refl,

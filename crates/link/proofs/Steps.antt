@@ -1,218 +1,140 @@
 -- One call and its frame's passage, as a lane sees them: the lane's invariant is handed on, and what is handed out is due.
 use mathlib.Core.Path.{_≡_, refl, sym, ap, _∙_, subst}
-use mathlib.Core.Logic.{_⊎_}
 use Prim.Native.Nat.{ℕ, _≤_, _<_}
 use native.Mathlib.Omega.{arith}
-use mathlib.Core.Bool.{Bool, true, false, cond}
-use mathlib.Core.List.{List, [], _∷_}
-use lib.ListN.{length, getD, set}
-use lib.Seq.{getD-set-same, getD-set-other}
-use borrow.Author.Tests.{ne-eqb, eq-eqb}
-use Rattle.rules.specs.declared.Setting.{Setting}
+use mathlib.Core.Bool.{Bool, true, false}
+use mathlib.Core.List.{List, _∷_}
+use borrow.Author.Tests.{eq-eqb}
 use Rattle.rules.specs.declared.Expect.{Expect}
-use Rattle.rules.specs.Tests.{_=?_}
-use Rattle.rules.specs.Settings.{noExpect, channel, lane, channelOf, zone}
-use Rattle.rules.specs.Frames.{pointsTo}
-use Rattle.rules.specs.Writing.{frames, zoneOf, ruleOf, pointerOf}
-use Rattle.rules.specs.Reading.{missing, expected, octetsOf, Made, laneStep}
 use Rattle.rules.proofs.Tests.{same}
-use Rattle.rules.specs.Valid.{Good, least}
-use Rattle.rules.proofs.Valid.{good-channelOf}
-use Rattle.rules.proofs.Written.{zone-small}
-use Rattle.link.specs.Link.{Call, Frame, frameBy}
-use Rattle.link.specs.Due.{kept, placeOf, clean, dueIn}
+use Rattle.link.specs.Link.{Frame}
+use Rattle.link.specs.Due.{ending, kept, clean, dueIn}
 use Rattle.link.specs.Demand.{lending, keptOn}
-use Rattle.link.proofs.Invariant.{View, heldAfter, Inv, inv-other, inv-gone, inv-beside, made, units-due, inv-next}
-use Rattle.link.proofs.Received.{holds, gapped, left, length-left, holds-other, holds-gap, stored-here, stored-other, makes}
-use Rattle.link.proofs.Views.{clean-gone, clean-apart, clean-beside, clean-now, clean-before, due-not, due-gone, flags-on, flags-off, view, number-other, batch-other, count-other, count-on}
-use Rattle.link.proofs.Run.{State, frame, countOf, numberOf, afterGone, afterKept, madeOf, Ready, Goes}
+use Rattle.link.proofs.Invariant.{View, Inv, inv-other, inv-gone, inv-beside, units-due, inv-next}
+use Rattle.link.proofs.Ends.{Ends, Sends, start-own, units-own, start-same, units-same, Heard}
+use Rattle.link.proofs.Views.{clean-gone, Safe, safe-kept, safe-apart, clean-other, clean-now, clean-before, due-not, flags-on, flags-off}
 
--- ---- what is known of a lane
+-- What is known of a view is known of its parts.
+moved : {n : ℕ} {whole : ℕ → Bool} {flags : List Bool} {a a′ b b′ : ℕ} {c c′ : Expect} {d d′ : List ℕ} {e e′ : List (List ℕ)}
+    → a′ ≡ a → b′ ≡ b → c′ ≡ c → d′ ≡ d → e′ ≡ e
+    → Inv n (record { start = a; count = b; expect = c; hold = d; units = e }) whole flags
+    → Inv n (record { start = a′; count = b′; expect = c′; hold = d′; units = e′ }) whole flags
+moved {n} {whole} {flags} p q r t u i =
+    subst (λ (v : View). Inv n v whole flags)
+    (λ y. record { start = (sym p) y; count = (sym q) y; expect = (sym r) y; hold = (sym t) y; units = (sym u) y }) i
 
-module _ (s : Setting) (g : Good s) (l : ℕ) (lh : l < s .numbered) where
-  pub zone-some : 0 < zone s (channelOf s l)
-  zone-some = good-channelOf g l lh .room
+module _ (E : Ends) where
+  -- ---- what is known of a lane
 
-  pub zone-few : zone s (channelOf s l) ≤ 4096
-  zone-few = zone-small s g (channelOf s l)
+  -- Lane l's view of both ends, with the batches that lanes last lent.
+  abbrev pub view : ℕ → E .Writer → E .Hearer → (ℕ → List ℕ) → View
+  view l w r last =
+      record { start = E .start w l (last l); count = E .count w l; expect = E .expect r l; hold = E .held r l; units = E .units l (last l) }
 
-  pub long : least ((lane s l) .kind) ≤ (lane s l) .longest
-  long = g .lanes l lh .kind .enough
+  -- The invariant, after the frames of the past and with those that are to come.
+  abbrev pub Knows : ℕ → E .Writer → E .Hearer → (ℕ → List ℕ) → List Frame → List Frame → Type 0
+  Knows l w r last past rest = Inv (E .octets l) (view l w r last) (clean l (E .channel l) past) (keptOn (E .channel l) rest)
 
-  abbrev pub Known : View → (ℕ → Bool) → List Bool → Type 0
-  Known v whole flags = Inv ((lane s l) .kind) ((lane s l) .longest) (zone s (channelOf s l)) ((channelOf s l) .octets) zone-some zone-few long v whole flags
+  -- ---- a call that lends b and writes f, after which the writer is w′
 
-  -- The invariant, of lane l's view of a state, with the frames that are to come.
-  unfoldable pub Knows : State → List Frame → Type 0
-  Knows st rest = Known (view s l st) (clean s l (st .past)) (keptOn s (placeOf s l) rest)
+  module _ (w : E .Writer) (r : E .Hearer) (last : ℕ → List ℕ) (b : List ℕ) (f : Frame) (w′ : E .Writer) (k : Sends E w last b f w′)
+      (past rest : List Frame) where
+    abbrev last′ : ℕ → List ℕ
+    last′ = lending (f .lane) b last
 
-  pub channel-8 : placeOf s l < 8
-  channel-8 = omega (arith, g .lanes l lh .channel, g .listed)
+    module _ (l : ℕ) where
+      abbrev c : ℕ
+      c = E .channel l
 
-  -- A view by its parts.
-  parts : (a a′ b b′ : ℕ) (c c′ : Expect) (d d′ e e′ : List ℕ) → a ≡ a′ → b ≡ b′ → c ≡ c′ → d ≡ d′ → e ≡ e′
-      → _≡_ {A = View} (record { number = a; count = b; expect = c; hold = d; batch = e })
-      (record { number = a′; count = b′; expect = c′; hold = d′; batch = e′ })
-  parts a a′ b b′ c c′ d d′ e e′ p q r t u = λ y. record { number = p y; count = q y; expect = r y; hold = t y; batch = u y }
+      abbrev whole : ℕ → Bool
+      whole = clean l c past
 
-  -- ---- the frame is gone
+      abbrev whole′ : ℕ → Bool
+      whole′ = clean l c (f ∷ past)
 
-  pub if-gone : (st : State) (x : Call) (rest : List Frame) → Ready s st → Goes s st x → kept (x .passage) ≡ false → Knows st (frame s st x ∷ rest)
-      → (dueIn s l (frame s st x) (st .past) ≡ []) × Knows (afterGone s st x) rest
-  unfolding Knows frameBy view afterGone
-  if-gone st x rest r c q k =
-      same (placeOf s (x .lane)) (placeOf s l)
-      (λ e. (
-        due-gone s l (frame s st x) (st .past) e q,
-        subst (λ (v : View). Known v (clean s l (frame s st x ∷ st .past)) (keptOn s (placeOf s l) rest))
-            (parts _ _ _ _ _ _ _ _ _ _ refl (sym (count-on s l st x e (omega (arith, r .counts-8, channel-8)))) refl refl refl)
-            (inv-gone _ _ _ _ _ _ _ (view s l st) (clean s l (st .past)) (clean s l (frame s st x ∷ st .past)) (keptOn s (placeOf s l) rest) _ _
-            (clean-gone s l (frame s st x) (st .past) e q)
-            (subst (Known (view s l st) (clean s l (st .past))) (flags-on s l (frame s st x) rest false e q) k)),
-      ))
-      (λ n.
-      let m : x .lane ≡ l → ⊥ = λ e. n (ap (placeOf s) e) in (
-        due-not s l (frame s st x) (st .past) m,
-        subst (λ (v : View). Known v (clean s l (frame s st x ∷ st .past)) (keptOn s (placeOf s l) rest))
-            (parts _ _ _ _ _ _ _ _ _ _ (sym (number-other s l st x m)) (sym (count-other s l st x n)) refl refl (sym (batch-other s l st x m)))
-            (inv-other _ _ _ _ _ _ _ (view s l st) (clean s l (st .past)) (clean s l (frame s st x ∷ st .past)) (keptOn s (placeOf s l) rest)
-            (clean-apart s l (frame s st x) (st .past) n)
-            (subst (Known (view s l st) (clean s l (st .past))) (flags-off s l (frame s st x) rest n) k)),
-      ))
+      abbrev flags : List Bool
+      flags = keptOn c rest
 
-  -- ---- the frame is kept, and is another lane's
+      -- A lane of another channel is another lane.
+      apart : (f .channel ≡ c → ⊥) → f .lane ≡ l → ⊥
+      apart n e = n (k .channel ∙ ap (E .channel) e)
 
-  module _ (st : State) (x : Call) (r : Ready s st) (c : Goes s st x) (small : length ((madeOf s st x) .held) ≤ 8192) where
-    abbrev theirs : ℕ
-    theirs = x .lane
+      pub if-gone : l < E .lanes → kept (f .passage) ≡ false → Knows l w r last past (f ∷ rest) → Knows l w′ r last′ (f ∷ past) rest
+      if-gone lh q i =
+          same (f .channel) c
+          (λ e.
+          moved refl (k .count-on l lh e) refl refl refl
+          (inv-gone _ (view l w r last) whole whole′ flags (E .start w′ l (last′ l)) (E .units l (last′ l)) (clean-gone l c f past e q)
+          (subst (Inv (E .octets l) (view l w r last) whole) (flags-on c f rest false e q) i)))
+          (λ n.
+          moved (start-same E w last b f w′ k l (apart n)) (k .count-other l n) refl refl (units-same E w last b f w′ k l (apart n))
+          (inv-other _ (view l w r last) whole whole′ flags (clean-other l c f past (safe-apart l c f past n) (apart n))
+          (subst (Inv (E .octets l) (view l w r last) whole) (flags-off c f rest n) i)))
 
-    lane-8 : theirs < 8
-    lane-8 = omega (arith, c .takes .numbered, g .numbered)
+    -- ---- the frame is kept, and the reader after its read is r′
 
-    -- What is held once the frame's count is taken.
-    abbrev gap : List ℕ
-    gap = gapped s (st .expects) (st .held) theirs (countOf s st x)
+    module _ (r′ : E .Hearer) (out : ℕ → List (List ℕ)) (h : Heard E w r f r′ out) (q : kept (f .passage) ≡ true) where
+      -- It is another lane's.
+      if-other : (l : ℕ) → l < E .lanes → (f .lane ≡ l → ⊥) → Knows l w r last past (f ∷ rest) → Knows l w′ r′ last′ (f ∷ past) rest
+      if-other l lh n i =
+          same (f .channel) (c l)
+          (λ e.
+          moved (start-same E w last b f w′ k l n) (k .count-on l lh e) (h .expect-on l lh e) (h .held-beside l lh e n)
+          (units-same E w last b f w′ k l n)
+          (inv-beside _ (view l w r last) (whole l) (flags l)
+          (subst (Inv (E .octets l) (view l w r last) (whole l)) (flags-on (c l) f rest true e q) i) (whole′ l)
+          (clean-other l (c l) f past (safe-kept l (c l) f past q) n)))
+          (λ e.
+          moved (start-same E w last b f w′ k l n) (k .count-other l e) (h .expect-other l e) (h .held-other l lh e n)
+          (units-same E w last b f w′ k l n)
+          (inv-other _ (view l w r last) (whole l) (whole′ l) (flags l) (clean-other l (c l) f past (safe-kept l (c l) f past q) n)
+          (subst (Inv (E .octets l) (view l w r last) (whole l)) (flags-off (c l) f rest e) i)))
 
-    hold-other : (theirs ≡ l → ⊥) → holds ((afterKept s st x) .held) ((afterKept s st x) .area) l ≡ holds gap (st .area) l
-    unfolding afterKept
-    hold-other n = stored-other gap (st .area) ((madeOf s st x) .held) theirs lane-8 (length-left s _ _ (st .held) ∙ r .held-8) (r .full) small l
-        (λ e. n (sym e))
+      -- It is the lane's own.
+      module _ (i : Knows (f .lane) w r last past (f ∷ rest)) where
+        abbrev own : ℕ
+        own = f .lane
 
-    gap-on : placeOf s theirs ≡ placeOf s l
-        → holds gap (st .area) l ≡ heldAfter ((channelOf s l) .octets) ((view s l st) .expect) ((view s l st) .count) ((view s l st) .hold)
-    unfolding view heldAfter
-    gap-on e =
-        ap (λ (d : ℕ). holds (left s d (missing ((channel s d) .octets) (getD (st .expects) d noExpect) (getD (st .counts) d 0)) (st .held)) (st .area) l) e
-        ∙ holds-gap s g l lh _ (st .held) (st .area)
+        abbrev v : View
+        v = record { start = f .start; count = E .count w own; expect = E .expect r own; hold = E .held r own; units = E .units own (last own) }
 
-    expect-on : placeOf s theirs ≡ placeOf s l
-        → getD ((afterKept s st x) .expects) (placeOf s l) noExpect ≡ expected ((channelOf s l) .octets) ((view s l st) .count)
-    unfolding view afterKept
-    expect-on e =
-        ap (λ (d : ℕ). getD (set (st .expects) d (expected ((channel s d) .octets) (getD (st .counts) d 0))) (placeOf s l) noExpect) e
-        ∙ getD-set-same (st .expects) (placeOf s l) _ noExpect (omega (arith, r .expects-8, channel-8))
+        known : Inv (E .octets own) v (whole own) (true ∷ flags own)
+        known =
+            subst (Inv (E .octets own) v (whole own)) (flags-on (c own) f rest true (k .channel) q) (moved (sym (k .starts)) refl refl refl refl i)
 
-    if-other : (rest : List Frame) → kept (x .passage) ≡ true → (theirs ≡ l → ⊥) → Knows st (frame s st x ∷ rest) → Knows (afterKept s st x) rest
-    unfolding Knows frameBy view afterKept afterGone
-    if-other rest q n k =
-        same (placeOf s theirs) (placeOf s l)
-        (λ e.
-        subst (λ (v : View). Known v (clean s l (frame s st x ∷ st .past)) (keptOn s (placeOf s l) rest))
-        (parts _ _ _ _ _ _ _ _ _ _ (sym (number-other s l st x n)) (sym (count-on s l st x e (omega (arith, r .counts-8, channel-8)))) (sym (expect-on e))
-        (sym (hold-other n ∙ gap-on e)) (sym (batch-other s l st x n)))
-        (inv-beside _ _ _ _ _ _ _ (view s l st) (clean s l (st .past)) (keptOn s (placeOf s l) rest)
-        (subst (Known (view s l st) (clean s l (st .past))) (flags-on s l (frame s st x) rest true e q) k) (clean s l (frame s st x ∷ st .past))
-        (clean-beside s l (frame s st x) (st .past) e q n)))
-        (λ e.
-        subst (λ (v : View). Known v (clean s l (frame s st x ∷ st .past)) (keptOn s (placeOf s l) rest))
-        (parts _ _ _ _ _ _ _ _ _ _ (sym (number-other s l st x n)) (sym (count-other s l st x e))
-        (sym (getD-set-other (st .expects) (placeOf s theirs) (placeOf s l) _ noExpect (λ p. e (sym p))))
-        (sym (hold-other n ∙ holds-other s g l lh (placeOf s theirs) _ (st .held) (st .area) (λ p. e (sym p)))) (sym (batch-other s l st x n)))
-        (inv-other _ _ _ _ _ _ _ (view s l st) (clean s l (st .past)) (clean s l (frame s st x ∷ st .past)) (keptOn s (placeOf s l) rest)
-        (clean-apart s l (frame s st x) (st .past) e)
-        (subst (Known (view s l st) (clean s l (st .past))) (flags-off s l (frame s st x) rest e) k)))
+        safe : Safe own (c own) f past
+        safe = safe-kept own (c own) f past q
 
--- ---- the frame is kept, and is the lane's own
+        on : f .start ≤ f .stop
+        on = omega (arith, k .some)
 
-module _ (s : Setting) (g : Good s) (st : State) (x : Call) (r : Ready s st) (c : Goes s st x) (small : length ((madeOf s st x) .held) ≤ 8192)
-    (rest : List Frame) (q : kept (x .passage) ≡ true) (lh : x .lane < s .numbered) (k : Knows s g (x .lane) lh st (frame s st x ∷ rest)) where
-  abbrev own : ℕ
-  own = x .lane
+        now : (a : ℕ) → f .start ≤ a → whole′ own a ≡ true
+        now a = clean-now own (c own) f past safe refl a
 
-  abbrev flags : List Bool
-  flags = keptOn s (placeOf s own) rest
+        else : (a : ℕ) → a < f .start → whole′ own a ≡ whole own a
+        else a = clean-before own (c own) f past safe refl a
 
-  abbrev whole : ℕ → Bool
-  whole = clean s own (frame s st x ∷ st .past)
+        own-due : out own ≡ dueIn own f past
+        unfolding dueIn
+        own-due =
+            units-due _ v (whole own) (flags own) known (f .units) (k .turn) (f .stop) on _ (h .delivers) (whole′ own) now else
+            ∙ ap (λ (d : ℕ). ending (f .start) (f .stop) (clean own d (f ∷ past)) 0 (f .units)) (sym (k .channel))
+            ∙ sym (rw (eq-eqb own own refl))
 
-  known : Known s g own lh (view s own st) (clean s own (st .past)) (true ∷ flags)
-  unfolding Knows frameBy
-  known = subst (Known s g own lh (view s own st) (clean s own (st .past))) (flags-on s own (frame s st x) rest true refl q) k
+        own-next : Knows own w′ r′ last′ (f ∷ past) rest
+        own-next =
+            moved (start-own E w last b f w′ k) (k .count-on own (k .lane) (k .channel)) (h .expect-on own (k .lane) (k .channel)) refl
+            (units-own E w last b f w′ k)
+            (inv-next _ v (whole own) (flags own) known (f .units) (k .turn) (f .stop) on _ (h .delivers) (whole′ own) now else (E .start w′ own b)
+            (k .follows))
 
-  now : whole ((view s own st) .number) ≡ true
-  unfolding view frameBy
-  now = clean-now s own (frame s st x) (st .past) refl q _ refl
-
-  else : (i : ℕ) → (i ≡ (view s own st) .number → ⊥) → whole i ≡ clean s own (st .past) i
-  unfolding view frameBy
-  else i n = clean-before s own (frame s st x) (st .past) refl q i (λ e. n (sym e))
-
-  in-turn : ((view s own st) .number ≡ 0) ⊎ (x .batch ≡ (view s own st) .batch)
-  unfolding view
-  in-turn = c .turn
-
-  in-batch : (view s own st) .number < frames (zone s (channelOf s own)) (x .batch)
-  unfolding view
-  in-batch = c .takes .below
-
-  did : Made
-  did = made _ _ _ _ _ _ _ (view s own st) (clean s own (st .past)) flags known (x .batch) (c .takes .batch) in-turn in-batch whole now else
-
-  did-is : madeOf s st x ≡ did
-  unfolding did madeOf made makes view heldAfter
-  did-is =
-      ap (λ (h : List ℕ).
-      laneStep ((lane s own) .kind) ((lane s own) .longest) (ruleOf ((lane s own) .kind) (numberOf s st x)) h
-      (pointsTo (pointerOf ((lane s own) .kind) (zone s (channelOf s own)) (x .batch) (numberOf s st x)))
-      (zoneOf ((lane s own) .kind) (zone s (channelOf s own)) (x .batch) (numberOf s st x)))
-      (gap-on s g own lh st x r c small refl)
-
-  own-due : cond (own =? own) (octetsOf ((madeOf s st x) .units)) [] ≡ dueIn s own (frame s st x) (st .past)
-  unfolding dueIn frameBy view did
-  own-due =
-      rw (eq-eqb own own refl)
-      (ap (λ (m : Made). octetsOf (m .units)) did-is
-      ∙ units-due _ _ _ _ _ _ _ (view s own st) (clean s own (st .past)) flags known (x .batch) (c .takes .batch) in-turn in-batch whole now else)
-
-  own-next : Knows s g own lh (afterKept s st x) rest
-  unfolding Knows frameBy view afterKept afterGone did lending
-  own-next =
-      subst (λ (v : View). Known s g own lh v whole flags)
-      (parts s g own lh _ _ _ _ _ _ _ _ _ _ (sym (getD-set-same (st .next) own _ 0 (omega (arith, r .next-8, lane-8 s g own lh st x r c small))))
-      (sym (count-on s own st x refl (omega (arith, r .counts-8, channel-8 s g own lh)))) (sym (expect-on s g own lh st x r c small refl))
-      (ap (λ (m : Made). m .held) (sym did-is)
-      ∙ sym (stored-here (gap s g own lh st x r c small) (st .area) ((madeOf s st x) .held) own (lane-8 s g own lh st x r c small)
-      (length-left s _ _ (st .held) ∙ r .held-8) (r .full) small))
-      (sym (ap (λ (t : Bool). cond t (x .batch) (st .last own)) (eq-eqb own own refl))))
-      (inv-next _ _ _ _ _ _ _ (view s own st) (clean s own (st .past)) flags known (x .batch) (c .takes .batch) in-turn in-batch whole now else)
-
--- ---- the frame is kept, whosever it is
-
-module _ (s : Setting) (g : Good s) (l : ℕ) where
-  -- Another lane's frame hands out nothing on lane l, and nothing is due.
-  pub none-other : (st : State) (x : Call) → (x .lane ≡ l → ⊥)
-      → cond (x .lane =? l) (octetsOf ((madeOf s st x) .units)) [] ≡ dueIn s l (frame s st x) (st .past)
-  unfolding frameBy
-  none-other st x n = ap (λ (t : Bool). cond t (octetsOf ((madeOf s st x) .units)) []) (ne-eqb (x .lane) l n) ∙ sym (due-not s l (frame s st x) (st .past) n)
-
-  pub if-kept : (lh : l < s .numbered) (st : State) (x : Call) (rest : List Frame) → Ready s st → Goes s st x → length ((madeOf s st x) .held) ≤ 8192
-      → kept (x .passage) ≡ true → Knows s g l lh st (frame s st x ∷ rest)
-      → (cond (x .lane =? l) (octetsOf ((madeOf s st x) .units)) [] ≡ dueIn s l (frame s st x) (st .past)) × Knows s g l lh (afterKept s st x) rest
-  if-kept lh st x rest r c small q k =
-      same (x .lane) l
-      (λ e.
-      subst
-      (λ (i : ℕ). (h : i < s .numbered) → Knows s g i h st (frame s st x ∷ rest)
-      → (cond (x .lane =? i) (octetsOf ((madeOf s st x) .units)) [] ≡ dueIn s i (frame s st x) (st .past)) × Knows s g i h (afterKept s st x) rest)
-      e (λ h k. (own-due s g st x r c small rest q h k, own-next s g st x r c small rest q h k)) lh k)
-      (λ n. (none-other st x n, if-other s g l lh st x r c small rest q n k))
+      -- Whosever it is: what is handed out on lane l, which may be none, is due.
+      pub if-kept : (l : ℕ) → (l < E .lanes → Knows l w r last past (f ∷ rest))
+          → (out l ≡ dueIn l f past) × (l < E .lanes → Knows l w′ r′ last′ (f ∷ past) rest)
+      if-kept l i =
+          same (f .lane) l
+          (λ e.
+          subst (λ (l : ℕ). (l < E .lanes → Knows l w r last past (f ∷ rest))
+          → (out l ≡ dueIn l f past) × (l < E .lanes → Knows l w′ r′ last′ (f ∷ past) rest)) e
+          (λ i. (own-due (i (k .lane)), λ lh. own-next (i (k .lane)))) i)
+          (λ n. (h .none l n ∙ sym (due-not l f past n), λ lh. if-other l lh n (i lh)))

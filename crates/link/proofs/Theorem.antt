@@ -1,83 +1,68 @@
--- Demand 3. For a lane, what both ends know of it is its invariant; for a number that is no lane there is nothing to know.
+-- Demand 3: what is shown of any pair of ends, of USLP's calls from fresh ends.
 use mathlib.Core.Path.{_≡_, refl, sym, ap, _∙_, subst}
 use Prim.Native.Nat.{ℕ, _*_, _^_, _<_}
-use native.Mathlib.Nat.{not-suc-le-zero, zero-add}
+use native.Mathlib.Nat.{zero-mul}
 use native.Mathlib.Omega.{arith}
-use mathlib.Core.Bool.{Bool, true, false, cond, false≢true}
-use mathlib.Core.List.{List, []}
-use lib.ListN.{length, getD, take, replicate, getD-replicate}
+use mathlib.Core.Bool.{Bool, true, false, cond, _&&_}
+use mathlib.Core.List.{List, [], _∷_, _++_}
+use lib.ListN.{length, getD, take, replicate, getD-replicate, length-replicate, List·getD-eq-default}
 use Rattle.rules.specs.declared.Setting.{Setting}
+use Rattle.rules.specs.declared.Slot.{Slot}
 use Rattle.rules.specs.declared.Expect.{Expect}
-use Rattle.rules.specs.declared.Reader.{Reader}
 use Rattle.rules.specs.declared.Writer.{Writer}
 use Rattle.rules.specs.declared.Listener.{Listener}
 use Rattle.rules.specs.declared.Sender.{Sender}
 use Rattle.rules.specs.declared.Outcome.the-variants.{Done, Refused}
 use Rattle.rules.specs.Areas.{part, heldSize}
-use Rattle.rules.specs.Settings.{noExpect, channel, lane, channelOf, zone, settingOk, freshReader, freshWriter, noWriter}
-use Rattle.rules.specs.Writing.{unitsOf}
+use Rattle.rules.specs.Settings.{noExpect, noSlot, channelOf, zone, settingOk, freshReader, freshWriter, noWriter}
 use Rattle.rules.specs.Calls.{setUpReader, setUpWriter}
-use Rattle.rules.proofs.Tests.{split}
+use Rattle.rules.proofs.Tests.{split, and-left, and-right}
 use Rattle.rules.proofs.Octets.{pow256-pos}
-use Rattle.rules.specs.Valid.{Good}
 use Rattle.rules.proofs.Valid.{good}
 use Rattle.rules.proofs.States.{fresh-reader}
 use Rattle.rules.proofs.Calls.{setup-accepted}
-use Rattle.link.specs.Link.{Call, Frame, frameBy, sent, arrivals, reads, handedOut}
-use Rattle.link.specs.Due.{placeOf, due}
-use Rattle.link.specs.Demand.{InOrder, allPass, keptOn, fewGone, Demand}
-use Rattle.link.proofs.Spans.{heldFrom, held-none}
-use Rattle.link.proofs.Views.{due-not, view}
-use Rattle.link.proofs.Run.{State, sender, hearer, frame, Ready, Goes, run}
-use Rattle.link.proofs.Steps.{zone-some, Knows, channel-8, if-gone, none-other, if-kept}
+use Rattle.link.specs.Link.{Arrival, Passage, Kept, Gone, Call, Frame, placeOf, frameBy, sent, arrivals, reads, handedOut}
+use Rattle.link.specs.Due.{due}
+use Rattle.link.specs.Demand.{lending, InOrder, enough, inert, allInert, passes, allPass, keptOn, fewGone, Demand}
+use Rattle.link.proofs.Ends.{Fresh}
+use Rattle.link.proofs.Run.{wrote, hearing, AllInert, Passes, Runs, from-fresh}
+use Rattle.link.proofs.Uslp.{Hearer, uslp, channel-8, facts}
+
+-- ---- a run of USLP's ends is a run
+
+module _ (s : Setting) where
+  pub wrote-sent : (xs : List Call) (w : Writer) → wrote (uslp s) w xs ≡ sent w xs
+  unfolding wrote sent
+  wrote-sent [] w = refl
+  wrote-sent (x ∷ xs) w = ap (λ (fs : List Frame). frameBy w x ∷ fs) (wrote-sent xs _)
+
+  hearing-reads : (l : ℕ) (xs : List Arrival) (r : Hearer) → hearing (uslp s) l r xs ≡ handedOut l (reads (r .reader) (r .area) xs)
+  unfolding hearing reads handedOut
+  hearing-reads l [] r = refl
+  hearing-reads l (a ∷ more) r = ap (λ (us : List (List ℕ)). (uslp s) .hands r a l ++ us) (hearing-reads l more _)
+
+  all-inert : (r : Hearer) (xs : List Arrival) → allInert s xs ≡ true → AllInert (uslp s) r xs
+  unfolding allInert
+  all-inert r [] q = tt
+  all-inert r (a ∷ more) q = (and-left _ _ (and-left _ _ q), all-inert r more (and-right (inert s (a .octets) && enough (a .lent)) _ q))
+
+  all-passes : (r : Hearer) (f : Frame) (p : Passage) → passes s p ≡ true → Passes (uslp s) r f p
+  unfolding passes
+  all-passes r f (Kept lent after) q = (and-left _ _ q, all-inert _ after (and-right (enough lent) _ q))
+  all-passes r f (Gone instead) q = all-inert r instead q
+
+  pub runs : (xs : List Call) (w : Writer) (r : Hearer) (last : ℕ → List ℕ) → InOrder w last xs → allPass s (sent w xs) ≡ true → Runs (uslp s) w r last xs
+  unfolding sent allPass frameBy
+  runs [] w r last o q = tt
+  runs (x ∷ xs) w r last o q = (
+    (o .0, o .1),
+    all-passes r (frameBy w x) (x .passage) (and-left _ _ q),
+    runs xs _ _ (lending (x .lane) (x .batch) last) (o .2) (and-right (passes s (x .passage)) _ q),
+  )
 
 -- ---- fresh ends
 
-unfoldable pub fresh : List ℕ → State
-fresh h =
-    record {
-      counts = replicate 8 0;
-      next = replicate 8 0;
-      expects = replicate 8 noExpect;
-      held = replicate 8 0;
-      area = h;
-      last = λ (l : ℕ). [];
-      past = [];
-    }
-
-module _ (s : Setting) (ok : settingOk s ≡ true) (h : List ℕ) (full : length h ≡ heldSize) where
-  pub fresh-ready : Ready s (fresh h)
-  unfolding fresh freshReader
-  fresh-ready =
-      record { counts-8 = refl; next-8 = refl; expects-8 = refl; held-8 = refl; full = full; valid = fresh-reader s ok }
-
-  fresh-knows : (l : ℕ) (lh : l < s .numbered) (fs : List Frame)
-      → fewGone (256 ^ (channelOf s l) .octets) false 0 (keptOn s (placeOf s l) fs) ≡ true → Knows s (good s ok) l lh (fresh h) fs
-  unfolding Knows fresh view
-  fresh-knows l lh fs few =
-      let n : _≡_ {A = ℕ} (getD (replicate 8 0) l 0) 0 = getD-replicate {A = ℕ} 8 l 0 0 (omega (arith, good s ok .numbered)) in
-      let e : getD (replicate 8 noExpect) (placeOf s l) noExpect ≡ noExpect = getD-replicate 8 (placeOf s l) noExpect noExpect (channel-8 s (good s ok) l lh) in
-      let z : 0 < zone s (channelOf s l) = zone-some s (good s ok) l lh in
-      record {
-        j = 0;
-        gone = 0;
-        any = false;
-        since = omega arith;
-        wholly = λ i b. absurd (not-suc-le-zero (rw n at b));
-        known = ap (λ (x : Expect). x .known) e;
-        below = rw e (pow256-pos ((channelOf s l) .octets));
-        count = λ a. absurd (false≢true a);
-        held = λ a. ap (λ (i : ℕ). take i (part l h)) n
-            ∙ sym (ap (λ (i : ℕ). heldFrom (zone s (channelOf s l)) 0 0 (i * zone s (channelOf s l)) (unitsOf ((lane s l) .kind) [])) n
-            ∙ held-none (zone s (channelOf s l)) z 0 0 _ (unitsOf ((lane s l) .kind) []) (zero-add _));
-        fresh = λ a. ap (λ (i : ℕ). take i (part l h)) n;
-        lost = λ b. absurd (b refl);
-        few = few;
-      }
-
--- ---- demand 3
-
-pub writer-accepted : (s : Setting) → (setUpWriter s) .outcome ≡ Done → settingOk s ≡ true
+writer-accepted : (s : Setting) → (setUpWriter s) .outcome ≡ Done → settingOk s ≡ true
 unfolding setUpWriter
 writer-accepted s e = go (settingOk s) e
   where
@@ -86,35 +71,46 @@ writer-accepted s e = go (settingOk s) e
     go true q = refl
     go false q = let z : _≡_ {A = ℕ} 0 1 = cc in absurd (omega arith)
 
--- What is shown of two fresh ends holds of those that set-up leaves.
-pub fresh-ends : (s : Setting) (h : List ℕ) (P : Writer → Reader → Type 0) → (setUpWriter s) .outcome ≡ Done
-    → (settingOk s ≡ true → P (sender s (fresh h)) (hearer s (fresh h))) → P ((setUpWriter s) .state) ((setUpReader s) .state)
-unfolding fresh freshReader freshWriter
-fresh-ends s h P e f =
-    let ok : settingOk s ≡ true = writer-accepted s e in
-    subst (λ (w : Writer). P w ((setUpReader s) .state)) (sym (ap (λ (o : Sender). o .state) (setup-accepted s ok .1)))
-    (subst (P (freshWriter s)) (sym (ap (λ (o : Listener). o .state) (setup-accepted s ok .0))) (f ok))
+zeros : (n l : ℕ) → _≡_ {A = ℕ} (getD (replicate n 0) l 0) 0
+zeros n l = split n l (λ b. List·getD-eq-default (replicate n 0) 0 (rw length-replicate b)) (λ b. getD-replicate {A = ℕ} n l 0 0 b)
 
--- The demand of these two ends.
-abbrev DemandOf : Setting → List ℕ → List Call → ℕ → Writer → Reader → Type 0
-DemandOf s h xs l w r =
-    InOrder w (λ (l : ℕ). []) xs → allPass s (sent w xs) ≡ true
-    → ((c : ℕ) → c < s .listed → fewGone (256 ^ (channel s c) .octets) false 0 (keptOn s c (sent w xs)) ≡ true)
-    → handedOut l (reads r h (arrivals (sent w xs))) ≡ due s l [] (sent w xs)
+module _ (s : Setting) (h : List ℕ) (full : length h ≡ heldSize) where
+  fresh : settingOk s ≡ true → Fresh (uslp s) (freshWriter s) (record { reader = freshReader s; area = h })
+  unfolding freshWriter freshReader
+  fresh ok =
+      record {
+        writer = record { setting = refl; counts = refl; next = refl };
+        hearer = record { setting = refl; expects = refl; slots = refl; area = full; valid = fresh-reader s ok };
+        start = λ l b. ap (λ (i : ℕ). i * zone s (channelOf s l)) (zeros 8 l) ∙ zero-mul _;
+        unknown = λ l lh. ap (λ (x : Expect). x .known) (none l lh);
+        below = λ l lh. rw (none l lh) (pow256-pos ((channelOf s l) .octets));
+        held = λ l lh. ap (λ (x : Slot). take (x .held) (part l h)) (empty l lh);
+      }
+    where
+      none : (l : ℕ) → l < s .numbered → getD (replicate 8 noExpect) (placeOf s l) noExpect ≡ noExpect
+      none l lh = getD-replicate 8 (placeOf s l) noExpect noExpect (channel-8 s (good s ok) l lh)
 
-from-fresh : (s : Setting) (h : List ℕ) (xs : List Call) → settingOk s ≡ true → length h ≡ heldSize → (l : ℕ)
-    → DemandOf s h xs l (sender s (fresh h)) (hearer s (fresh h))
-unfolding fresh frameBy
-from-fresh s h xs ok full l order pass near =
-    let g : Good s = good s ok in
-    split (s .numbered) l
-    (λ b.
-    let n : (st : State) (x : Call) → Goes s st x → x .lane ≡ l → ⊥ = λ st x c e. omega (arith, c .takes .numbered) in
-    run s g l (λ (st : State) (fs : List Frame). Unit {0}) (λ st x rest r c q k. (due-not s l (frame s st x) (st .past) (n st x c), tt))
-    (λ st x rest r c small q k. (none-other s g l st x (n st x c), tt)) xs (fresh h) (fresh-ready s ok h full) order pass tt)
-    (λ b.
-    run s g l (Knows s g l b) (if-gone s g l b) (if-kept s g l b) xs (fresh h) (fresh-ready s ok h full) order pass
-    (fresh-knows s ok h full l b (sent (sender s (fresh h)) xs) (near (placeOf s l) (g .lanes l b .channel))))
+      empty : (l : ℕ) → l < s .numbered → getD (replicate 8 noSlot) l noSlot ≡ noSlot
+      empty l lh = getD-replicate 8 l noSlot noSlot (omega (arith, good s ok .numbered))
+
+  -- Those that set-up leaves.
+  pub fresh-ends : (setUpWriter s) .outcome ≡ Done → Fresh (uslp s) ((setUpWriter s) .state) (record { reader = (setUpReader s) .state; area = h })
+  fresh-ends e =
+      let ok : settingOk s ≡ true = writer-accepted s e in
+      let both = setup-accepted s ok in
+      subst (λ (o : Sender). Fresh (uslp s) (o .state) (record { reader = (setUpReader s) .state; area = h })) (sym (both .1))
+      (subst (λ (o : Listener). Fresh (uslp s) (freshWriter s) (record { reader = o .state; area = h })) (sym (both .0)) (fresh ok))
+
+-- ---- demand 3
 
 pub demand : Demand
-demand s h xs d near l = fresh-ends s h (DemandOf s h xs l) (d .writer) (λ ok. from-fresh s h xs ok (d .area) l) (d .calls) (d .link) near
+demand s h xs d near l =
+    let w : Writer = (setUpWriter s) .state in
+    let r : Hearer = record { reader = (setUpReader s) .state; area = h } in
+    let ok : settingOk s ≡ true = writer-accepted s (d .writer) in
+    subst (λ (fs : List Frame). handedOut l (reads (r .reader) h (arrivals fs)) ≡ due l [] fs) (wrote-sent s xs w)
+    (sym (hearing-reads s l _ r)
+    ∙ from-fresh (uslp s) (facts s) l xs w r (λ (l : ℕ). []) (fresh-ends s h (d .area) (d .writer)) (runs s xs w r _ (d .calls) (d .link))
+    (λ lh.
+    subst (λ (fs : List Frame). fewGone (256 ^ (channelOf s l) .octets) false 0 (keptOn (placeOf s l) fs) ≡ true) (sym (wrote-sent s xs w))
+    (near (placeOf s l) (good s ok .lanes l lh .channel))))

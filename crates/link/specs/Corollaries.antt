@@ -10,33 +10,31 @@ use Rattle.rules.specs.declared.Outcome.{Outcome}
 use Rattle.rules.specs.declared.Outcome.the-variants.{Done, Refused}
 use Rattle.rules.specs.declared.Class.{Class}
 use Rattle.rules.specs.Tests.{_=?_, given}
-use Rattle.rules.specs.Settings.{lane, channelOf, number, zone}
-use Rattle.rules.specs.Writing.{unitsOf}
+use Rattle.rules.specs.Settings.{number}
 use Rattle.rules.specs.Refusals.{refusals}
 use Rattle.rules.specs.Calls.{Got, setUpWriter}
-use Rattle.link.specs.Link.{Arrival, Passage, Kept, Gone, Call, called, Frame, sent, arrivals, handedOut}
-use Rattle.link.specs.Due.{spans, ending, kept, placeOf, noneGone, due}
+use Rattle.link.specs.Link.{Arrival, besides, Call, called, Frame, placeOf, sent, arrivals, handedOut}
+use Rattle.link.specs.Due.{ending, kept, noneGone, due}
 use Rattle.link.specs.Demand.{framesOf, readsOf, Run, Near}
 
 -- ---- what comes out, and what there is to come out
 
--- The units of lane l's batch that begins with this frame: a batch begins with its frame 0.
-abbrev pub begunIn : Setting → ℕ → Frame → List (List ℕ)
-begunIn s l f = cond (f .lane =? l && f .number =? 0) (unitsOf ((lane s l) .kind) (f .batch)) []
+-- The units of lane l's batch that begins with this frame: one that starts with the batch's octet 0.
+abbrev pub begunIn : ℕ → Frame → List (List ℕ)
+begunIn l f = cond (f .lane =? l && f .start =? 0) (f .units) []
 
 -- The units of lane l that end in this frame.
-abbrev pub endedIn : Setting → ℕ → Frame → List (List ℕ)
-endedIn s l f =
-    cond (f .lane =? l) (ending (f .number) (λ (i : ℕ). true) (spans (zone s (channelOf s l)) 0 (unitsOf ((lane s l) .kind) (f .batch)))) []
+abbrev pub endedIn : ℕ → Frame → List (List ℕ)
+endedIn l f = cond (f .lane =? l) (ending (f .start) (f .stop) (λ (i : ℕ). true) 0 (f .units)) []
 
 -- Of all these frames, in sending order, whatever becomes of them: the units of batches that begin, and the units that end.
-unfoldable pub unitsSent : Setting → ℕ → List Frame → List (List ℕ)
-unitsSent s l [] = []
-unitsSent s l (f ∷ fs) = begunIn s l f ++ unitsSent s l fs
+unfoldable pub unitsSent : ℕ → List Frame → List (List ℕ)
+unitsSent l [] = []
+unitsSent l (f ∷ fs) = begunIn l f ++ unitsSent l fs
 
-unfoldable pub unitsEnded : Setting → ℕ → List Frame → List (List ℕ)
-unitsEnded s l [] = []
-unitsEnded s l (f ∷ fs) = endedIn s l f ++ unitsEnded s l fs
+unfoldable pub unitsEnded : ℕ → List Frame → List (List ℕ)
+unitsEnded l [] = []
+unitsEnded l (f ∷ fs) = endedIn l f ++ unitsEnded l fs
 
 -- The state that calls leave at the writer.
 unfoldable pub afterCalls : Writer → List Call → Writer
@@ -66,7 +64,7 @@ allGone (f ∷ fs) = not (kept (f .passage)) && allGone fs
 abbrev pub NothingGone : Type 0
 NothingGone =
     (s : Setting) (held : List ℕ) (xs : List Call) → Run s held xs → allKept (framesOf s xs) ≡ true
-    → (l : ℕ) → Between s xs l → handedOut l (readsOf s held xs) ≡ unitsSent s l (framesOf s xs)
+    → (l : ℕ) → Between s xs l → handedOut l (readsOf s held xs) ≡ unitsSent l (framesOf s xs)
 
 -- "Everything gone: nothing comes out." Whatever refused octets stand in the frames' places.
 abbrev pub EverythingGone : Type 0
@@ -79,14 +77,14 @@ EverythingGone =
 abbrev pub NoMoreGone : Type 0
 NoMoreGone =
     (s : Setting) (held : List ℕ) (xs ys : List Call) → Run s held (xs ++ ys) → Near s (xs ++ ys)
-    → (l : ℕ) → Between s xs l → noneGone s (placeOf s l) (later s xs ys) ≡ true
-    → handedOut l (readsOf s held (xs ++ ys)) ≡ due s l [] (framesOf s xs) ++ unitsEnded s l (later s xs ys)
+    → (l : ℕ) → Between s xs l → noneGone (placeOf s l) (later s xs ys) ≡ true
+    → handedOut l (readsOf s held (xs ++ ys)) ≡ due l [] (framesOf s xs) ++ unitsEnded l (later s xs ys)
 
 -- Where the lane stands between batches at the end too, these are all units of its later batches.
 abbrev pub LaterBatches : Type 0
 LaterBatches =
     (s : Setting) (held : List ℕ) (xs ys : List Call) → Run s held (xs ++ ys) → (l : ℕ) → Between s xs l → Between s (xs ++ ys) l
-    → unitsEnded s l (later s xs ys) ≡ unitsSent s l (later s xs ys)
+    → unitsEnded l (later s xs ys) ≡ unitsSent l (later s xs ys)
 
 -- ---- refused octets
 
@@ -115,7 +113,7 @@ applying s (a ∷ more) = refusedBy (given (refusals s (a .octets))) ∷ applyin
 abbrev pub RefusedOctets : Type 0
 RefusedOctets = (s : Setting) (held : List ℕ) (xs : List Call) → Run s held xs → ends (readsOf s held xs) ≡ applying s (arrivals (framesOf s xs))
 
--- Of what arrives, the octets to which one of 3 to 12 applies; and the octets in the places of frames that are gone.
+-- Of what arrives, the octets to which one of 3 to 12 applies; and the octets that arrive besides kept frames.
 unfoldable pub refusedOf : Setting → List Arrival → List (List ℕ)
 refusedOf s [] = []
 refusedOf s (a ∷ more) = cond (given (refusals s (a .octets)) =? 0) [] (a .octets ∷ []) ++ refusedOf s more
@@ -124,14 +122,10 @@ unfoldable pub octetsOf : List Arrival → List (List ℕ)
 octetsOf [] = []
 octetsOf (a ∷ more) = a .octets ∷ octetsOf more
 
-abbrev pub inPlaceOf : Passage → List (List ℕ)
-inPlaceOf (Kept lent) = []
-inPlaceOf (Gone instead) = octetsOf instead
-
-unfoldable pub inPlaces : List Frame → List (List ℕ)
-inPlaces [] = []
-inPlaces (f ∷ fs) = inPlaceOf (f .passage) ++ inPlaces fs
+unfoldable pub allBesides : List Frame → List (List ℕ)
+allBesides [] = []
+allBesides (f ∷ fs) = octetsOf (besides (f .passage)) ++ allBesides fs
 
 -- These are the same: no kept frame is refused.
 abbrev pub KeptAccepted : Type 0
-KeptAccepted = (s : Setting) (held : List ℕ) (xs : List Call) → Run s held xs → refusedOf s (arrivals (framesOf s xs)) ≡ inPlaces (framesOf s xs)
+KeptAccepted = (s : Setting) (held : List ℕ) (xs : List Call) → Run s held xs → refusedOf s (arrivals (framesOf s xs)) ≡ allBesides (framesOf s xs)

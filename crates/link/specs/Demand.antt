@@ -14,7 +14,7 @@ use Rattle.rules.specs.Settings.{channel, number}
 use Rattle.rules.specs.Refusals.{refusals}
 use Rattle.rules.specs.Calls.{setUpReader, setUpWriter, Got}
 use Rattle.link.specs.Link.{Lent, Arrival, Passage, Kept, Gone, Call, called, Frame, sent, arrivals, reads, handedOut}
-use Rattle.link.specs.Due.{kept, placeOf, due}
+use Rattle.link.specs.Due.{kept, due}
 use Rattle.rules.specs.Areas.{heldSize, recordsSize, unitsSize}
 
 -- ---- the writer's calls
@@ -38,24 +38,28 @@ InOrder w last (x ∷ xs) =
 unfoldable pub enough : Lent → Bool
 enough a = unitsSize ≤? length (a .units) && recordsSize ≤? length (a .records)
 
--- "Refused octet strings": one of refusals 3 to 12 applies, which look at the octets and the setting alone.
-unfoldable pub allRefused : Setting → List Arrival → Bool
-allRefused s [] = true
-allRefused s (a ∷ more) = given (refusals s (a .octets)) ≠? 0 && enough (a .lent) && allRefused s more
+-- Octets that change nothing. "Refused octet strings": one of refusals 3 to 12 applies, which look at the octets and the setting alone.
+unfoldable pub inert : Setting → List ℕ → Bool
+inert s f = given (refusals s f) ≠? 0
+
+unfoldable pub allInert : Setting → List Arrival → Bool
+allInert s [] = true
+allInert s (a ∷ more) = inert s (a .octets) && enough (a .lent) && allInert s more
 
 unfoldable pub passes : Setting → Passage → Bool
-passes s (Kept lent) = enough lent
-passes s (Gone instead) = allRefused s instead
+passes s (Kept lent after) = enough lent && allInert s after
+passes s (Gone instead) = allInert s instead
 
--- "Each frame kept, or gone with any number of refused octet strings in its place; every read lent areas of the size asked for."
+-- "Each frame kept, or gone with any number of refused octet strings in its place; every read lent areas of the size asked for." Such strings may
+-- follow a kept frame too.
 unfoldable pub allPass : Setting → List Frame → Bool
 allPass s [] = true
 allPass s (f ∷ fs) = passes s (f .passage) && allPass s fs
 
 -- Of the frames of channel c, whether each is kept.
-unfoldable pub keptOn : Setting → ℕ → List Frame → List Bool
-keptOn s c [] = []
-keptOn s c (f ∷ fs) = cond (placeOf s (f .lane) =? c) (kept (f .passage) ∷ []) [] ++ keptOn s c fs
+unfoldable pub keptOn : ℕ → List Frame → List Bool
+keptOn c [] = []
+keptOn c (f ∷ fs) = cond (f .channel =? c) (kept (f .passage) ∷ []) [] ++ keptOn c fs
 
 -- "Between two kept frames fewer gone than" m. So far g are gone since the last kept one, if `any` was kept.
 unfoldable pub fewGone : ℕ → Bool → ℕ → List Bool → Bool
@@ -83,13 +87,13 @@ pub record Run (s : Setting) (held : List ℕ) (xs : List Call) : Type 0 where
 
 -- "Between two kept frames of one channel and service fewer gone than 256^n."
 abbrev pub Near : Setting → List Call → Type 0
-Near s xs = (c : ℕ) → c < s .listed → fewGone (256 ^ (channel s c) .octets) false 0 (keptOn s c (framesOf s xs)) ≡ true
+Near s xs = (c : ℕ) → c < s .listed → fewGone (256 ^ (channel s c) .octets) false 0 (keptOn c (framesOf s xs)) ≡ true
 
 -- "What the reads hand out, taken from the unit area by the records, is in sending order and octet for octet the list of exactly those
 -- units for which no frame of that channel and service is gone from the frame where the unit begins to the frame where it ends; and
 -- nothing else." For a number l that is no lane both are empty.
 abbrev pub Exact : Setting → List ℕ → List Call → ℕ → Type 0
-Exact s held xs l = handedOut l (readsOf s held xs) ≡ due s l [] (framesOf s xs)
+Exact s held xs l = handedOut l (readsOf s held xs) ≡ due l [] (framesOf s xs)
 
 -- "Then, lane by lane".
 abbrev pub Demand : Type 0

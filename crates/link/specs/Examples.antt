@@ -28,16 +28,19 @@ roomy = record { units = replicate 12300 0x33; records = replicate 9650 0x33 }
 unfoldable pub call : ℕ → List ℕ → Passage → Call
 call l b p = record { lane = l; batch = b; insert = []; ocf = []; area = replicate 40 0x55; passage = p }
 
--- The frame is kept, or gone with these octet strings in its place.
-abbrev pub keep : ℕ → List ℕ → Call
-keep l b = call l b (Kept (full 0x33))
+-- The frame is kept, with these octet strings after it or with none, or gone with these in its place.
+unfoldable pub strings : List (List ℕ) → List Arrival
+strings [] = []
+strings (x ∷ xs) = record { octets = x; lent = full 0x44 } ∷ strings xs
 
-unfoldable pub instead : List (List ℕ) → List Arrival
-instead [] = []
-instead (x ∷ xs) = record { octets = x; lent = full 0x44 } ∷ instead xs
+abbrev pub keepWith : ℕ → List ℕ → List (List ℕ) → Call
+keepWith l b xs = call l b (Kept (full 0x33) (strings xs))
+
+abbrev pub keep : ℕ → List ℕ → Call
+keep l b = keepWith l b []
 
 abbrev pub lose : ℕ → List ℕ → List (List ℕ) → Call
-lose l b xs = call l b (Gone (instead xs))
+lose l b xs = call l b (Gone (strings xs))
 
 -- A frame of lane 0 with this count whose first octet is another: its version is not 1100.
 abbrev pub damaged : ℕ → List ℕ → List ℕ
@@ -86,10 +89,10 @@ calls =
     ∷ lose 0 b₀ (damaged 2 (take 21 b₀) ∷ [])
     ∷ keep 1 c₁
     ∷ keep 0 b₀
-    -- A packet and a unit with the other lanes' frames between theirs.
-    ∷ keep 0 d₀
+    -- A packet and a unit with the other lanes' frames between theirs, and after two frames octets that have the next count.
+    ∷ keepWith 0 d₀ (damaged 6 (drop 42 d₀) ∷ [])
     ∷ keep 2 u₂
-    ∷ keep 0 d₀
+    ∷ keepWith 0 d₀ ((0xC0 ∷ 0x02 ∷ []) ∷ damaged 7 (drop 42 d₀) ∷ [])
     ∷ keep 1 c₁
     ∷ keep 2 u₂
     ∷ keep 0 d₀
@@ -170,9 +173,10 @@ i₁ = packet 40 0xB1
 
 unfoldable pub long : List Call
 long =
-    -- Before the first kept frame of the first channel more are gone than there are counts. It has count 44, and areas longer than asked for.
+    -- Before the first kept frame of the first channel more are gone than there are counts. It has count 44, areas longer than asked for, and octets
+    -- after it.
     gone 300 2
-    ++ (call 0 g₀ (Kept roomy) ∷ [])
+    ++ (call 0 g₀ (Kept roomy (strings (replicate 32 0x00 ∷ []))) ∷ [])
     -- Over the wrap: the first half of one packet has count 253, the second half of another count 1.
     ++ gone 208 2
     ++ (keep 0 a₀ ∷ lose 0 a₀ [] ∷ lose 2 w₂ [] ∷ lose 0 b₀ [] ∷ keep 0 b₀ ∷ [])
@@ -210,12 +214,12 @@ onEach (l ∷ ls) os = handedOut l os ∷ onEach ls os
 unfoldable pub got : Setting → List ℕ → List Call → List (List (List ℕ))
 got s ls xs = onEach ls (readsOf s held xs)
 
-unfoldable pub dueOnEach : Setting → List ℕ → List Frame → List (List (List ℕ))
-dueOnEach s [] fs = []
-dueOnEach s (l ∷ ls) fs = due s l [] fs ∷ dueOnEach s ls fs
+unfoldable pub dueOnEach : List ℕ → List Frame → List (List (List ℕ))
+dueOnEach [] fs = []
+dueOnEach (l ∷ ls) fs = due l [] fs ∷ dueOnEach ls fs
 
 unfoldable pub owed : Setting → List ℕ → List Call → List (List (List ℕ))
-owed s ls xs = dueOnEach s ls (framesOf s xs)
+owed s ls xs = dueOnEach ls (framesOf s xs)
 
 -- The lanes of `paired` and a number that is none; the packet lanes of `mixed`.
 abbrev pub pairedLanes : List ℕ

@@ -1,13 +1,15 @@
 -- Two ends and the link between them: calls of the writer, what becomes of each frame, and the reads at the other end.
-use Prim.Native.Nat.{ℕ, zero, suc}
+use Prim.Native.Nat.{ℕ, zero, suc, _+_, _*_}
 use mathlib.Core.Bool.{cond}
 use mathlib.Core.List.{List, [], _∷_, _++_}
 use lib.ListN.{getD, take, drop}
+use Rattle.rules.specs.declared.Setting.{Setting}
 use Rattle.rules.specs.declared.Reader.{Reader}
 use Rattle.rules.specs.declared.Writer.{Writer}
 use Rattle.rules.specs.Tests.{_=?_}
 use Rattle.rules.specs.Octets.{num}
-use Rattle.rules.specs.Settings.{number}
+use Rattle.rules.specs.Settings.{lane, channelOf, number, zone}
+use Rattle.rules.specs.Writing.{unitsOf}
 use Rattle.rules.specs.Calls.{Sent, write, Got, read}
 use Rattle.rules.specs.Areas.{recordSize}
 
@@ -23,10 +25,15 @@ pub record Arrival : Type 0 where
   pub octets : List ℕ
   pub lent : Lent
 
--- "Each frame kept, or gone with any number of refused octet strings in its place."
+-- "Each frame kept, or gone." The read of a kept one is lent areas.
 pub data Passage : Type 0 where
-  Kept : Lent → Passage
+  Kept : Lent → List Arrival → Passage
   Gone : List Arrival → Passage
+
+-- What arrives besides: after a kept frame, or in the place of one that is gone.
+abbrev pub besides : Passage → List Arrival
+besides (Kept lent after) = after
+besides (Gone instead) = instead
 
 -- A call of the writer, and what becomes of its frame.
 pub record Call : Type 0 where
@@ -40,21 +47,34 @@ pub record Call : Type 0 where
 unfoldable pub called : Writer → Call → Sent
 called w x = write w (x .lane) (x .batch) (x .insert) (x .ocf) (x .area)
 
--- A frame of a run: its lane, its number in the batch, the batch, its octets, and what becomes of it.
+-- A frame of a run: its lane, its channel's place in the list, the units of its batch, the octets of the batch that are its own (the one with
+-- which it starts, and the one behind its last), its octets, and what becomes of it.
 pub record Frame : Type 0 where
   pub lane : ℕ
-  pub number : ℕ
-  pub batch : List ℕ
+  pub channel : ℕ
+  pub units : List (List ℕ)
+  pub start : ℕ
+  pub stop : ℕ
   pub octets : List ℕ
   pub passage : Passage
+
+-- The place of lane l's channel in the list: two lanes share "channel and service" where it is the same.
+abbrev pub placeOf : Setting → ℕ → ℕ
+placeOf s l = (lane s l) .channel
+
+-- "The frames of a batch are its octets cut every Z": where lane l's next frame starts.
+abbrev pub startOf : Writer → ℕ → ℕ
+startOf w l = number w l * zone (w .setting) (channelOf (w .setting) l)
 
 -- The frame that a call writes: the first F octets of the area that it was lent.
 unfoldable pub frameBy : Writer → Call → Frame
 frameBy w x =
     record {
       lane = x .lane;
-      number = number w (x .lane);
-      batch = x .batch;
+      channel = placeOf (w .setting) (x .lane);
+      units = unitsOf ((lane (w .setting) (x .lane)) .kind) (x .batch);
+      start = startOf w (x .lane);
+      stop = startOf w (x .lane) + zone (w .setting) (channelOf (w .setting) (x .lane));
       octets = take (w .setting .length) ((called w x) .area);
       passage = x .passage;
     }
@@ -66,9 +86,9 @@ sent w (x ∷ xs) = frameBy w x ∷ sent ((called w x) .sender .state) xs
 
 -- ---- the reader's end
 
--- What arrives of a frame of these octets: the frame, or what is in its place.
+-- What arrives of a frame of these octets: the frame and what follows it, or what is in its place.
 abbrev pub arriving : Passage → List ℕ → List Arrival
-arriving (Kept lent) f = record { octets = f; lent = lent } ∷ []
+arriving (Kept lent after) f = record { octets = f; lent = lent } ∷ after
 arriving (Gone instead) f = instead
 
 unfoldable pub arrivals : List Frame → List Arrival

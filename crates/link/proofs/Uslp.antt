@@ -1,0 +1,278 @@
+-- The first pair of ends: a writer and a reader of USLP frames of one setting. What a call leaves is the write rule's, what a read leaves is the
+-- read rule's, and frame k of a batch starts with its octet k * Z.
+use mathlib.Core.Path.{_≡_, refl, sym, ap, ap₂, _∙_, subst}
+use mathlib.Core.Logic.{_⊎_, inl, inr}
+use Prim.Native.Nat.{ℕ, _+_, _*_, _<_}
+use native.Mathlib.Nat.{zero-mul}
+use native.Mathlib.Omega.{arith}
+use mathlib.Core.Bool.{Bool, true, cond}
+use mathlib.Core.List.{List, []}
+use lib.ListN.{length, getD, set, length-set}
+use lib.Seq.{getD-set-same, getD-set-other}
+use borrow.Author.Tests.{ne-eqb, eq-eqb}
+use Rattle.rules.specs.declared.Kind.{Kind}
+use Rattle.rules.specs.declared.Setting.{Setting}
+use Rattle.rules.specs.declared.Expect.{Expect}
+use Rattle.rules.specs.declared.Slot.{Slot}
+use Rattle.rules.specs.declared.Reader.{Reader}
+use Rattle.rules.specs.declared.Writer.{Writer}
+use Rattle.rules.specs.declared.Outcome.the-variants.{Done}
+use Rattle.rules.specs.Tests.{given}
+use Rattle.rules.specs.Areas.{laid, heldSize, partSize}
+use Rattle.rules.specs.Settings.{noExpect, channel, lane, channelOf, expect, count, number, zone, readerOk}
+use Rattle.rules.specs.Writing.{unitsOf, countAfter, writerAfter}
+use Rattle.rules.specs.Reading.{missing, expected, Made, keeps}
+use Rattle.rules.specs.Calls.{writeRefusals, written, write, Got, read}
+use Rattle.rules.specs.Valid.{Good}
+use Rattle.rules.proofs.Valid.{good-channelOf}
+use Rattle.rules.proofs.Calls.{Accepted, none-refused, accepted}
+use Rattle.rules.proofs.Written.{FrameBack, write-back, zone-small}
+use Rattle.link.specs.Link.{Lent, Arrival, Call, called, placeOf, startOf, frameBy, handed}
+use Rattle.link.specs.Demand.{enough, inert}
+use Rattle.link.proofs.Spans.{yields, yield, Delivers, Follows}
+use Rattle.link.proofs.Batches.{units, lane-reads, follows}
+use Rattle.link.proofs.Invariant.{heldAfter}
+use Rattle.link.proofs.Received.{stray, reader, holds, left, gapped, length-left, holds-other, holds-gap, stored-length, stored-here, stored-other, makes, readerAfter, Taken, read-takes, read-ready}
+use Rattle.link.proofs.Ends.{Ends, whole, Sends, Heard, Facts}
+
+-- ---- the pair
+
+pub record Hearer : Type 0 where
+  pub reader : Reader
+  pub area : List ℕ
+
+-- What a read of what arrives gives, and what it leaves.
+abbrev pub readBy : Hearer → Arrival → Got
+readBy r a = read (r .reader) (a .octets) (r .area) (a .lent .units) (a .lent .records)
+
+abbrev pub leftBy : Got → Hearer
+leftBy o = record { reader = o .taken .state; area = o .heldArea }
+
+module _ (s : Setting) where
+  -- Eight slots each, the held area's size, and a valid reader.
+  pub record SoundWriter (w : Writer) : Type 0 where
+    pub setting : w .setting ≡ s
+    pub counts : length (w .counts) ≡ 8
+    pub next : length (w .next) ≡ 8
+
+  pub record SoundHearer (r : Hearer) : Type 0 where
+    pub setting : r .reader .setting ≡ s
+    pub expects : length (r .reader .expects) ≡ 8
+    pub slots : length (r .reader .slots) ≡ 8
+    pub area : length (r .area) ≡ heldSize
+    pub valid : readerOk (r .reader) ≡ true
+
+  abbrev pub uslp : Ends
+  uslp =
+      record {
+        Writer = Writer;
+        Call = Call;
+        Hearer = Hearer;
+        frame = frameBy;
+        batch = λ (x : Call). x .batch;
+        next = λ (w : Writer) (x : Call). (called w x) .sender .state;
+        heard = λ (r : Hearer) (a : Arrival). leftBy (readBy r a);
+        hands = λ (r : Hearer) (a : Arrival) (l : ℕ). handed l (readBy r a);
+        lanes = s .numbered;
+        channel = placeOf s;
+        octets = λ (l : ℕ). (channelOf s l) .octets;
+        units = λ (l : ℕ) (b : List ℕ). unitsOf ((lane s l) .kind) b;
+        start = λ (w : Writer) (l : ℕ) (b : List ℕ). startOf w l;
+        count = λ (w : Writer) (l : ℕ). count w (placeOf s l);
+        expect = λ (r : Hearer) (l : ℕ). expect (r .reader) (placeOf s l);
+        held = λ (r : Hearer) (l : ℕ). holds (r .reader .slots) (r .area) l;
+        Goes = λ (w : Writer) (last : ℕ → List ℕ) (x : Call).
+            ((called w x) .sender .outcome ≡ Done) × ((number w (x .lane) ≡ 0) ⊎ (x .batch ≡ last (x .lane)));
+        Enough = λ (a : Lent). enough a ≡ true;
+        Inert = λ (r : Hearer) (a : Arrival). inert s (a .octets) ≡ true;
+        SoundWriter = SoundWriter;
+        SoundHearer = SoundHearer;
+      }
+
+-- A lane's channel has one of the eight slots.
+pub channel-8 : (s : Setting) → Good s → (l : ℕ) → l < s .numbered → placeOf s l < 8
+channel-8 s g l lh = omega (arith, g .lanes l lh .channel, g .listed)
+
+-- ---- an accepted call
+
+module _ (w : Writer) (last : ℕ → List ℕ) (x : Call) (go : (uslp (w .setting)) .Goes w last x) where
+  abbrev s : Setting
+  s = w .setting
+
+  abbrev i : ℕ
+  i = x .lane
+
+  abbrev kind : Kind
+  kind = (lane s i) .kind
+
+  abbrev z : ℕ
+  z = zone s (channelOf s i)
+
+  abbrev k : ℕ
+  k = number w i
+
+  takes : Accepted w i (x .batch) (x .insert) (x .ocf) (x .area)
+  takes = unfold called in none-refused w i (x .batch) (x .insert) (x .ocf) (x .area) (accepted w i (x .batch) (x .insert) (x .ocf) (x .area) (go .0))
+
+  pub back : FrameBack s i (count w (placeOf s i)) (x .batch) (x .insert) (x .ocf) k ((frameBy w x) .octets)
+  unfolding called frameBy
+  back = write-back w i (x .batch) (x .insert) (x .ocf) (x .area) (go .0) .0
+
+  leaves : (called w x) .sender .state ≡ writerAfter w i (x .batch)
+  unfolding called write written
+  leaves =
+      let z : given (writeRefusals w i (x .batch) (x .insert) (x .ocf) (x .area)) ≡ 0 = accepted w i (x .batch) (x .insert) (x .ocf) (x .area) (go .0) in
+      rw z
+
+  g : Good s
+  g = takes .good .setting
+
+  some : 0 < z
+  some = good-channelOf g i (takes .numbered) .room
+
+  lane-8 : i < 8
+  lane-8 = omega (arith, takes .numbered, g .numbered)
+
+  module _ (counts-8 : length (w .counts) ≡ 8) (next-8 : length (w .next) ≡ 8) where
+    count-same : (l : ℕ) → l < s .numbered → placeOf s i ≡ placeOf s l
+        → count (writerAfter w i (x .batch)) (placeOf s l) ≡ countAfter ((channelOf s l) .octets) (count w (placeOf s l))
+    unfolding writerAfter
+    count-same l lh e =
+        ap (λ (c : ℕ). getD (set (w .counts) c (countAfter ((channel s c) .octets) (count w c))) (placeOf s l) 0) e
+        ∙ getD-set-same (w .counts) (placeOf s l) _ 0 (omega (arith, counts-8, channel-8 s g l lh))
+
+    next-start : Follows (unitsOf kind (x .batch)) (k * z + z) (startOf (writerAfter w i (x .batch)) i)
+    unfolding writerAfter
+    next-start =
+        subst (λ (m : ℕ). Follows (unitsOf kind (x .batch)) (k * z + z) (m * z)) (sym (getD-set-same (w .next) i _ 0 (omega (arith, next-8, lane-8))))
+        (follows kind ((lane s i) .longest) z k some (x .batch) (takes .batch))
+
+    in-turn : (number w i ≡ 0) ⊎ (x .batch ≡ last i) → (k * z ≡ 0) ⊎ (unitsOf kind (x .batch) ≡ unitsOf kind (last i))
+    in-turn (inl e) = inl (ap (λ (m : ℕ). m * z) e ∙ zero-mul z)
+    in-turn (inr e) = inr (ap (unitsOf kind) e)
+
+    sends : Sends (uslp s) w last (x .batch) (frameBy w x) ((called w x) .sender .state)
+    sends =
+        subst (Sends (uslp s) w last (x .batch) (frameBy w x)) (sym leaves)
+        (unfold writerAfter frameBy in
+        record {
+          sound = record { setting = refl; counts = rw length-set counts-8; next = rw length-set next-8 };
+          lane = takes .numbered;
+          channel = refl;
+          units = refl;
+          filled = units kind ((lane s i) .longest) (x .batch) (takes .batch) .filled;
+          starts = refl;
+          some = omega (arith, some);
+          turn = in-turn (go .1);
+          follows = next-start;
+          start-other = λ l n b. ap (λ (m : ℕ). m * zone s (channelOf s l)) (getD-set-other (w .next) i l _ 0 (λ e. n (sym e)));
+          count-on = count-same;
+          count-other = λ l n. getD-set-other (w .counts) (placeOf s i) (placeOf s l) _ 0 (λ e. n (sym e));
+        })
+
+  -- ---- a kept frame, read by a reader of the same setting
+
+  module _ (es : List Expect) (hs : List Slot) (h : List ℕ) (lent : Lent) (r : SoundHearer s (record { reader = reader s es hs; area = h }))
+      (fits : enough lent ≡ true) where
+    abbrev v : ℕ
+    v = count w (placeOf s i)
+
+    abbrev gap : List Slot
+    gap = gapped s es hs i v
+
+    abbrev made : Made
+    made = makes s es hs h i v (x .batch) k
+
+    abbrev answer : Got
+    answer = readBy (record { reader = reader s es hs; area = h }) (whole (frameBy w x) lent)
+
+    took : Taken s es hs h i v made answer
+    took = read-takes s es hs h lent i v (x .batch) (x .insert) (x .ocf) k ((frameBy w x) .octets) back (r .valid) (takes .numbered) (r .area) fits
+
+    gap-8 : length gap ≡ 8
+    gap-8 = length-left s _ _ hs ∙ r .slots
+
+    abbrev after : Hearer
+    after = record { reader = readerAfter s es hs i v made; area = laid h (partSize * i) (made .held) }
+
+    sound : SoundHearer s after
+    sound =
+        record {
+          setting = refl;
+          expects = rw length-set (r .expects);
+          slots = rw length-set gap-8;
+          area = stored-length hs h (made .held) (keeps made) refl i lane-8 (r .slots) (r .area) (took .small);
+          valid =
+              read-ready s es hs h lent i v (x .batch) (x .insert) (x .ocf) k ((frameBy w x) .octets) back (r .valid) (takes .numbered) (r .area) fits;
+        }
+
+    -- What a lane of the channel expects and holds once the frame's count is taken.
+    expect-same : (l : ℕ) → l < s .numbered → placeOf s i ≡ placeOf s l
+        → expect (after .reader) (placeOf s l) ≡ expected ((channelOf s l) .octets) (count w (placeOf s l))
+    expect-same l lh e =
+        ap (λ (c : ℕ). getD (set es c (expected ((channel s c) .octets) (count w c))) (placeOf s l) noExpect) e
+        ∙ getD-set-same es (placeOf s l) _ noExpect (omega (arith, r .expects, channel-8 s g l lh))
+
+    abbrev holding : ℕ → List ℕ
+    holding l = heldAfter ((channelOf s l) .octets) (getD es (placeOf s l) noExpect) (count w (placeOf s l)) (holds hs h l)
+
+    gap-same : (l : ℕ) → l < s .numbered → placeOf s i ≡ placeOf s l → holds gap h l ≡ holding l
+    unfolding heldAfter
+    gap-same l lh e =
+        ap (λ (c : ℕ). holds (left s c (missing ((channel s c) .octets) (getD es c noExpect) (count w c)) hs) h l) e ∙ holds-gap s g l lh _ hs h
+
+    held-apart : (l : ℕ) → (i ≡ l → ⊥) → holds (after .reader .slots) (after .area) l ≡ holds gap h l
+    held-apart l n = stored-other gap h (made .held) (keeps made) refl i lane-8 gap-8 (r .area) (took .small) l (λ e. n (sym e))
+
+    delivers : Delivers (unitsOf kind (x .batch)) (k * z) (k * z + z) (holding i) (yields (handed i answer) (holds (after .reader .slots) (after .area) i))
+    delivers =
+        subst (Delivers (unitsOf kind (x .batch)) (k * z) (k * z + z) (holding i))
+        (ap₂ yields (sym (took .units i ∙ ap (λ (t : Bool). cond t ((yield made) .units) []) (eq-eqb i i refl)))
+        (sym (stored-here gap h (made .held) (keeps made) refl i lane-8 gap-8 (r .area) (took .small))))
+        (unfold makes in
+        subst (λ (y : List ℕ). Delivers (unitsOf kind (x .batch)) (k * z) (k * z + z) y (yield made)) (gap-same i (takes .numbered) refl)
+        (lane-reads ((lane s i) .longest) z some (zone-small s g (channelOf s i)) k (x .batch) kind (holds gap h i) (g .lanes i (takes .numbered) .kind .enough)
+        (takes .batch) (takes .below)))
+
+    heard : Heard (uslp s) w (record { reader = reader s es hs; area = h }) (frameBy w x) (leftBy answer) (λ (l : ℕ). handed l answer)
+    heard =
+        subst (λ (y : Hearer). Heard (uslp s) w (record { reader = reader s es hs; area = h }) (frameBy w x) y (λ (l : ℕ). handed l answer))
+        (λ t. record { reader = (sym (took .state)) t; area = (sym (took .area)) t })
+        (unfold frameBy in
+        record {
+          sound = sound;
+          expect-on = expect-same;
+          expect-other = λ l n. getD-set-other es (placeOf s i) (placeOf s l) _ noExpect (λ e. n (sym e));
+          held-beside = λ l lh e n. held-apart l n ∙ gap-same l lh e;
+          held-other = λ l lh e n. held-apart l n ∙ holds-other s g l lh (placeOf s i) _ hs h (λ q. e (sym q));
+          none = λ l n. took .units l ∙ ap (λ (t : Bool). cond t ((yield made) .units) []) (ne-eqb i l n);
+          delivers = delivers;
+        })
+
+-- ---- the facts
+
+abbrev HeardBy : Setting → Writer → Call → Lent → Hearer → Type 0
+HeardBy s w x lent r =
+    Heard (uslp s) w r (frameBy w x) (leftBy (readBy r (whole (frameBy w x) lent)))
+    (λ (l : ℕ). handed l (readBy r (whole (frameBy w x) lent)))
+
+-- Two ends that name one setting have one setting.
+heard-of : (w : Writer) (last : ℕ → List ℕ) (x : Call) (lent : Lent) (r : Hearer) → (uslp (w .setting)) .Goes w last x → enough lent ≡ true
+    → SoundHearer (w .setting) r → HeardBy (w .setting) w x lent r
+heard-of w last x lent r go fits m =
+    subst (λ (y : Hearer). SoundHearer (w .setting) y → HeardBy (w .setting) w x lent y)
+    (λ t. record { reader = reader ((sym (m .setting)) t) (r .reader .expects) (r .reader .slots); area = r .area })
+    (λ m. heard w last x go (r .reader .expects) (r .reader .slots) (r .area) lent m fits) m
+
+pub facts : (s : Setting) → Facts (uslp s)
+facts s =
+    record {
+      sends = λ w last x k go.
+          subst (λ (t : Setting). Sends (uslp t) w last (x .batch) (frameBy w x) ((called w x) .sender .state)) (k .setting)
+          (sends w last x go (k .counts) (k .next));
+      unmoved = λ r a k q.
+          let u = stray (r .reader) (a .octets) (r .area) (a .lent) (subst (λ (t : Setting). inert t (a .octets) ≡ true) (sym (k .setting)) q) in
+          record { state = λ t. record { reader = (u .state) t; area = (u .area) t }; none = u .none };
+      heard = λ w r last x lent k m go fits.
+          subst (λ (t : Setting). SoundHearer t r → HeardBy t w x lent r) (k .setting) (heard-of w last x lent r go fits) m;
+    }
