@@ -97,8 +97,8 @@ fn read_on(
     let led = lanes::lane_step(
         terms,
         h,
-        x.rule,
         place,
+        x.rule,
         &frame[begin..end],
         &mut held[from..to],
         units,
