@@ -157,8 +157,8 @@ fn access_step(
 pub fn lane_step(
     terms: Terms,
     h: usize,
-    rule: u8,
     place: Place,
+    rule: u8,
     zone: &[u8],
     part: &mut [u8],
     units: &mut [u8],

@@ -97,8 +97,8 @@ fn read_on(g: Gap, l: usize, x: Sight, f: &[u8], h: &mut [u8], u: &mut [u8], c: 
     let led = lanes::lane_step(
         terms,
         slot.held,
-        x.rule,
         place,
+        x.rule,
         &f[begin..end],
         &mut h[from..to],
         u,

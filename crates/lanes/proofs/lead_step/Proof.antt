@@ -14,7 +14,7 @@ slice-aggregate-measure-of : tie.Need-slice-aggregate-measure-of
 slice-aggregate-measure-of c = sym (held-length (c .before .before .before .before .before .before .pre))
 
 measure-of-requires : tie.Need-measure-of-requires
-measure-of-requires c κs = omega (arith, held-length (c .before .before .before .before .before .before .pre), c .before .before .before .before .before .before .pre)
+measure-of-requires c κs = let ready = c .before .before .before .before .before .before .pre in omega (arith, held-length ready, ready)
 
 lead-fate-requires : tie.Need-lead-fate-requires
 lead-fate-requires c κs = search needs
@@ -22,8 +22,8 @@ lead-fate-requires c κs = search needs
 settle-requires : tie.Need-settle-requires
 settle-requires c κs =
     let c₈ = c .before .before .before .before .before .before .before .before in
-    rw (lead-is (c₈ .before .before .before .pre) _ _ (c .before .before .before .before .measure-of .ensures) (c .before .before .before .lead-fate .ensures)) at
-    (c₈ .before .before .before .pre)
+    let ready = c₈ .before .before .before .pre in
+    rw (lead-is ready _ _ (c .before .before .before .before .measure-of .ensures) (c .before .before .before .lead-fate .ensures)) at ready
 
 same-length : tie.Need-same-length
 same-length c = search needs

@@ -16,10 +16,11 @@ unit-fate-requires c κs = search needs
 settle-requires : tie.Need-settle-requires
 settle-requires c κs =
     let c₈ = c .before .before .before .before .before .before .before .before in
-    let e = begin-is (c₈ .before .before .before .before .before .pre) _ _ (c .before .before .before .before .before .before .before .if1 .taken) (c .before .before .before .unit-fate .ensures) in
-    ready-second _ _ (rw e at (c₈ .before .before .before .before .before .pre))
-    (c₈ .before .before .before .before .before .args .next .now) (omega arith) (omega arith)
-    (only-counted {i = c₈ .before .before .before .before .before .args .terms .info} refl refl refl (omega arith) (omega arith) refl)
+    let a = c₈ .before .before .before .before .before .args in
+    let ready = c₈ .before .before .before .before .before .pre in
+    let e = begin-is ready _ _ (c .before .before .before .before .before .before .before .if1 .taken) (c .before .before .before .unit-fate .ensures) in
+    ready-second _ _ (rw e at ready) (a .next .now) (omega arith) (omega arith)
+    (only-counted {i = a .terms .info} refl refl refl (omega arith) (omega arith) refl)
 
 same-length : tie.Need-same-length
 same-length c = search needs
@@ -34,8 +35,9 @@ returns : tie.Need-returns
 returns c =
     let c₈ = c .before .before .before .before .before .before .before .before in
     let c₁₆ = c₈ .before .before .before .before .before .before .before .before in
-    let e = begin-is (c₁₆ .before .before .before .before .pre) _ _ (c₈ .before .before .before .before .before .before .if1 .taken) (c₈ .before .before .unit-fate .ensures) in
-    rw e (went-after _ _ (rw e at (c₁₆ .before .before .before .before .pre .room)) (only-counted refl refl refl (omega arith) (omega arith) refl)
+    let ready = c₁₆ .before .before .before .before .pre in
+    let e = begin-is ready _ _ (c₈ .before .before .before .before .before .before .if1 .taken) (c₈ .before .before .unit-fate .ensures) in
+    rw e (went-after _ _ (rw e at (ready .room)) (only-counted refl refl refl (omega arith) (omega arith) refl)
     (c .before .before .before .before .before .before .settle .ensures))
 
 follow-fate-requires : tie.Need-follow-fate-requires
@@ -44,7 +46,8 @@ follow-fate-requires c κs = search needs
 settle-requires-2 : tie.Need-settle-requires-2
 settle-requires-2 c κs =
     let c₈ = c .before .before .before .before .before .before .before .before in
-    rw (follow-is (c₈ .before .before .pre) _ _ (c .before .before .before .before .if1 .left) (c .before .before .before .follow-fate .ensures)) at (c₈ .before .before .pre)
+    let ready = c₈ .before .before .pre in
+    rw (follow-is ready _ _ (c .before .before .before .before .if1 .left) (c .before .before .before .follow-fate .ensures)) at ready
 
 same-length-4 : tie.Need-same-length-4
 same-length-4 c = search needs
