@@ -53,13 +53,15 @@ module _ (p : Lane → Bool) (ls : List Lane) where
   unfolding emptied
   one hs t i h k w = w .whole ∙ ap₂ (λ (x : List Lane) (y : List Slot). take i t ++ emptied p x y) (drop-cons ls i noLane h) (drop-cons t i noSlot k)
 
-  pub emptying-drops : (hs t : List Slot) (i : ℕ) → i < length ls → i < length t → p (getD ls i noLane) ≡ true → Emptying hs t i → Emptying hs (set t i noSlot) (i + 1)
+  pub emptying-drops : (hs t : List Slot) (i : ℕ) → i < length ls → i < length t → p (getD ls i noLane) ≡ true → Emptying hs t i
+      → Emptying hs (set t i noSlot) (i + 1)
   emptying-drops hs t i h k e w =
       record {
         whole =
             one hs t i h k w ∙ ap (λ (b : Bool). take i t ++ cond b noSlot (getD t i noSlot) ∷ emptied p (drop (suc i) ls) (drop (suc i) t)) e
             ∙ sym (append-snoc (take i t) noSlot (emptied p (drop (suc i) ls) (drop (suc i) t)))
-            ∙ ap₂ (λ (x y : List Slot). x ++ emptied p (drop (suc i) ls) y) (sym (take-suc-set t i noSlot k)) (sym (drop-set-lt (suc i) t i noSlot (omega arith)))
+            ∙ ap₂ (λ (x y : List Slot). x ++ emptied p (drop (suc i) ls) y) (sym (take-suc-set t i noSlot k))
+            (sym (drop-set-lt (suc i) t i noSlot (omega arith)))
             ∙ ap (λ (n : ℕ). take n (set t i noSlot) ++ emptied p (drop n ls) (drop n (set t i noSlot))) (sym (add-one i));
         long = length-set t i noSlot ∙ w .long;
       }
@@ -125,8 +127,8 @@ module _ (s : Setting) (c : ℕ) (few : s .numbered ≤ 8) (slots : length (s .l
       → Emptying (its c) (lanesOf s) hs t i → Emptying (its c) (lanesOf s) hs t′ (i + 1)
   keeps hs t t′ i k h e et w = let j = w .long in rw et (emptying-keeps (its c) (lanesOf s) hs t i (below i h) (omega arith) (no i h e) w)
 
-  pub loses : (hs : List Slot) (n n′ i : ℕ) → length hs ≡ 8 → i < s .numbered → (getD hs i noSlot) .held ≤ 8192 → lane s i .channel ≡ c → n′ ≡ n + (getD hs i noSlot) .held
-      → Losing (s .numbered) (s .lanes) c hs n i → Losing (s .numbered) (s .lanes) c hs n′ (i + 1)
+  pub loses : (hs : List Slot) (n n′ i : ℕ) → length hs ≡ 8 → i < s .numbered → (getD hs i noSlot) .held ≤ 8192 → lane s i .channel ≡ c
+      → n′ ≡ n + (getD hs i noSlot) .held → Losing (s .numbered) (s .lanes) c hs n i → Losing (s .numbered) (s .lanes) c hs n′ (i + 1)
   loses hs n n′ i k h b e en w =
       record { whole = lost-one (its c) (lanesOf s) hs i n (below i h) (omega arith) (w .whole) ∙ rw (yes i h e, en); small = let j = w .small in omega arith }
 
@@ -211,7 +213,8 @@ lane-channel r l ok h = good-reader r ok .setting .lanes l h .channel
 
 -- ---- what a gap drops
 
-lost-small : (p : Lane → Bool) (ls : List Lane) (hs : List Slot) → ((i : ℕ) → i < length ls → (getD hs i noSlot) .held ≤ 8192) → lost p ls hs ≤ partSize * length ls
+lost-small : (p : Lane → Bool) (ls : List Lane) (hs : List Slot) → ((i : ℕ) → i < length ls → (getD hs i noSlot) .held ≤ 8192)
+    → lost p ls hs ≤ partSize * length ls
 unfolding lost
 lost-small p [] hs h = omega arith
 lost-small p (l ∷ ls) [] h = omega arith

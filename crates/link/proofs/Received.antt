@@ -103,7 +103,8 @@ module _ (s : Setting) (g : Good s) (l : ℕ) (lh : l < s .numbered) where
       bad e h = omega (arith, subst (λ (x : Lane). least (x .kind) ≤ x .longest) e h)
 
   -- Of another channel, a gap drops nothing; of this one, all.
-  pub left-at : (c m : ℕ) (hs : List Slot) → getD (left s c m hs) l noSlot ≡ cond (m =? 0) (getD hs l noSlot) (cond (placeOf s l =? c) noSlot (getD hs l noSlot))
+  pub left-at : (c m : ℕ) (hs : List Slot) → getD (left s c m hs) l noSlot
+      ≡ cond (m =? 0) (getD hs l noSlot) (cond (placeOf s l =? c) noSlot (getD hs l noSlot))
   unfolding left
   left-at c m hs = go (m =? 0)
     where
@@ -127,7 +128,8 @@ module _ (s : Setting) (g : Good s) (l : ℕ) (lh : l < s .numbered) where
   pub holds-gap : (m : ℕ) (hs : List Slot) (h : List ℕ) → holds (left s (placeOf s l) m hs) h l ≡ cond (m =? 0) (holds hs h l) []
   holds-gap m hs h = ap (λ (x : Slot). take (x .held) (part l h)) (left-at (placeOf s l) m hs) ∙ go (m =? 0)
     where
-      go : (t : Bool) → take ((cond t (getD hs l noSlot) (cond (placeOf s l =? placeOf s l) noSlot (getD hs l noSlot))) .held) (part l h) ≡ cond t (holds hs h l) []
+      go : (t : Bool) → take ((cond t (getD hs l noSlot) (cond (placeOf s l =? placeOf s l) noSlot (getD hs l noSlot))) .held) (part l h)
+          ≡ cond t (holds hs h l) []
       go true = refl
       go false = rw (eq-eqb (placeOf s l) (placeOf s l) refl)
 

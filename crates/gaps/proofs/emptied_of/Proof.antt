@@ -48,7 +48,8 @@ loop-again c =
     let j : length (a .args .slots) ≡ 8 = search needs in
     let at = c .before .before .before .loop-test .taken in
     ⊎-elim
-    (λ w. drops (a .args .s) (a .args .c) (a .pre) g _ _ _ _ j at (w .0 .taken) (w .1 ∙ ap (λ (x : Slot). set (l .loop .t) (l .loop .i) x) (n .no-slot .ensures))
+    (λ w.
+    drops (a .args .s) (a .args .c) (a .pre) g _ _ _ _ j at (w .0 .taken) (w .1 ∙ ap (λ (x : Slot). set (l .loop .t) (l .loop .i) x) (n .no-slot .ensures))
     (l .loop .inv))
     (λ w. keeps (a .args .s) (a .args .c) (a .pre) g _ _ _ _ j at (w .0 .left) (w .1) (l .loop .inv)) (c .if1 .came)
 

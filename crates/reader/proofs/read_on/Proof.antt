@@ -18,7 +18,8 @@ slot-of-requires c κs = search needs
 
 add-end : tie.Need-add-end
 add-end c =
-    let b = c .before .before .before .before .before .before .before .before .before .before in
+    let c₈ = c .before .before .before .before .before .before .before .before in
+    let b = c₈ .before .before in
     omega (arith, inside _ _ _ _ _ _ (b .pre .0) (b .args .x) (b .pre .1), b .pre .0 .reads .whole)
 
 mul-from : tie.Need-mul-from
