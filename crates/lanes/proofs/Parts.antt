@@ -80,14 +80,7 @@ lent-ready {terms} {h} {p} {z} {d} {u} {r} rule lent =
     let few = lane-few k longest rule (take h d) p z in
     let below = lane-below k longest rule (take h d) p z (lent .enough) in
     record {
-      room =
-          record {
-            octets = omega arith;
-            records = omega arith;
-            idle = omega arith;
-            fill = omega arith;
-            dropped = omega arith;
-          };
+      room = record { octets = omega arith; records = omega arith; idle = omega arith; fill = omega arith; dropped = omega arith };
       held = omega arith;
       inside = inside;
       few = omega arith;

@@ -5,7 +5,7 @@ use mathlib.Core.List.{List, [], _∷_, _++_}
 use lib.ListN.{drop, set, take, replicate}
 use Rattle.rules.specs.declared.Kind.the-variants.{Packets, Access}
 use Rattle.rules.specs.declared.Setting.{Setting}
-use Rattle.rules.specs.Settings.{noChannel, noLane}
+use Rattle.rules.specs.Worked.{small}
 use Rattle.rules.specs.Errors.{packetFrame}
 use Rattle.rules.specs.Calls.{Got}
 use Rattle.link.specs.Link.{Lent, Arrival, Passage, Kept, Gone, Call, Frame, handedOut}
@@ -141,21 +141,9 @@ unharmed = keep 0 a₀ ∷ keep 2 v₂ ∷ keep 1 f₁ ∷ keep 0 a₀ ∷ keep 
 -- access units.
 unfoldable pub mixed : Setting
 mixed =
-    record {
-      length = 32;
-      craft = 42;
-      bit = 0;
-      insert = 0;
-      check = false;
-      listed = 2;
-      channels =
-          record { vc = 3; service = 0; octets = 1; ocf = false } ∷ record { vc = 4; service = 0; octets = 2; ocf = false } ∷ replicate 6 noChannel;
-      numbered = 4;
-      lanes =
-          record { channel = 0; map = 5; kind = Packets; longest = 64; upid = 0 } ∷ record { channel = 1; map = 5; kind = Packets; longest = 64; upid = 0 }
-          ∷ record { channel = 0; map = 6; kind = Access; longest = 42; upid = 5 } ∷ record { channel = 1; map = 6; kind = Access; longest = 42; upid = 5 }
-          ∷ replicate 4 noLane;
-    }
+    small false (record { vc = 3; service = 0; octets = 1; ocf = false } ∷ record { vc = 4; service = 0; octets = 2; ocf = false } ∷ [])
+    (record { channel = 0; map = 5; kind = Packets; longest = 64; upid = 0 } ∷ record { channel = 1; map = 5; kind = Packets; longest = 64; upid = 0 }
+    ∷ record { channel = 0; map = 6; kind = Access; longest = 42; upid = 5 } ∷ record { channel = 1; map = 6; kind = Access; longest = 42; upid = 5 } ∷ [])
 
 -- n frames of an access lane are gone, with a unit of one octet each.
 abbrev pub gone : ℕ → ℕ → List Call

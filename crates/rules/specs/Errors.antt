@@ -17,7 +17,7 @@ use Rattle.rules.specs.Settings.{noChannel, noLane, noReader, noWriter, 
 use Rattle.rules.specs.Reading.{DataUnit, octetsOf, Made, laneStep}
 use Rattle.rules.specs.Refusals.{refusals}
 use Rattle.rules.specs.Calls.{refusalOf, classRefusal, Sent, write, Got, read}
-use Rattle.rules.specs.Worked.{worked, packetLane, Case, case, each, numbers, packet₀, packet₁, frame₀, frame₁, recounted, packetOf, reads}
+use Rattle.rules.specs.Worked.{small, worked, packetLane, Case, case, each, numbers, packet₀, packet₁, frame₀, frame₁, recounted, packetOf, reads}
 
 -- ---- a setting of two channels and three lanes, all zones of 21 octets
 
@@ -25,35 +25,13 @@ use Rattle.rules.specs.Worked.{worked, packetLane, Case, case, each, num
 -- service 1.
 unfoldable pub paired : Setting
 paired =
-    record {
-      length = 32;
-      craft = 42;
-      bit = 0;
-      insert = 0;
-      check = false;
-      listed = 2;
-      channels =
-          record { vc = 3; service = 0; octets = 1; ocf = false } ∷ record { vc = 3; service = 1; octets = 1; ocf = false } ∷ replicate 6 noChannel;
-      numbered = 3;
-      lanes =
-          record { channel = 0; map = 5; kind = Packets; longest = 64; upid = 0 } ∷ record { channel = 0; map = 6; kind = Packets; longest = 64; upid = 0 }
-          ∷ record { channel = 1; map = 5; kind = Access; longest = 42; upid = 5 } ∷ replicate 5 noLane;
-    }
+    small false (record { vc = 3; service = 0; octets = 1; ocf = false } ∷ record { vc = 3; service = 1; octets = 1; ocf = false } ∷ [])
+    (record { channel = 0; map = 5; kind = Packets; longest = 64; upid = 0 } ∷ record { channel = 0; map = 6; kind = Packets; longest = 64; upid = 0 }
+    ∷ record { channel = 1; map = 5; kind = Access; longest = 42; upid = 5 } ∷ [])
 
 -- The worked setting with a frame check.
 unfoldable pub sealed : Setting
-sealed =
-    record {
-      length = 32;
-      craft = 42;
-      bit = 0;
-      insert = 0;
-      check = true;
-      listed = 1;
-      channels = record { vc = 3; service = 0; octets = 1; ocf = false } ∷ replicate 7 noChannel;
-      numbered = 1;
-      lanes = record { channel = 0; map = 5; kind = Packets; longest = 64; upid = 0 } ∷ replicate 7 noLane;
-    }
+sealed = small true (record { vc = 3; service = 0; octets = 1; ocf = false } ∷ []) (packetLane ∷ [])
 
 -- ---- frames of them, by the fields that differ
 

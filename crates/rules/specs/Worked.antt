@@ -1,9 +1,10 @@
 -- "Worked frames", cases 1 to 10, of the calls' own rules: a table of what the rules give and what the paper prints.
 use Prim.Native.Nat.{ℕ, zero, suc, _-_}
-use mathlib.Core.Bool.{false}
+use mathlib.Core.Bool.{Bool, false}
 use mathlib.Core.List.{List, [], _∷_, _++_}
 use lib.ListN.{length, getD, take, drop, set, replicate}
 use Rattle.rules.specs.declared.Kind.the-variants.{Packets, Access}
+use Rattle.rules.specs.declared.Channel.{Channel}
 use Rattle.rules.specs.declared.Lane.{Lane}
 use Rattle.rules.specs.declared.Setting.{Setting}
 use Rattle.rules.specs.declared.Reader.{Reader}
@@ -15,20 +16,24 @@ use Rattle.rules.specs.Areas.{heldSize, recordsSize, unitsSize}
 
 -- ---- the setting
 
--- "F 32, I 0, no check, spacecraft 42, bit 0, channel 3 service 0, n 1, no OCF", and one lane.
-unfoldable pub worked : Lane → Setting
-worked l =
+-- A setting of frames of 32 octets, spacecraft 42, bit 0, no insert zone, with a check or without, of these channels and lanes.
+abbrev pub small : Bool → List Channel → List Lane → Setting
+small check cs ls =
     record {
       length = 32;
       craft = 42;
       bit = 0;
       insert = 0;
-      check = false;
-      listed = 1;
-      channels = record { vc = 3; service = 0; octets = 1; ocf = false } ∷ replicate 7 noChannel;
-      numbered = 1;
-      lanes = l ∷ replicate 7 noLane;
+      check = check;
+      listed = length cs;
+      channels = cs ++ replicate (8 - length cs) noChannel;
+      numbered = length ls;
+      lanes = ls ++ replicate (8 - length ls) noLane;
     }
+
+-- "F 32, I 0, no check, spacecraft 42, bit 0, channel 3 service 0, n 1, no OCF", and one lane.
+unfoldable pub worked : Lane → Setting
+worked l = small false (record { vc = 3; service = 0; octets = 1; ocf = false } ∷ []) (l ∷ [])
 
 -- "Map 5, packet lane 0, longest 64."
 abbrev pub packetLane : Lane
