@@ -88,13 +88,12 @@ module _ (s : Setting) where
   after-calls [] w = refl
   after-calls (x ∷ xs) w = after-calls xs _
 
-  wrote-later : (xs ys : List Call) (w : Writer) → wrote (uslp s) (after (uslp s) w xs) ys ≡ sent (afterCalls w xs) ys
+  wrote-later : (xs ys : List Call) (w : Writer) → wrote (uslp s) (after (uslp s) w xs) ys ≡ sent s (afterCalls w xs) ys
   wrote-later xs ys w = ap (λ (y : Writer). wrote (uslp s) y ys) (after-calls xs w) ∙ wrote-sent s ys (afterCalls w xs)
 
   between : (xs : List Call) (w : Writer) (l : ℕ) → number (afterCalls w xs) l ≡ 0 → Begins (uslp s) l (after (uslp s) w xs)
   between xs w l e b =
-      ap (λ (y : Writer). startOf y l) (after-calls xs w) ∙ ap (λ (k : ℕ). k * zone ((afterCalls w xs) .setting) (channelOf ((afterCalls w xs) .setting) l)) e
-      ∙ zero-mul _
+      ap (λ (y : Writer). startOf s y l) (after-calls xs w) ∙ ap (λ (k : ℕ). k * zone s (channelOf s l)) e ∙ zero-mul _
 
 -- After the calls xs the lane stands between batches.
 module _ (s : Setting) (held : List ℕ) (xs ys : List Call) (run : Run s held (xs ++ ys)) (l : ℕ) where

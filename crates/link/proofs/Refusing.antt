@@ -148,23 +148,23 @@ module _ (s : Setting) where
 
   -- ---- frames that were written
 
-  written-accepted : (xs : List Call) (w : Writer) (last : ℕ → List ℕ) → SoundWriter s w → InOrder w last xs → allPass s (sent w xs) ≡ true
-      → refusedOf s (arrivals (sent w xs)) ≡ allBesides (sent w xs)
+  written-accepted : (xs : List Call) (w : Writer) (last : ℕ → List ℕ) → SoundWriter s w → InOrder w last xs → allPass s (sent s w xs) ≡ true
+      → refusedOf s (arrivals (sent s w xs)) ≡ allBesides (sent s w xs)
   unfolding sent arrivals refusedOf allBesides passes allPass frameBy
   written-accepted [] w last k o p = refl
   written-accepted (x ∷ xs) w last k o p =
-      by (subst (λ (t : Setting). given (refusals t ((frameBy w x) .octets)) ≡ 0) (k .setting) (back w last x (o .0, o .1) .accepted)) (x .passage)
+      by (subst (λ (t : Setting). given (refusals t ((frameBy t w x) .octets)) ≡ 0) (k .setting) (back w last x (o .0, o .1) .accepted)) (x .passage)
       (and-left _ _ p)
       (written-accepted xs _ (lending (x .lane) (x .batch) last) ((facts s) .sends w last x k (o .0, o .1) .sound) (o .2)
       (and-right (passes s (x .passage)) _ p))
     where
       rest : List Frame
-      rest = sent ((called w x) .sender .state) xs
+      rest = sent s ((called w x) .sender .state) xs
 
-      by : given (refusals s ((frameBy w x) .octets)) ≡ 0 → (q : Passage) → passes s q ≡ true → refusedOf s (arrivals rest) ≡ allBesides rest
-          → refusedOf s (arriving q ((frameBy w x) .octets) ++ arrivals rest) ≡ octetsOf (besides q) ++ allBesides rest
+      by : given (refusals s ((frameBy s w x) .octets)) ≡ 0 → (q : Passage) → passes s q ≡ true → refusedOf s (arrivals rest) ≡ allBesides rest
+          → refusedOf s (arriving q ((frameBy s w x) .octets) ++ arrivals rest) ≡ octetsOf (besides q) ++ allBesides rest
       by e (Kept a after) h i =
-          ap (λ (t : Bool). cond t [] ((frameBy w x) .octets ∷ []) ++ refusedOf s (after ++ arrivals rest)) (eq-eqb _ 0 e)
+          ap (λ (t : Bool). cond t [] ((frameBy s w x) .octets ∷ []) ++ refusedOf s (after ++ arrivals rest)) (eq-eqb _ 0 e)
           ∙ inert-refused after (arrivals rest) (and-right (enough a) _ h) ∙ ap (λ (us : List (List ℕ)). octetsOf after ++ us) i
       by e (Gone instead) h i = inert-refused instead (arrivals rest) h ∙ ap (λ (us : List (List ℕ)). octetsOf instead ++ us) i
 

@@ -31,10 +31,10 @@ use Rattle.link.proofs.Uslp.{Hearer, uslp, channel-8, facts}
 -- ---- a run of USLP's ends is a run
 
 module _ (s : Setting) where
-  pub wrote-sent : (xs : List Call) (w : Writer) → wrote (uslp s) w xs ≡ sent w xs
+  pub wrote-sent : (xs : List Call) (w : Writer) → wrote (uslp s) w xs ≡ sent s w xs
   unfolding wrote sent
   wrote-sent [] w = refl
-  wrote-sent (x ∷ xs) w = ap (λ (fs : List Frame). frameBy w x ∷ fs) (wrote-sent xs _)
+  wrote-sent (x ∷ xs) w = ap (λ (fs : List Frame). frameBy s w x ∷ fs) (wrote-sent xs _)
 
   hearing-reads : (l : ℕ) (xs : List Arrival) (r : Hearer) → hearing (uslp s) l r xs ≡ handedOut l (reads (r .reader) (r .area) xs)
   unfolding hearing reads handedOut
@@ -51,12 +51,12 @@ module _ (s : Setting) where
   all-passes r f (Kept lent after) q = (and-left _ _ q, all-inert _ after (and-right (enough lent) _ q))
   all-passes r f (Gone instead) q = all-inert r instead q
 
-  pub runs : (xs : List Call) (w : Writer) (r : Hearer) (last : ℕ → List ℕ) → InOrder w last xs → allPass s (sent w xs) ≡ true → Runs (uslp s) w r last xs
+  pub runs : (xs : List Call) (w : Writer) (r : Hearer) (last : ℕ → List ℕ) → InOrder w last xs → allPass s (sent s w xs) ≡ true → Runs (uslp s) w r last xs
   unfolding sent allPass frameBy
   runs [] w r last o q = tt
   runs (x ∷ xs) w r last o q = (
     (o .0, o .1),
-    all-passes r (frameBy w x) (x .passage) (and-left _ _ q),
+    all-passes r (frameBy s w x) (x .passage) (and-left _ _ q),
     runs xs _ _ (lending (x .lane) (x .batch) last) (o .2) (and-right (passes s (x .passage)) _ q),
   )
 

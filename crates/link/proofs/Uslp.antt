@@ -68,7 +68,7 @@ module _ (s : Setting) where
         Writer = Writer;
         Call = Call;
         Hearer = Hearer;
-        frame = frameBy;
+        frame = frameBy s;
         batch = λ (x : Call). x .batch;
         next = λ (w : Writer) (x : Call). (called w x) .sender .state;
         heard = λ (r : Hearer) (a : Arrival). leftBy (readBy r a);
@@ -77,7 +77,7 @@ module _ (s : Setting) where
         channel = placeOf s;
         octets = λ (l : ℕ). (channelOf s l) .octets;
         units = λ (l : ℕ) (b : List ℕ). unitsOf ((lane s l) .kind) b;
-        start = λ (w : Writer) (l : ℕ) (b : List ℕ). startOf w l;
+        start = λ (w : Writer) (l : ℕ) (b : List ℕ). startOf s w l;
         count = λ (w : Writer) (l : ℕ). count w (placeOf s l);
         expect = λ (r : Hearer) (l : ℕ). expect (r .reader) (placeOf s l);
         held = λ (r : Hearer) (l : ℕ). holds (r .reader .slots) (r .area) l;
@@ -114,7 +114,7 @@ module _ (w : Writer) (last : ℕ → List ℕ) (x : Call) (go : (uslp (w .setti
   takes : Accepted w i (x .batch) (x .insert) (x .ocf) (x .area)
   takes = unfold called in none-refused w i (x .batch) (x .insert) (x .ocf) (x .area) (accepted w i (x .batch) (x .insert) (x .ocf) (x .area) (go .0))
 
-  pub back : FrameBack s i (count w (placeOf s i)) (x .batch) (x .insert) (x .ocf) k ((frameBy w x) .octets)
+  pub back : FrameBack s i (count w (placeOf s i)) (x .batch) (x .insert) (x .ocf) k ((frameBy s w x) .octets)
   unfolding called frameBy
   back = write-back w i (x .batch) (x .insert) (x .ocf) (x .area) (go .0) .0
 
@@ -141,7 +141,7 @@ module _ (w : Writer) (last : ℕ → List ℕ) (x : Call) (go : (uslp (w .setti
         ap (λ (c : ℕ). getD (set (w .counts) c (countAfter ((channel s c) .octets) (count w c))) (placeOf s l) 0) e
         ∙ getD-set-same (w .counts) (placeOf s l) _ 0 (omega (arith, counts-8, channel-8 s g l lh))
 
-    next-start : Follows (unitsOf kind (x .batch)) (k * z + z) (startOf (writerAfter w i (x .batch)) i)
+    next-start : Follows (unitsOf kind (x .batch)) (k * z + z) (startOf s (writerAfter w i (x .batch)) i)
     unfolding writerAfter
     next-start =
         subst (λ (m : ℕ). Follows (unitsOf kind (x .batch)) (k * z + z) (m * z)) (sym (getD-set-same (w .next) i _ 0 (omega (arith, next-8, lane-8))))
@@ -151,9 +151,9 @@ module _ (w : Writer) (last : ℕ → List ℕ) (x : Call) (go : (uslp (w .setti
     in-turn (inl e) = inl (ap (λ (m : ℕ). m * z) e ∙ zero-mul z)
     in-turn (inr e) = inr (ap (unitsOf kind) e)
 
-    sends : Sends (uslp s) w last (x .batch) (frameBy w x) ((called w x) .sender .state)
+    sends : Sends (uslp s) w last (x .batch) (frameBy s w x) ((called w x) .sender .state)
     sends =
-        subst (Sends (uslp s) w last (x .batch) (frameBy w x)) (sym leaves)
+        subst (Sends (uslp s) w last (x .batch) (frameBy s w x)) (sym leaves)
         (unfold writerAfter frameBy in
         record {
           sound = record { setting = refl; counts = rw length-set counts-8; next = rw length-set next-8 };
@@ -184,10 +184,10 @@ module _ (w : Writer) (last : ℕ → List ℕ) (x : Call) (go : (uslp (w .setti
     made = makes s es hs h i v (x .batch) k
 
     abbrev answer : Got
-    answer = readBy (record { reader = reader s es hs; area = h }) (whole (frameBy w x) lent)
+    answer = readBy (record { reader = reader s es hs; area = h }) (whole (frameBy s w x) lent)
 
     took : Taken s es hs h i v made answer
-    took = read-takes s es hs h lent i v (x .batch) (x .insert) (x .ocf) k ((frameBy w x) .octets) back (r .valid) (takes .numbered) (r .area) fits
+    took = read-takes s es hs h lent i v (x .batch) (x .insert) (x .ocf) k ((frameBy s w x) .octets) back (r .valid) (takes .numbered) (r .area) fits
 
     gap-8 : length gap ≡ 8
     gap-8 = length-left s _ _ hs ∙ r .slots
@@ -203,7 +203,7 @@ module _ (w : Writer) (last : ℕ → List ℕ) (x : Call) (go : (uslp (w .setti
           slots = rw length-set gap-8;
           area = stored-length hs h (made .held) (keeps made) refl i lane-8 (r .slots) (r .area) (took .small);
           valid =
-              read-ready s es hs h lent i v (x .batch) (x .insert) (x .ocf) k ((frameBy w x) .octets) back (r .valid) (takes .numbered) (r .area) fits;
+              read-ready s es hs h lent i v (x .batch) (x .insert) (x .ocf) k ((frameBy s w x) .octets) back (r .valid) (takes .numbered) (r .area) fits;
         }
 
     -- What a lane of the channel expects and holds once the frame's count is taken.
@@ -234,9 +234,9 @@ module _ (w : Writer) (last : ℕ → List ℕ) (x : Call) (go : (uslp (w .setti
         (lane-reads ((lane s i) .longest) z some (zone-small s g (channelOf s i)) k (x .batch) kind (holds gap h i) (g .lanes i (takes .numbered) .kind .enough)
         (takes .batch) (takes .below)))
 
-    heard : Heard (uslp s) w (record { reader = reader s es hs; area = h }) (frameBy w x) (leftBy answer) (λ (l : ℕ). handed l answer)
+    heard : Heard (uslp s) w (record { reader = reader s es hs; area = h }) (frameBy s w x) (leftBy answer) (λ (l : ℕ). handed l answer)
     heard =
-        subst (λ (y : Hearer). Heard (uslp s) w (record { reader = reader s es hs; area = h }) (frameBy w x) y (λ (l : ℕ). handed l answer))
+        subst (λ (y : Hearer). Heard (uslp s) w (record { reader = reader s es hs; area = h }) (frameBy s w x) y (λ (l : ℕ). handed l answer))
         (λ t. record { reader = (sym (took .state)) t; area = (sym (took .area)) t })
         (unfold frameBy in
         record {
@@ -253,8 +253,8 @@ module _ (w : Writer) (last : ℕ → List ℕ) (x : Call) (go : (uslp (w .setti
 
 abbrev HeardBy : Setting → Writer → Call → Lent → Hearer → Type 0
 HeardBy s w x lent r =
-    Heard (uslp s) w r (frameBy w x) (leftBy (readBy r (whole (frameBy w x) lent)))
-    (λ (l : ℕ). handed l (readBy r (whole (frameBy w x) lent)))
+    Heard (uslp s) w r (frameBy s w x) (leftBy (readBy r (whole (frameBy s w x) lent)))
+    (λ (l : ℕ). handed l (readBy r (whole (frameBy s w x) lent)))
 
 -- Two ends that name one setting have one setting.
 heard-of : (w : Writer) (last : ℕ → List ℕ) (x : Call) (lent : Lent) (r : Hearer) → (uslp (w .setting)) .Goes w last x → enough lent ≡ true
@@ -268,7 +268,7 @@ pub facts : (s : Setting) → Facts (uslp s)
 facts s =
     record {
       sends = λ w last x k go.
-          subst (λ (t : Setting). Sends (uslp t) w last (x .batch) (frameBy w x) ((called w x) .sender .state)) (k .setting)
+          subst (λ (t : Setting). Sends (uslp t) w last (x .batch) (frameBy t w x) ((called w x) .sender .state)) (k .setting)
           (sends w last x go (k .counts) (k .next));
       unmoved = λ r a k q.
           let u = stray (r .reader) (a .octets) (r .area) (a .lent) (subst (λ (t : Setting). inert t (a .octets) ≡ true) (sym (k .setting)) q) in

@@ -47,7 +47,7 @@ Between s xs l = number (afterCalls ((setUpWriter s) .state) xs) l ≡ 0
 
 -- The frames of the later calls ys.
 abbrev pub later : Setting → List Call → List Call → List Frame
-later s xs ys = sent (afterCalls ((setUpWriter s) .state) xs) ys
+later s xs ys = sent s (afterCalls ((setUpWriter s) .state) xs) ys
 
 -- Every frame is kept; every frame is gone.
 unfoldable pub allKept : List Frame → Bool

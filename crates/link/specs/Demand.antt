@@ -71,7 +71,7 @@ fewGone m any g (false ∷ ks) = fewGone m any (suc g) ks
 
 -- The frames of a run, and what its reads give: both ends are fresh.
 abbrev pub framesOf : Setting → List Call → List Frame
-framesOf s xs = sent ((setUpWriter s) .state) xs
+framesOf s xs = sent s ((setUpWriter s) .state) xs
 
 abbrev pub readsOf : Setting → List ℕ → List Call → List Got
 readsOf s held xs = reads ((setUpReader s) .state) held (arrivals (framesOf s xs))

@@ -63,26 +63,26 @@ abbrev pub placeOf : Setting → ℕ → ℕ
 placeOf s l = (lane s l) .channel
 
 -- "The frames of a batch are its octets cut every Z": where lane l's next frame starts.
-abbrev pub startOf : Writer → ℕ → ℕ
-startOf w l = number w l * zone (w .setting) (channelOf (w .setting) l)
+abbrev pub startOf : Setting → Writer → ℕ → ℕ
+startOf s w l = number w l * zone s (channelOf s l)
 
--- The frame that a call writes: the first F octets of the area that it was lent.
-unfoldable pub frameBy : Writer → Call → Frame
-frameBy w x =
+-- The frame that a call writes, of a writer of setting s: the first F octets of the area that it was lent.
+unfoldable pub frameBy : Setting → Writer → Call → Frame
+frameBy s w x =
     record {
       lane = x .lane;
-      channel = placeOf (w .setting) (x .lane);
-      units = unitsOf ((lane (w .setting) (x .lane)) .kind) (x .batch);
-      start = startOf w (x .lane);
-      stop = startOf w (x .lane) + zone (w .setting) (channelOf (w .setting) (x .lane));
-      octets = take (w .setting .length) ((called w x) .area);
+      channel = placeOf s (x .lane);
+      units = unitsOf ((lane s (x .lane)) .kind) (x .batch);
+      start = startOf s w (x .lane);
+      stop = startOf s w (x .lane) + zone s (channelOf s (x .lane));
+      octets = take (s .length) ((called w x) .area);
       passage = x .passage;
     }
 
 -- The frames of a list of calls, each "handed the state that the last one left".
-unfoldable pub sent : Writer → List Call → List Frame
-sent w [] = []
-sent w (x ∷ xs) = frameBy w x ∷ sent ((called w x) .sender .state) xs
+unfoldable pub sent : Setting → Writer → List Call → List Frame
+sent s w [] = []
+sent s w (x ∷ xs) = frameBy s w x ∷ sent s ((called w x) .sender .state) xs
 
 -- ---- the reader's end
 
