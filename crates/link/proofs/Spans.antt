@@ -127,8 +127,8 @@ ends-none start stop p a (u ∷ us) h = ap₂ _++_ (by (start <? (a + length u))
 
 -- ---- a lane and a frame of its batch
 
--- A lane that holds h, and so all that is not lost of the units so far, hands these out of a frame that has octets `start` up to `stop` of them,
--- and then holds what is not lost up to there.
+-- A lane that holds h makes y of a frame that has octets `start` up to `stop` of these units. Before whichever octet j they are lost: where h is
+-- what is not lost up to `start`, y is the units that end in the frame and are not lost, and what is not lost up to `stop`.
 abbrev pub Delivers : List (List ℕ) → ℕ → ℕ → List ℕ → Yield → Type 0
 Delivers us start stop h y =
     (j : ℕ) → j ≤ start → h ≡ heldFrom j 0 start us → y ≡ yields (ending start stop (λ (i : ℕ). j ≤? i) 0 us) (heldFrom j 0 stop us)
