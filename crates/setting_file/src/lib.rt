@@ -4,6 +4,7 @@ ghost use mathlib.Core.Path.{_≡_};
 ghost use Prim.Native.Nat.{_≤_};
 ghost use lib.ListN.{length};
 ghost use Rattle.setting_file.specs.Files.{none, textFound, judged};
+use files::Known;
 use rules::Setting;
 use setting_text::Finding;
 use setting_text::Missing;
@@ -29,10 +30,11 @@ pub struct Filled {
     pub size: usize,
 }
 
-// How a file was read, and what it is.
+// How a file was read, what it is, and which file it was.
 pub struct Loaded {
     pub filled: Filled,
     pub judged: Judged,
+    pub file: Known,
 }
 
 // Says that a line has something else than a number from `low` to `high`.
@@ -260,19 +262,29 @@ fn close(fd: i32) {
     libc::close(fd);
 }
 
-// Reads a setting from a file into the area, which should have room for more octets than a text may have. Where there is no setting, a message
-// of this program says why.
+// Reads a setting from an open file of this name, or one that could not be opened, into the area, which should have room for more octets than a
+// text may have. Where there is no setting, a message of this program says why.
+pub fn load_open(program: &[u8], name: &[u8], fd: i32, area: &mut [u8]) -> Loaded
+    ensures { λ r. ⌜ r .judged ≡ judged (r .filled) (now (area .exit)) ⌝ }
+{
+    let filled = fill_from(fd, area);
+    let j = judge(filled, area);
+    let found = j.found;
+    say_found(program, name, found);
+    let file = files::of_descriptor(fd);
+    Loaded {
+        filled: filled,
+        judged: j,
+        file: file,
+    }
+}
+
+// The same from the file that a path leads to.
 pub fn load(program: &[u8], path: &[u8], area: &mut [u8]) -> Loaded
     ensures { λ r. ⌜ r .judged ≡ judged (r .filled) (now (area .exit)) ⌝ }
 {
     let fd = os::open_read(path);
-    let filled = fill_from(fd, area);
-    let j = judge(filled, area);
-    let found = j.found;
-    say_found(program, path, found);
+    let l = load_open(program, path, fd, area);
     close(fd);
-    Loaded {
-        filled: filled,
-        judged: j,
-    }
+    l
 }

@@ -20,7 +20,7 @@ use Rattle.unpack_text.specs.Totals.{tallied}
 use Rattle.unpack_text.specs.Lines.{Wrote, frameLine}
 use Rattle.unpacking.specs.declared.Came.{Came}
 use Rattle.unpacking.specs.declared.Turn.{Turn}
-use Rattle.unpacking.proofs.Cuts.{wrote-front}
+use Rattle.unpack_text.proofs.Cuts.{wrote-front}
 use Rattle.unpacking.specs.Stages.{Stage, got, ruled, told, advanced, through, begun, Reached}
 use Rattle.unpacking.specs.Stages.{Took, Handed, Handled, Turned, Finished, taken, takenTurn, haltedTurn, firstTurn}
 use Rattle.rules.specs.Areas.{heldSize, recordSize, recordsSize, unitsSize}

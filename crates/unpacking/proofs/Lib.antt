@@ -1,3 +1,1 @@
-pub mod Cuts
-pub mod Suffixes
 pub mod Carried

@@ -88,9 +88,9 @@ pub record AreasFit (k : ℕ) (u c : List ℕ) : Type 0 where
 
 -- A lane's units go to its output. Other frames have none.
 unfoldable pub outputOf : Verdict → ℕ
-outputOf (Verdict.Refused n) = 9
-outputOf Verdict.Idle = 9
-outputOf (Verdict.Counted c) = 9
+outputOf (Verdict.Refused n) = 10
+outputOf Verdict.Idle = 10
+outputOf (Verdict.Counted c) = 10
 outputOf (Verdict.Read l) = l
 
 -- The octets that are handed out for frame k: its line, and the front of the unit and record areas as the rules' read of a frame, with this

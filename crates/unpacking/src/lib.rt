@@ -1,24 +1,26 @@
 // The program unpack: a setting, a recording and a prefix from the command line; the recording's frames through one reader;
-// units by lane, records, a line a frame and totals.
+// units by lane, records, a line a frame and totals. Crate `outputs` makes, names and removes its files.
 //
 // What the system reads and answers stands in the contracts as what came (`Came`) and how the writes went (`Went`); all else is determined by
 // it. Proved: the frame of a turn is the octets that came, and state, areas and totals after it are those to which the rules' `read` comes
 // (`turn_frame`); so they are over all frames (`take_all`). What is handed to the system is asked for where it is handed over: a
 // frame's line, of the rules' verdict and answer, as many unit and record octets as it gave (`put_out`), the title, and the text of all
-// totals (`hand_totals`). A name is its prefix and suffix (`put_name`). Shown by runs: what no contract can follow into the system.
+// totals (`hand_totals`). Shown by runs: what no contract can follow into the system.
 ghost use mathlib.Core.Path.{_≡_};
 ghost use mathlib.Core.Bool.{true};
 ghost use Prim.Native.Nat.{_+_, _%_, _≤_};
 ghost use lib.ListN.{length};
 ghost use Rattle.rules.specs.Tests.{_=?_};
 ghost use Rattle.rules.specs.Settings.{settingOk, readerOk};
-ghost use Rattle.unpack_text.specs.Lines.{Wrote, title, totalsText};
-ghost use Rattle.unpacking.specs.Names.{suffix};
+ghost use Rattle.unpack_text.specs.Lines.{title, totalsText};
 ghost use Rattle.unpacking.specs.Stages.{Took, AreasFit, Handed, Handled, Turned, Finished, firstTurn, endingOf, haltedTurn, outputOf, wellGone, goesOn};
+use files::Known;
+use outputs::Plan;
 use rules::Answer;
 use rules::Reader;
 use rules::Setting;
 use rules::Verdict;
+use unpack_start::Prefix;
 use unpack_text::Tally;
 
 // What came of a frame: how many octets, and whether the system failed.
@@ -52,28 +54,6 @@ struct Turn {
     came: Came,
     went: Went,
     more: bool,
-}
-
-// ---- names of files
-
-// Puts what follows the prefix in the name of an output's unfinished file.
-fn put_name(name: &mut [u8], n: usize, lanes: usize, i: usize) -> usize
-    requires { ⌜ n + 30 ≤ length (now name) ⌝ }
-    ensures { λ r. ⌜ Wrote 30 (suffix lanes i) (now (name .entry)) n (now (name .exit)) r ⌝ }
-{
-    if i < lanes {
-        let at = unpack_text::put_named(name, n, b".lane", i as u64);
-        return listing_text::put_text(name, at, b".part");
-    }
-    listing_text::put_text(name, n, b".records.part")
-}
-
-// Says that the last call of the system failed on an output.
-fn say_output(name: &mut [u8], n: usize, lanes: usize, i: usize)
-    requires { ⌜ n + 30 ≤ length (now name) ⌝ }
-{
-    let end = put_name(name, n, lanes, i);
-    console::say_failed(b"unpack", &name[..end]);
 }
 
 // ---- reading
@@ -138,8 +118,8 @@ fn take_frame(
 // ---- writing
 
 // Writes octets to an output.
-fn write_to(fds: [i32; 9], i: usize, octets: &[u8]) -> bool {
-    if 8 < i {
+fn write_to(fds: [i32; 10], i: usize, octets: &[u8]) -> bool {
+    if 9 < i {
         return false;
     }
     let fd = fds[i];
@@ -161,15 +141,15 @@ fn output_of(v: Verdict) -> usize
     ensures { λ r. ⌜ r ≡ outputOf v ⌝ }
 {
     match v {
-        Verdict::Refused(_) => 9,
-        Verdict::Idle => 9,
-        Verdict::Counted(_) => 9,
+        Verdict::Refused(_) => 10,
+        Verdict::Idle => 10,
+        Verdict::Counted(_) => 10,
         Verdict::Read(l) => l,
     }
 }
 
-// Writes units to output i and records to the output after the lanes', if there are any.
-fn put_units(fds: [i32; 9], i: usize, lanes: usize, units: &[u8], records: &[u8]) -> Went {
+// Writes units to output i and records to theirs, if there are any.
+fn put_units(fds: [i32; 10], i: usize, units: &[u8], records: &[u8]) -> Went {
     if units.len() == 0 {
         return Went::Well;
     }
@@ -177,9 +157,9 @@ fn put_units(fds: [i32; 9], i: usize, lanes: usize, units: &[u8], records: &[u8]
     if !given {
         return Went::NotWritten(i);
     }
-    let told = write_to(fds, lanes, records);
+    let told = write_to(fds, 9, records);
     if !told {
-        return Went::NotWritten(lanes);
+        return Went::NotWritten(9);
     }
     Went::Well
 }
@@ -189,8 +169,7 @@ fn put_out(
     k: u64,
     v: Verdict,
     a: Answer,
-    lanes: usize,
-    fds: [i32; 9],
+    fds: [i32; 10],
     line: &[u8],
     units: &[u8],
     records: &[u8],
@@ -202,7 +181,7 @@ fn put_out(
         return Went::NotPrinted;
     }
     let i = output_of(v);
-    put_units(fds, i, lanes, units, records)
+    put_units(fds, i, units, records)
 }
 
 // Whether all went well.
@@ -251,7 +230,7 @@ fn say_progress(went: Went, count: u64) {
 fn handle(
     u: Turn,
     came: Came,
-    fds: [i32; 9],
+    fds: [i32; 10],
     frame: &[u8],
     held: &mut [u8],
     units: &mut [u8],
@@ -271,16 +250,7 @@ fn handle(
     let end = p.end;
     let o = a.octets;
     let c = rules::RECORD_SIZE * a.units;
-    let went = put_out(
-        k,
-        v,
-        a,
-        s.numbered,
-        fds,
-        &area[..end],
-        &units[..o],
-        &records[..c],
-    );
+    let went = put_out(k, v, a, fds, &area[..end], &units[..o], &records[..c]);
     say_progress(went, k + 1);
     let more = goes_on(came.octets == s.length, went);
     let after = p.state;
@@ -326,7 +296,7 @@ fn halted(u: Turn, came: Came) -> Turn
 fn take_came(
     u: Turn,
     came: Came,
-    fds: [i32; 9],
+    fds: [i32; 10],
     frame: &[u8],
     held: &mut [u8],
     units: &mut [u8],
@@ -349,7 +319,7 @@ fn take_came(
 fn turn_frame(
     u: Turn,
     fd: i32,
-    fds: [i32; 9],
+    fds: [i32; 10],
     frame: &mut [u8],
     held: &mut [u8],
     units: &mut [u8],
@@ -386,7 +356,7 @@ fn first_turn(s: Setting) -> Turn
 
 // Takes the recording's frames to its end, or to the first failure. A proved loop has to end: this one counts its frames, to a number that
 // no run reaches.
-fn take_all(s: Setting, fd: i32, fds: [i32; 9]) -> Turn
+fn take_all(s: Setting, fd: i32, fds: [i32; 10]) -> Turn
     requires { ⌜ settingOk s ≡ true ⌝ }
     ensures { λ u. ⌜ Finished s (u .count) (u .state) (u .totals) ⌝ }
 {
@@ -438,125 +408,215 @@ fn print_totals(r: Reader, t: Tally) -> bool
     hand_totals(r, t, &area[..end])
 }
 
-// ---- files
-
-// Opens each output anew under the name of its unfinished file.
-fn open_all(lanes: usize, name: &mut [u8], n: usize, fds: &mut [i32]) -> bool
-    requires { ⌜ (lanes ≤ 8) × (n + 30 ≤ length (now name)) × (length (now fds) ≡ 9) ⌝ }
-{
-    let mut i: usize = 0;
-    while i <= lanes {
-        let end = put_name(name, n, lanes, i);
-        let fd = os::open_overwrite(&name[..end]);
-        if fd < 0 {
-            console::say_failed(b"unpack", &name[..end]);
-            return false;
-        }
-        fds[i] = fd;
-        i += 1;
-    }
-    true
-}
-
-// Closes each output.
-fn close_all(lanes: usize, fds: [i32; 9], name: &mut [u8], n: usize) -> bool
-    requires { ⌜ (lanes ≤ 8) × (n + 30 ≤ length (now name)) ⌝ }
-{
-    let mut i: usize = 0;
-    while i <= lanes {
-        let fd = fds[i];
-        let closed = libc::close(fd);
-        if closed < 0 {
-            say_output(name, n, lanes, i);
-            return false;
-        }
-        i += 1;
-    }
-    true
-}
-
-// Gives an unfinished file its name without the last five octets.
-fn rename_part(part: &[u8]) -> bool
-    requires { ⌜ 5 ≤ length (now part) ⌝ }
-{
-    let end = part.len() - 5;
-    let renamed = os::rename(part, &part[..end]);
-    if renamed < 0 {
-        console::say_failed(b"unpack", &part[..end]);
-        return false;
-    }
-    true
-}
-
-// Gives each output its name.
-fn rename_all(lanes: usize, name: &mut [u8], n: usize) -> bool
-    requires { ⌜ (lanes ≤ 8) × (n + 30 ≤ length (now name)) ⌝ }
-{
-    let mut i: usize = 0;
-    while i <= lanes {
-        let end = put_name(name, n, lanes, i);
-        let good = rename_part(&name[..end]);
-        if good {
-            i += 1;
-        } else {
-            return false;
-        }
-    }
-    true
-}
-
 // ---- the program
 
-// Once every frame is taken: prints the totals, closes the outputs, gives them their names, and says that it is done.
-fn finish(r: Reader, t: Tally, count: u64, fds: [i32; 9], name: &mut [u8], n: usize)
-    requires { ⌜ (readerOk r ≡ true) × (n + 30 ≤ length (now name)) ⌝ }
+// What a run has: the plan of its outputs, their descriptors, and its inputs as the system knows them.
+struct Job {
+    plan: Plan,
+    fds: [i32; 10],
+    setting: Known,
+    recording: Known,
+}
+
+// Whether all went well to the end, and how many frames there were.
+struct Outcome {
+    whole: bool,
+    count: u64,
+}
+
+// Once all outputs are written: they are put on the device, what has their names is looked at once more, and they get them.
+fn settle(job: Job, name: &mut [u8], n: usize) -> bool
+    requires { ⌜ n + 51 ≤ length (now name) ⌝ }
 {
-    let s = r.setting;
-    let printed = print_totals(r, t);
-    if printed {
-        let closed = close_all(s.numbered, fds, name, n);
-        if closed {
-            let renamed = rename_all(s.numbered, name, n);
-            if renamed {
-                console::say_count(b"unpack", b"done: ", count, b" frames");
-            }
+    let p = job.plan;
+    let fds = job.fds;
+    let kept = outputs::keep_all(p, fds, name, n);
+    if kept {
+        let a = job.setting;
+        let b = job.recording;
+        let may = outputs::may_take_all(p, name, n, a, b);
+        if may {
+            return outputs::give_names(p, name, n);
         }
     }
+    false
 }
 
 // Says what failed in a turn, if anything did.
-fn say_went(went: Went, recording: &[u8], name: &mut [u8], n: usize, lanes: usize)
-    requires { ⌜ n + 30 ≤ length (now name) ⌝ }
+fn say_went(went: Went, recording: &[u8], p: Plan, name: &mut [u8], n: usize)
+    requires { ⌜ n + 51 ≤ length (now name) ⌝ }
 {
     match went {
         Went::Well => {}
         Went::NotRead => console::say_failed(b"unpack", recording),
         Went::NotPrinted => console::say_failed(b"unpack", b"standard output"),
-        Went::NotWritten(i) => say_output(name, n, lanes, i),
+        Went::NotWritten(i) => outputs::say_part(p, name, n, i),
+    }
+}
+
+// Once every frame is taken: prints the totals, and settles the outputs.
+fn finish(r: Reader, t: Tally, job: Job, name: &mut [u8], n: usize) -> bool
+    requires { ⌜ (readerOk r ≡ true) × (n + 51 ≤ length (now name)) ⌝ }
+{
+    let printed = print_totals(r, t);
+    if printed {
+        return settle(job, name, n);
+    }
+    false
+}
+
+// Takes all frames, and finishes where all went well.
+fn take_and_finish(
+    s: Setting,
+    fd: i32,
+    recording: &[u8],
+    job: Job,
+    name: &mut [u8],
+    n: usize,
+) -> Outcome
+    requires { ⌜ (settingOk s ≡ true) × (n + 51 ≤ length (now name)) ⌝ }
+{
+    let fds = job.fds;
+    let u = take_all(s, fd, fds);
+    let went = u.went;
+    let good = well(went);
+    if good {
+        let r = u.state;
+        let t = u.totals;
+        let whole = finish(r, t, job, name, n);
+        return Outcome {
+            whole: whole,
+            count: u.count,
+        };
+    }
+    let p = job.plan;
+    say_went(went, recording, p, name, n);
+    Outcome {
+        whole: false,
+        count: u.count,
     }
 }
 
 // Unpacks into outputs that are open.
-fn unpack_all(s: Setting, fd: i32, recording: &[u8], fds: [i32; 9], name: &mut [u8], n: usize)
-    requires { ⌜ (settingOk s ≡ true) × (n + 30 ≤ length (now name)) ⌝ }
+fn unpack_all(s: Setting, fd: i32, recording: &[u8], job: Job, name: &mut [u8], n: usize) -> Outcome
+    requires { ⌜ (settingOk s ≡ true) × (n + 51 ≤ length (now name)) ⌝ }
 {
     let titled = print_title();
     if titled {
-        let u = take_all(s, fd, fds);
-        let went = u.went;
-        let good = well(went);
-        if good {
-            let r = u.state;
-            let t = u.totals;
-            finish(r, t, u.count, fds, name, n);
-        } else {
-            say_went(went, recording, name, n, s.numbered);
+        return take_and_finish(s, fd, recording, job, name, n);
+    }
+    Outcome {
+        whole: false,
+        count: 0,
+    }
+}
+
+// Unpacks into outputs that are open, and says that it is done; or removes them.
+fn work(s: Setting, fd: i32, recording: &[u8], job: Job, name: &mut [u8], n: usize)
+    requires { ⌜ (settingOk s ≡ true) × (n + 51 ≤ length (now name)) ⌝ }
+{
+    let e = unpack_all(s, fd, recording, job, name, n);
+    if e.whole {
+        console::say_count(b"unpack", b"done: ", e.count, b" frames");
+        return;
+    }
+    let p = job.plan;
+    let fds = job.fds;
+    outputs::remove_all(p, fds, name, n);
+}
+
+// Makes the outputs and unpacks.
+fn with_job(s: Setting, fd: i32, recording: &[u8], job: Job, name: &mut [u8], n: usize)
+    requires { ⌜ (settingOk s ≡ true) × (n + 51 ≤ length (now name)) ⌝ }
+{
+    let p = job.plan;
+    let mut fds = [-1i32; 10];
+    let made = outputs::make_all(p, name, n, &mut fds);
+    if made {
+        let a = job.setting;
+        let b = job.recording;
+        let open = Job {
+            plan: p,
+            fds: fds,
+            setting: a,
+            recording: b,
+        };
+        work(s, fd, recording, open, name, n);
+        return;
+    }
+    outputs::remove_all(p, fds, name, n);
+}
+
+// The same, where no output would replace an input.
+fn with_plan(s: Setting, fd: i32, recording: &[u8], job: Job, name: &mut [u8], n: usize)
+    requires { ⌜ (settingOk s ≡ true) × (n + 51 ≤ length (now name)) ⌝ }
+{
+    let p = job.plan;
+    let a = job.setting;
+    let b = job.recording;
+    let may = outputs::may_take_all(p, name, n, a, b);
+    if may {
+        with_job(s, fd, recording, job, name, n);
+    }
+}
+
+// Draws the number of a run, for the names of its unfinished files, and goes on.
+fn with_name(s: Setting, fd: i32, recording: &[u8], a: Known, b: Known, name: &mut [u8], n: usize)
+    requires { ⌜ (settingOk s ≡ true) × (n + 51 ≤ length (now name)) ⌝ }
+{
+    let mut drawn = [0u8; 8];
+    let got = libc::getentropy(&mut drawn);
+    if got < 0 {
+        console::say_failed(b"unpack", b"a number for the unfinished files");
+        return;
+    }
+    let number = octets::number(&drawn);
+    let p = Plan {
+        number: number,
+        lanes: s.numbered,
+        table: false,
+    };
+    let job = Job {
+        plan: p,
+        fds: [-1i32; 10],
+        setting: a,
+        recording: b,
+    };
+    with_plan(s, fd, recording, job, name, n);
+}
+
+// Says what is wrong with a prefix, if anything is; whether nothing is.
+fn say_prefix(what: Prefix, prefix: &[u8]) -> bool {
+    match what {
+        Prefix::Fine => true,
+        Prefix::Empty => {
+            console::say(
+                b"unpack",
+                b"PREFIX",
+                b"is empty; expected what names of files begin with",
+            );
+            false
+        }
+        Prefix::Folder => {
+            console::say(
+                b"unpack",
+                prefix,
+                b"is a folder; expected what names of files begin with",
+            );
+            false
         }
     }
 }
 
-// Opens the outputs and unpacks.
-fn with_prefix(s: Setting, fd: i32, recording: &[u8])
+// Whether names can begin with this prefix.
+fn good_prefix(prefix: &[u8]) -> bool {
+    let k = files::of_name(prefix);
+    let what = unpack_start::prefix_of(prefix, k);
+    say_prefix(what, prefix)
+}
+
+// Takes the prefix from the command line, and goes on.
+fn with_prefix(s: Setting, fd: i32, recording: &[u8], a: Known, b: Known)
     requires { ⌜ settingOk s ≡ true ⌝ }
 {
     let mut prefix = io::buffer();
@@ -565,17 +625,47 @@ fn with_prefix(s: Setting, fd: i32, recording: &[u8])
         console::say_failed(b"unpack", b"PREFIX");
         return;
     }
-    let mut name = [0u8; 4126];
-    octets::copy(&mut name, &prefix[..n]);
-    let mut fds = [0i32; 9];
-    let opened = open_all(s.numbered, &mut name, n, &mut fds);
-    if opened {
-        unpack_all(s, fd, recording, fds, &mut name, n);
+    let good = good_prefix(&prefix[..n]);
+    if good {
+        let mut name = [0u8; 4147];
+        octets::copy(&mut name, &prefix[..n]);
+        with_name(s, fd, recording, a, b, &mut name, n);
+    }
+}
+
+// Whether neither standard output nor standard error is an input. Of standard error nothing is said: there is no place to say it.
+fn outside(a: Known, b: Known) -> bool {
+    let e = files::of_descriptor(2);
+    let mixed = unpack_start::is_spoiled(e, a, b);
+    if mixed {
+        return false;
+    }
+    let o = files::of_descriptor(1);
+    let same = unpack_start::is_spoiled(o, a, b);
+    if same {
+        console::say(
+            b"unpack",
+            b"standard output",
+            b"is the setting or the recording",
+        );
+        return false;
+    }
+    true
+}
+
+// Looks at the recording, and goes on.
+fn with_recording(s: Setting, fd: i32, recording: &[u8], a: Known)
+    requires { ⌜ settingOk s ≡ true ⌝ }
+{
+    let b = files::of_descriptor(fd);
+    let good = outside(a, b);
+    if good {
+        with_prefix(s, fd, recording, a, b);
     }
 }
 
 // Opens the recording, and goes on.
-fn with_setting(s: Setting)
+fn with_setting(s: Setting, a: Known)
     requires { ⌜ settingOk s ≡ true ⌝ }
 {
     let mut path = io::buffer();
@@ -589,16 +679,25 @@ fn with_setting(s: Setting)
         console::say_failed(b"unpack", &path[..n]);
         return;
     }
-    with_prefix(s, fd, &path[..n]);
+    with_recording(s, fd, &path[..n], a);
     libc::close(fd);
 }
 
-// Unpacks what the command line names, or says why it cannot.
-pub fn run() {
-    if os::arg_count() != 4 {
-        console::say(b"unpack", b"usage", b"unpack SETTING RECORDING PREFIX");
-        return;
+// Whether standard output and standard error are open. A file that is opened would take the number of one that is closed.
+fn open_ends() -> bool {
+    let e = files::of_descriptor(2);
+    if e.there {
+        let o = files::of_descriptor(1);
+        if o.there {
+            return true;
+        }
+        console::say_failed(b"unpack", b"standard output");
     }
+    false
+}
+
+// Reads the setting, and goes on.
+fn with_words() {
     let mut path = io::buffer();
     let n = os::arg(1, &mut path);
     if os::errno() != 0 {
@@ -610,6 +709,19 @@ pub fn run() {
     let j = l.judged;
     if j.good {
         let s = j.setting;
-        with_setting(s);
+        let a = l.file;
+        with_setting(s, a);
+    }
+}
+
+// Unpacks what the command line names, or says why it cannot.
+pub fn run() {
+    let open = open_ends();
+    if open {
+        if os::arg_count() != 4 {
+            console::say(b"unpack", b"usage", b"unpack SETTING RECORDING PREFIX");
+            return;
+        }
+        with_words();
     }
 }

@@ -4,7 +4,7 @@ use lib.Seq.{length-take-le}
 use native.Mathlib.Omega.{arith}
 use Rattle.unpacking.specs.Stages.{takenTurn}
 use Rattle.unpacking.proofs.Carried.{gave-fits, handed}
-use Rattle.unpacking.proofs.Cuts.{wrote-cut}
+use Rattle.unpack_text.proofs.Cuts.{wrote-cut}
 use borrow.Author.Needs.{needs}
 use Rattle.unpacking.proofs.handle.Statement.{statement}
 use Rattle.unpacking.proofs.handle.Tie as tie

@@ -1,5 +1,5 @@
 -- The title is what was put.
-use Rattle.unpacking.proofs.Cuts.{wrote-cut, wrote-front}
+use Rattle.unpack_text.proofs.Cuts.{wrote-cut, wrote-front}
 use borrow.Author.Needs.{needs}
 use Rattle.unpacking.proofs.print_title.Statement.{statement}
 use Rattle.unpacking.proofs.print_title.Tie as tie

@@ -1,6 +1,6 @@
 -- A valid state has at most eight lanes and eight channels. The text of the totals is what was put.
 use Rattle.rules.proofs.Valid.{good-reader}
-use Rattle.unpacking.proofs.Cuts.{wrote-cut, wrote-front}
+use Rattle.unpack_text.proofs.Cuts.{wrote-cut, wrote-front}
 use borrow.Author.Needs.{needs}
 use Rattle.unpacking.proofs.print_totals.Statement.{statement}
 use Rattle.unpacking.proofs.print_totals.Tie as tie

@@ -1,0 +1,19 @@
+-- What unpack decides before it begins.
+use Prim.Native.Nat.{ℕ, _-_}
+use mathlib.Core.Bool.{Bool, true, false, cond}
+use mathlib.Core.List.{List}
+use lib.ListN.{length, getD}
+use Rattle.rules.specs.Tests.{_=?_}
+use Rattle.files.specs.declared.Known.{Known}
+use Rattle.files.specs.Known.{sameFile, isRegular, isFolder}
+use Rattle.unpack_start.specs.declared.Prefix.{Prefix}
+use Rattle.unpack_start.specs.declared.Prefix.the-variants.{Fine, Empty, Folder}
+
+-- "An empty prefix, a prefix that ends in a folder, are refused": one that ends in `/`, or names a folder itself.
+unfoldable pub prefixOf : List ℕ → Known → Prefix
+prefixOf xs k =
+    cond (length xs =? 0) Empty (cond (getD xs (length xs - 1) 0 =? 47) Folder (cond (isFolder k) Folder Fine))
+
+-- What is printed would go into a regular file that is an input.
+unfoldable pub spoils : Known → Known → Known → Bool
+spoils k a b = cond (isRegular k) (cond (sameFile k a) true (sameFile k b)) false
