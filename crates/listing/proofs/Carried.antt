@@ -98,3 +98,8 @@ pub begins-from : (s : Setting) (l : Listener) → s ≡ worked packetLane → R
 begins-from s l e q =
     subst (λ (x : Listener). Reached 0 (x .state) (replicate heldSize 0) (replicate unitsSize 0) (replicate recordsSize 0))
     (sym (reader-starts-is s l q ∙ ap setUpReader e)) begins
+
+pub goes-not : (b : Bool) (P : Type 0) → b ≡ false → GoesOn b P
+unfolding GoesOn
+goes-not true P e = absurd (false≢true (sym e))
+goes-not false P e = tt

@@ -7,12 +7,14 @@
 // and that what is handed over is printed, for no contract can speak of what a call of the system reads or writes; and that a
 // short last frame, or the input's end, ends the run.
 ghost use mathlib.Core.Path.{_≡_};
-ghost use Prim.Native.Nat.{_+_, _≤_};
+ghost use Prim.Native.Nat.{_+_, _≤_, _<_};
+ghost use mathlib.Core.Bool.{false};
 ghost use lib.ListN.{length};
 ghost use Rattle.rules.specs.Worked.{worked, packetLane};
 ghost use Rattle.rules.specs.Calls.{read};
 ghost use Rattle.listing_text.specs.Puts.{Put};
 ghost use Rattle.listing.specs.Runs.{opening, printed, Listed, Reached, GoesOn};
+use intake::Window;
 use rules::Answer;
 use rules::Channel;
 use rules::Kind;
@@ -27,10 +29,12 @@ struct Printed {
     end: usize,
 }
 
-// The state after a frame, and whether the input may go on.
+// The state after a turn, how many frames are listed by then, whether the input may go on, and whether all went well.
 struct Turn {
     state: Reader,
+    frames: u64,
     more: bool,
+    good: bool,
 }
 
 // The worked setting with its packet lane.
@@ -114,35 +118,86 @@ fn list_frame(
     }
 }
 
-// Prints what is printed for frame k, of this answer.
-fn print(k: u64, a: Answer, text: &[u8])
+// Prints what is printed for frame k, of this answer; whether standard output took it all.
+fn print(k: u64, a: Answer, text: &[u8]) -> bool
     requires { ⌜ now text ≡ printed k a ⌝ }
 {
-    io::write_all(1, text);
+    io::write_all(1, text)
 }
 
-// Reads and prints frame k, if there is one. After a whole frame the listing goes on from what is handed back.
+// Says what the system had against standard input or output, and ends the listing.
+fn failed(r: Reader, k: u64, about: &[u8]) -> Turn
+    ensures { λ t. ⌜ (t .more ≡ false) × (t .good ≡ false) ⌝ }
+{
+    console::say_failed(b"list_worked", about);
+    Turn {
+        state: r,
+        frames: k,
+        more: false,
+        good: false,
+    }
+}
+
+// Lists frame k, which has these octets. After a whole frame the listing goes on from what is handed back.
+fn list_came(
+    k: u64,
+    r: Reader,
+    frame: &[u8],
+    held: &mut [u8],
+    units: &mut [u8],
+    records: &mut [u8],
+) -> Turn
+    requires { ⌜ Reached k r (now held) (now units) (now records) × (k < 18446744073709551615) × (1 ≤ length (now frame)) ⌝ }
+    ensures { λ t. ⌜ GoesOn (t .more) (Reached (k + 1) (t .state) (now (held .exit)) (now (units .exit)) (now (records .exit))) ⌝ }
+{
+    let mut area = [0u8; 98];
+    let p = list_frame(k, r, frame, held, units, records, &mut area);
+    let a = p.answer;
+    let end = p.end;
+    let s = p.state;
+    let sent = print(k, a, &area[..end]);
+    if !sent {
+        return failed(s, k, b"standard output");
+    }
+    Turn {
+        state: s,
+        frames: k + 1,
+        more: frame.len() == 32,
+        good: true,
+    }
+}
+
+// Reads and lists frame k, if there is one.
 fn list_next(k: u64, r: Reader, held: &mut [u8], units: &mut [u8], records: &mut [u8]) -> Turn
-    requires { ⌜ Reached k r (now held) (now units) (now records) ⌝ }
+    requires { ⌜ Reached k r (now held) (now units) (now records) × (k < 18446744073709551615) ⌝ }
     ensures { λ t. ⌜ GoesOn (t .more) (Reached (k + 1) (t .state) (now (held .exit)) (now (units .exit)) (now (records .exit))) ⌝ }
 {
     let mut frame = [0u8; 32];
-    let n = io::read_full(0, &mut frame);
+    let none = Window {
+        have: 0,
+        at: 0,
+        good: true,
+    };
+    let w = intake::fill_up(0, &mut frame, none);
+    if !w.good {
+        return failed(r, k, b"standard input");
+    }
+    let n = w.have;
     if n == 0 {
         return Turn {
             state: r,
+            frames: k,
             more: false,
+            good: true,
         };
     }
-    let mut area = [0u8; 98];
-    let p = list_frame(k, r, &frame[..n], held, units, records, &mut area);
-    let a = p.answer;
-    let end = p.end;
-    print(k, a, &area[..end]);
-    let s = p.state;
-    Turn {
-        state: s,
-        more: n == 32,
+    list_came(k, r, &frame[..n], held, units, records)
+}
+
+// Says how many frames are listed, where all went well.
+fn say_end(t: Turn) {
+    if t.good {
+        console::say_count(b"list_worked", b"done: ", t.frames, b" frames");
     }
 }
 
@@ -162,6 +217,7 @@ pub fn run() {
             state = after;
             k += 1;
         } else {
+            say_end(t);
             break;
         }
     }

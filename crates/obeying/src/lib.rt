@@ -10,46 +10,122 @@ ghost use Rattle.io.specs.Counts.{Counts};
 
 mod requests;
 
+use intake::Window;
 use requests::least;
 use requests::obey;
 use rows::word_in;
 
-// The next request of standard input, at the front of `q`; how many octets it has, or 0 where there is none.
-fn next(q: &mut [u8]) -> usize
-    requires { ⌜ 64 ≤ length (now q) ⌝ }
-    ensures { λ r. ⌜ Counts r (now (q .exit)) ⌝ }
+// What came of a request: how many octets it has, 0 where there is none, and whether all went well. What did not is said by then.
+struct Came {
+    size: usize,
+    good: bool,
+}
+
+// Says what the system had against standard input; nothing came.
+fn not_read() -> Came
+    ensures { λ r. ⌜ r .size ≡ 0 ⌝ }
 {
-    let n = io::read_full(0, &mut q[..64]);
-    if n < 64 {
-        return 0;
+    console::say_failed(b"obey", b"standard input");
+    Came {
+        size: 0,
+        good: false,
     }
+}
+
+// Says that standard input ends inside a request; nothing came.
+fn cut() -> Came
+    ensures { λ r. ⌜ r .size ≡ 0 ⌝ }
+{
+    console::say(
+        b"obey",
+        b"standard input",
+        b"a request that the input's end cuts",
+    );
+    Came {
+        size: 0,
+        good: false,
+    }
+}
+
+// The octets behind the row at the front of `q`, as many as it says; no more than there is room for.
+fn behind(q: &mut [u8]) -> Came
+    requires { ⌜ 64 ≤ length (now q) ⌝ }
+    ensures { λ r. ⌜ Counts (r .size) (now (q .exit)) ⌝ }
+{
     let size = word_in(q, 1);
     let m = least(size, q.len() - 64);
     let to = 64 + m;
-    let k = io::read_full(0, &mut q[64..to]);
-    64 + k
+    let none = Window {
+        have: 0,
+        at: 0,
+        good: true,
+    };
+    let w = intake::fill_up(0, &mut q[64..to], none);
+    if !w.good {
+        return not_read();
+    }
+    if w.have < m {
+        return cut();
+    }
+    Came {
+        size: to,
+        good: true,
+    }
 }
 
-// Writes the answer to a request: the desk after a call, and the reader's areas after a read.
-fn tell(what: u64, desk: &[u8], held: &[u8], units: &[u8], records: &[u8]) {
+// The next request of standard input, at the front of `q`.
+fn next(q: &mut [u8]) -> Came
+    requires { ⌜ 64 ≤ length (now q) ⌝ }
+    ensures { λ r. ⌜ Counts (r .size) (now (q .exit)) ⌝ }
+{
+    let none = Window {
+        have: 0,
+        at: 0,
+        good: true,
+    };
+    let w = intake::fill_up(0, &mut q[..64], none);
+    if !w.good {
+        return not_read();
+    }
+    if w.have == 0 {
+        return Came {
+            size: 0,
+            good: true,
+        };
+    }
+    if w.have < 64 {
+        return cut();
+    }
+    behind(q)
+}
+
+// Writes the answer to a request: the desk after a call, and the reader's areas after a read. Whether standard output took it all.
+fn tell(what: u64, desk: &[u8], held: &[u8], units: &[u8], records: &[u8]) -> bool {
     if what < 2 {
-        io::write_all(1, desk);
-        io::write_all(1, held);
-        io::write_all(1, units);
-        io::write_all(1, records);
-        return;
+        return io::write_all(1, desk)
+            && io::write_all(1, held)
+            && io::write_all(1, units)
+            && io::write_all(1, records);
     }
     if 4 < what {
-        io::write_all(1, desk);
+        return io::write_all(1, desk);
     }
+    true
 }
 
 // Obeys a request, and answers it.
-fn turn(q: &[u8], desk: &mut [u8], held: &mut [u8], units: &mut [u8], records: &mut [u8])
+fn turn(q: &[u8], desk: &mut [u8], held: &mut [u8], units: &mut [u8], records: &mut [u8]) -> bool
     requires { ⌜ (64 ≤ length (now q)) × (length (now desk) ≡ 6440) ⌝ }
 {
     obey(q, desk, held, units, records);
-    tell(word_in(q, 0), desk, held, units, records);
+    tell(word_in(q, 0), desk, held, units, records)
+}
+
+// Says how many requests were obeyed, where all went well.
+fn say_end(good: bool, k: u64) {
+    if good {
+        console::say_count(b"obey", b"done: ", k, b" requests");
+    }
 }
 
 // Obeys standard input, request after request, to its end.
@@ -61,11 +137,17 @@ pub fn run() {
     let mut records = [0x55u8; 9632];
     let mut k: u64 = 0;
     while k < 18446744073709551615 {
-        let n = next(&mut q);
+        let came = next(&mut q);
+        let n = came.size;
         if n < 64 {
+            say_end(came.good, k);
             break;
         }
-        turn(&q[..n], &mut desk, &mut held, &mut units, &mut records);
+        let sent = turn(&q[..n], &mut desk, &mut held, &mut units, &mut records);
+        if !sent {
+            console::say_failed(b"obey", b"standard output");
+            break;
+        }
         k += 1;
     }
 }

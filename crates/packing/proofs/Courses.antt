@@ -6,7 +6,7 @@ use mathlib.Core.Path.{_≡_, refl, sym, ap, ap₂, subst, _∙_}
 use mathlib.Core.Bool.{Bool, true, false, cond, not, _&&_, false≢true}
 use mathlib.Core.List.{List, _++_}
 use lib.ListN.{length, take, drop, length-take, length-drop}
-use lib.Seq.{take-take, take-all, take-append-le, length-take-le}
+use lib.Seq.{take-all, take-append-le, length-take-le}
 use borrow.Author.Tests.{eq-eqb, ne-eqb, lt-ltb, le-ltb}
 use Rattle.rules.specs.Tests.{_=?_}
 use Rattle.rules.specs.declared.Outcome.{Outcome}
@@ -24,28 +24,12 @@ use Rattle.file_batches.specs.FileBatches.{gathered}
 use Rattle.file_batches.proofs.Kept.{gathered-inside}
 use Rattle.packing.specs.declared.Fault.{Fault}
 use Rattle.packing.specs.declared.Fault.the-variants as faults
-use Rattle.packing.specs.declared.Window.{Window}
+use Rattle.intake.specs.declared.Window.{Window}
 use Rattle.packing.specs.declared.Course.{Course}
 use Rattle.packing.specs.declared.Job.{Job}
 use Rattle.packing.specs.declared.Step.{Step}
-use Rattle.packing.specs.Courses.{sound, sentFault, ended, Refilled, oneMore, courseOf, sentOn, SentNext, goesOn}
+use Rattle.packing.specs.Courses.{sound, sentFault, ended, oneMore, courseOf, sentOn, SentNext, goesOn}
 use Rattle.packing.specs.Courses.{workedOff, Unless, batchOn, nextBatch, noBatch, stepCourse, Turned, unitCourse, PassedAs, LanePassed}
-
--- ---- reads
-
-pub refilled-none : (w : Window) (area : List ℕ) → w .have ≤ length area → Refilled w area w area
-refilled-none w area h = record { fits = h; more = omega arith; at = refl; kept = refl }
-
-pub refilled-then : {w : Window} {a : List ℕ} {x : Window} {b : List ℕ} {y : Window} {d : List ℕ}
-    → Refilled w a x b → Refilled x b y d → length b ≡ length a → Refilled w a y d
-refilled-then {w} {a} {x} {b} {y} {d} p q l =
-    record {
-      fits = omega (arith, q .fits, l);
-      more = omega (arith, p .more, q .more);
-      at = q .at ∙ p .at;
-      kept =
-          sym (take-take (w .have) (x .have) d (p .more)) ∙ ap (take (w .have)) (q .kept) ∙ take-take (w .have) (x .have) b (p .more) ∙ p .kept;
-    }
 
 -- ---- frames
 
@@ -188,14 +172,6 @@ module _ (j : Job) (c : Course) (xs insert ocf : List ℕ) {good : Bool} {d : Co
       pub unit-whole : length xs ≤ j .longest → Unless d (batchOn j c xs insert ocf) → Unless d (unitCourse j c good xs insert ocf)
       unfolding unitCourse
       unit-whole k e = rw (g, ne-eqb (length xs) 0 z, le-ltb (j .longest) (length xs) k) e
-
--- ---- turn after turn
-
--- What was left in a window still stands at the front of the next.
-pub still : {w : Window} {area : List ℕ} {w′ : Window} {area′ : List ℕ} → w .have ≤ length area → Refilled w area w′ area′
-    → take (length (take (w .have) area)) (take (w′ .have) area′) ≡ take (w .have) area
-still {w} {area} {w′} {area′} h r =
-    ap (λ (n : ℕ). take n (take (w′ .have) area′)) (length-take-le (w .have) area h) ∙ take-take (w .have) (w′ .have) area′ (r .more) ∙ r .kept
 
 -- ---- lanes
 

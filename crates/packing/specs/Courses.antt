@@ -1,5 +1,5 @@
 -- How pack goes through a file: what the window holds is what was read, and all else follows from it.
-use Prim.Native.Nat.{ℕ, zero, suc, _+_, _-_, _≤_, min}
+use Prim.Native.Nat.{ℕ, zero, suc, _+_, _-_, min}
 use mathlib.Core.Path.{_≡_}
 use mathlib.Core.Bool.{Bool, true, false, cond, not, _&&_}
 use mathlib.Core.List.{List, []}
@@ -19,7 +19,7 @@ use Rattle.file_batches.specs.declared.Wrong.the-variants as wrongs
 use Rattle.file_batches.specs.FileBatches.{gathered, wrongAt}
 use Rattle.packing.specs.declared.Fault.{Fault}
 use Rattle.packing.specs.declared.Fault.the-variants as faults
-use Rattle.packing.specs.declared.Window.{Window}
+use Rattle.intake.specs.declared.Window.{Window}
 use Rattle.packing.specs.declared.Course.{Course}
 use Rattle.packing.specs.declared.Job.{Job}
 use Rattle.packing.specs.declared.Step.{Step}
@@ -50,15 +50,6 @@ sentFault sent = cond sent faults.Nothing faults.NotSent
 
 abbrev pub ended : Course → Fault → Course
 ended c f = record { fault = f; state = c .state; frames = c .frames }
-
--- ---- a window on a file
-
--- What was read stands behind what the area held, and that is as it was.
-pub record Refilled (w : Window) (area : List ℕ) (w′ : Window) (area′ : List ℕ) : Type 0 where
-  pub fits : w′ .have ≤ length area
-  pub more : w .have ≤ w′ .have
-  pub at : w′ .at ≡ w .at
-  pub kept : take (w .have) area′ ≡ take (w .have) area
 
 -- ---- frame by frame
 

@@ -6,14 +6,15 @@
 // all octets of the file (`unit_step`); to work a batch off is to write it, frame by frame, until the lane's number returns to 0
 // (`work_off`); what is wrong, and at which octet (`Fault`). Shown by runs: what no contract can follow into the system.
 ghost use mathlib.Core.Path.{_≡_};
-ghost use Prim.Native.Nat.{_+_, _≤_, min};
+ghost use Prim.Native.Nat.{_+_, _≤_};
 ghost use lib.ListN.{length, take};
 ghost use Rattle.io.specs.Counts.{Counts};
 ghost use Rattle.rules.specs.Settings.{lane, channel, ocfOctets, number};
 ghost use Rattle.packing.specs.Words.{begins as beginsWith, lane as laneNamed, nameOf, badPlan, planOn, fine};
-ghost use Rattle.packing.specs.Courses.{sound, wrongFault, Refilled, ended, oneMore, sentFault, SentNext, goesOn, Unless, workedOff, areaBefore, batchOn, noBatch, nextBatch, Stepped, Passed, unitCourse, UnitPassed, LanePassed};
+ghost use Rattle.packing.specs.Courses.{sound, wrongFault, ended, oneMore, sentFault, SentNext, goesOn, Unless, workedOff, areaBefore, batchOn, noBatch, nextBatch, Stepped, Passed, unitCourse, UnitPassed, LanePassed};
 ghost use Rattle.rules.specs.Areas.{batchSize};
 use file_batches::Wrong;
+use intake::Window;
 use rules::Kind;
 use rules::Lane;
 use rules::Outcome;
@@ -185,69 +186,12 @@ fn say_fault(path: &[u8], f: Fault) {
 
 // ---- files
 
-// What an area holds of a file: how many octets at its front, which octet of the file the first is, and whether all reads went well.
-struct Window {
-    have: usize,
-    at: u64,
-    good: bool,
-}
-
-// The lesser of two numbers.
-fn least(a: usize, b: usize) -> usize
-    ensures { λ r. ⌜ r ≡ min a b ⌝ }
-{
-    if a < b {
-        return a;
-    }
-    b
-}
-
 // As many octets at the front of an area as asked for, or all of them.
 fn within(n: usize, area: &[u8]) -> usize
     ensures { λ r. ⌜ Counts r (now (area .entry)) ⌝ }
     ensures { λ r. ⌜ take r (now (area .entry)) ≡ take n (now (area .entry)) ⌝ }
 {
-    least(n, area.len())
-}
-
-// Reads once, behind what the area holds.
-fn refill(fd: i32, area: &mut [u8], w: Window) -> Window
-    requires { ⌜ w .have ≤ length (now area) ⌝ }
-    ensures { λ r. ⌜ Refilled w (now (area .entry)) r (now (area .exit)) ⌝ }
-{
-    let from = w.have;
-    let end = area.len();
-    let got = libc::read(fd, &mut area[from..end]);
-    if got < 0 {
-        return Window {
-            have: from,
-            at: w.at,
-            good: false,
-        };
-    }
-    let came = io::count(got, area);
-    let n = least(came, end - from);
-    Window {
-        have: from + n,
-        at: w.at,
-        good: true,
-    }
-}
-
-// Fills the area up, to its end or the file's.
-fn fill_up(fd: i32, area: &mut [u8], w: Window) -> Window
-    requires { ⌜ w .have ≤ length (now area) ⌝ }
-    ensures { λ r. ⌜ Refilled w (now (area .entry)) r (now (area .exit)) ⌝ }
-{
-    let mut window = w;
-    while window.have < area.len() {
-        let before = window.have;
-        window = refill(fd, area, window);
-        if window.have == before {
-            return window;
-        }
-    }
-    window
+    intake::least(n, area.len())
 }
 
 // ---- frames
@@ -460,7 +404,7 @@ fn packets_on(j: Job, c: Course, fd: i32, insert: &[u8], ocf: &[u8]) -> Course
         good: true,
     };
     while window.at < 18446744073709486080 {
-        window = fill_up(fd, &mut area, window);
+        window = intake::fill_up(fd, &mut area, window);
         let t = packets_step(j, course, window, &mut area, insert, ocf);
         course = t.course;
         window = t.window;
@@ -497,7 +441,7 @@ fn unit_on(j: Job, c: Course, fd: i32, insert: &[u8], ocf: &[u8]) -> Course
         at: 0,
         good: true,
     };
-    let w = fill_up(fd, &mut area, none);
+    let w = intake::fill_up(fd, &mut area, none);
     let n = w.have;
     unit_step(j, c, w.good, &area[..n], insert, ocf)
 }
@@ -746,7 +690,7 @@ fn load_file(path: &[u8], n: usize, area: &mut [u8]) -> bool {
         at: 0,
         good: true,
     };
-    let w = fill_up(fd, &mut space, none);
+    let w = intake::fill_up(fd, &mut space, none);
     if !w.good {
         console::say_failed(b"pack", path);
         libc::close(fd);

@@ -1,4 +1,4 @@
--- Before each frame the listing goes on from what is carried; the areas keep their lengths, and the frames are counted.
+-- `listing::run` meets its contract. Before each frame the listing goes on from what is carried; the areas keep their lengths, and the frames are counted.
 use Prim.Native.Nat.{_-_}
 use lib.ListN.{length}
 use mathlib.Core.Path.{_≡_}
@@ -35,7 +35,7 @@ slice-aggregate-list-next-3 : tie.Need-slice-aggregate-list-next-3 Inv-loop μ-l
 slice-aggregate-list-next-3 c = search needs
 
 list-next-requires : tie.Need-list-next-requires Inv-loop μ-loop
-list-next-requires c κs = c .before .before .before .before .loop .inv .3
+list-next-requires c κs = (c .before .before .before .before .loop .inv .3, search needs)
 
 add-k : tie.Need-add-k Inv-loop μ-loop
 add-k c = search needs
@@ -45,6 +45,9 @@ loop-less c = search needs
 
 loop-again : tie.Need-loop-again Inv-loop μ-loop
 loop-again c = (search needs, search needs, search needs, goes-then _ _ (c .before .if1 .taken) (c .before .before .before .before .before .list-next .ensures))
+
+say-end-requires : tie.Need-say-end-requires Inv-loop μ-loop
+say-end-requires c κs = search needs
 
 returns : tie.Need-returns Inv-loop μ-loop
 returns c = search needs
@@ -68,5 +71,6 @@ run-spec =
     add-k
     loop-less
     loop-again
+    say-end-requires
     returns
     returns-2)

@@ -4,7 +4,8 @@ use mathlib.Core.Path.{_≡_}
 use lib.ListN.{length, take}
 use native.Mathlib.Omega.{arith}
 use Rattle.packing.specs.Courses.{Gone, begun, turn}
-use Rattle.packing.proofs.Courses.{turned-more, still}
+use Rattle.packing.proofs.Courses.{turned-more}
+use Rattle.intake.proofs.Windows.{still}
 use borrow.Author.Needs.{needs}
 use Rattle.packing.proofs.packets_on.Statement.{statement}
 use Rattle.packing.proofs.packets_on.Tie as tie

@@ -1,13 +1,13 @@
--- The invariant: what was read stands behind what the area held, which is as it was.
+-- `intake::fill_up` meets its contract. The invariant: what was read stands behind what the area held, which is as it was.
 use Prim.Native.Nat.{_-_}
 use mathlib.Core.Path.{_≡_, refl}
 use lib.ListN.{length}
 use native.Mathlib.Omega.{arith}
-use Rattle.packing.specs.Courses.{Refilled}
-use Rattle.packing.proofs.Courses.{refilled-none, refilled-then}
+use Rattle.intake.specs.Windows.{Refilled}
+use Rattle.intake.proofs.Windows.{refilled-none, refilled-then}
 use borrow.Author.Needs.{needs}
-use Rattle.packing.proofs.fill_up.Statement.{statement}
-use Rattle.packing.proofs.fill_up.Tie as tie
+use Rattle.intake.proofs.fill_up.Statement.{statement}
+use Rattle.intake.proofs.fill_up.Tie as tie
 
 abbrev Inv-loop : tie.InvT-loop
 Inv-loop fd area₀ window₀ area window = Refilled window₀ area₀ window area × (length area ≡ length area₀)

@@ -1,11 +1,11 @@
--- A read changes nothing before the octets that it is lent.
+-- `intake::refill` meets its contract: a read changes nothing before the octets that it is lent.
 use Prim.Native.Nat.{_-_}
 use lib.ListN.{length}
 use mathlib.Core.Path.{refl}
 use borrow.Rule.Slice.PartMut.{take-put}
 use borrow.Author.Needs.{needs}
-use Rattle.packing.proofs.refill.Statement.{statement}
-use Rattle.packing.proofs.refill.Tie as tie
+use Rattle.intake.proofs.refill.Statement.{statement}
+use Rattle.intake.proofs.refill.Tie as tie
 
 sub-read : tie.Need-sub-read
 sub-read c = search needs
