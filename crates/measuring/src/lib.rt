@@ -39,25 +39,16 @@ fn next(area: &mut [u8]) -> bool {
     n == area.len()
 }
 
-// Reads the input, and does nothing with it.
-fn pass(area: &mut [u8]) {
-    let mut k: u64 = 0;
-    let mut sum: u64 = 0;
-    while k < 18446744073709551615 {
-        let more = next(area);
-        if !more {
-            tell(k, sum);
-            return;
-        }
-        if 0 < area.len() {
-            sum = plus(sum, wide(area[0]));
-        }
-        k += 1;
+// What is summed of an input that is passed over: its first octet.
+fn first(area: &[u8]) -> u64 {
+    if 0 < area.len() {
+        return wide(area[0]);
     }
+    0
 }
 
-// The check of each frame.
-fn check(area: &mut [u8]) {
+// Reads the input, and does nothing with it, or works out the check of each frame.
+fn pass(checked: bool, area: &mut [u8]) {
     let mut k: u64 = 0;
     let mut sum: u64 = 0;
     while k < 18446744073709551615 {
@@ -66,8 +57,13 @@ fn check(area: &mut [u8]) {
             tell(k, sum);
             return;
         }
-        let v = fecf::check_of(area);
-        sum = plus(sum, v as u64);
+        if checked {
+            let v = fecf::check_of(area);
+            sum = plus(sum, v as u64);
+        } else {
+            let v = first(area);
+            sum = plus(sum, v);
+        }
         k += 1;
     }
 }
@@ -89,8 +85,7 @@ fn read(s: Setting, area: &mut [u8]) {
     while k < 18446744073709551615 {
         let more = next(area);
         if !more {
-            tell(k, sum);
-            return;
+            break;
         }
         let t = reader::read(state, area, &mut held, &mut units, &mut records);
         let a = t.answer;
@@ -100,6 +95,7 @@ fn read(s: Setting, area: &mut [u8]) {
         sum = plus(sum, w);
         k += 1;
     }
+    tell(k, sum);
 }
 
 // What goes from frame to frame while batches are written.
@@ -191,7 +187,7 @@ fn write(s: Setting) {
 // Reads the input by batches of 32,768 octets, and does nothing with it.
 fn pass_batches() {
     let mut batch = [0u8; rules::BATCH_SIZE];
-    pass(&mut batch);
+    pass(false, &mut batch);
 }
 
 // ---- the program
@@ -199,7 +195,7 @@ fn pass_batches() {
 // The work that a word's first letter says: pass, batches (pass by batches), check, read or write.
 fn work(letter: u8, s: Setting, area: &mut [u8]) {
     if letter == b'p' {
-        pass(area);
+        pass(false, area);
         return;
     }
     if letter == b'b' {
@@ -207,7 +203,7 @@ fn work(letter: u8, s: Setting, area: &mut [u8]) {
         return;
     }
     if letter == b'c' {
-        check(area);
+        pass(true, area);
         return;
     }
     if letter == b'r' {

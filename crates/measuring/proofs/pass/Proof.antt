@@ -1,16 +1,16 @@
--- The frames are counted, and the area keeps its length.
+-- `measuring::pass` is safe and ends: the frames are counted, and the areas keep their lengths.
 use mathlib.Core.Path.{_≡_}
 use Prim.Native.Nat.{_-_}
-use lib.ListN.{length}
 use borrow.Author.Needs.{needs}
+use lib.ListN.{length}
 use Rattle.measuring.proofs.pass.Statement.{statement}
 use Rattle.measuring.proofs.pass.Tie as tie
 
 abbrev Inv-loop : tie.InvT-loop
-Inv-loop area₀ k₀ sum₀ area k sum = length area ≡ length area₀
+Inv-loop checked area₀ k₀ sum₀ area k sum = length area ≡ length area₀
 
 abbrev μ-loop : tie.MeasureT-loop
-μ-loop area₀ k₀ sum₀ area k sum = 18446744073709551615 - k
+μ-loop checked area₀ k₀ sum₀ area k sum = 18446744073709551615 - k
 
 loop-holds : tie.Need-loop-holds Inv-loop μ-loop
 loop-holds c = search needs
@@ -27,14 +27,20 @@ same-length c = search needs
 returns : tie.Need-returns Inv-loop μ-loop
 returns c = search needs
 
-slice-read-wide : tie.Need-slice-read-wide Inv-loop μ-loop
-slice-read-wide c = search needs
+check-of-requires : tie.Need-check-of-requires Inv-loop μ-loop
+check-of-requires c κs = search needs
 
-wide-requires : tie.Need-wide-requires Inv-loop μ-loop
-wide-requires c κs = search needs
+cast-plus : tie.Need-cast-plus Inv-loop μ-loop
+cast-plus c = search needs
 
 plus-requires : tie.Need-plus-requires Inv-loop μ-loop
 plus-requires c κs = search needs
+
+first-requires : tie.Need-first-requires Inv-loop μ-loop
+first-requires c κs = search needs
+
+plus-requires-2 : tie.Need-plus-requires-2 Inv-loop μ-loop
+plus-requires-2 c κs = search needs
 
 add-k : tie.Need-add-k Inv-loop μ-loop
 add-k c = search needs
@@ -62,9 +68,11 @@ pass-spec =
     tell-requires
     same-length
     returns
-    slice-read-wide
-    wide-requires
+    check-of-requires
+    cast-plus
     plus-requires
+    first-requires
+    plus-requires-2
     add-k
     loop-less
     loop-again

@@ -1,15 +1,17 @@
--- The frames are counted, and the areas keep their lengths.
+-- `measuring::read` is safe and ends: the frames are counted, and the areas keep their lengths.
+use mathlib.Core.Logic.{⊎-elim}
 use mathlib.Core.Path.{_≡_}
 use Prim.Native.Nat.{_-_}
-use lib.ListN.{length}
 use borrow.Author.Needs.{needs}
+use lib.ListN.{length}
+use Rattle.rules.specs.Areas.{heldSize, recordsSize, unitsSize}
 use Rattle.measuring.proofs.read.Statement.{statement}
 use Rattle.measuring.proofs.read.Tie as tie
-use Rattle.rules.specs.Areas.{heldSize, recordsSize, unitsSize}
 
 abbrev Inv-loop : tie.InvT-loop
-Inv-loop area₀ held₀ units₀ records₀ state₀ k₀ sum₀ area held units records state k sum = (length area ≡ length area₀) × (length held ≡ heldSize) ×
-    (length units ≡ unitsSize) × (length records ≡ recordsSize)
+Inv-loop area₀ held₀ units₀ records₀ state₀ k₀ sum₀ area held units records state k sum =
+    (length area ≡ length area₀) × (length held ≡ heldSize) × (length units ≡ unitsSize)
+    × (length records ≡ recordsSize)
 
 abbrev μ-loop : tie.MeasureT-loop
 μ-loop area₀ held₀ units₀ records₀ state₀ k₀ sum₀ area held units records state k sum = 18446744073709551615 - k
@@ -22,15 +24,6 @@ loop-holds c = search needs
 
 next-requires : tie.Need-next-requires Inv-loop μ-loop
 next-requires c κs = search needs
-
-tell-requires : tie.Need-tell-requires Inv-loop μ-loop
-tell-requires c κs = search needs
-
-same-length : tie.Need-same-length Inv-loop μ-loop
-same-length c = search needs
-
-returns : tie.Need-returns Inv-loop μ-loop
-returns c = search needs
 
 slice-aggregate-read : tie.Need-slice-aggregate-read Inv-loop μ-loop
 slice-aggregate-read c = search needs
@@ -59,11 +52,14 @@ loop-less c = search needs
 loop-again : tie.Need-loop-again Inv-loop μ-loop
 loop-again c = search needs
 
-same-length-2 : tie.Need-same-length-2 Inv-loop μ-loop
-same-length-2 c = search needs
+tell-requires : tie.Need-tell-requires Inv-loop μ-loop
+tell-requires c κs = search needs
 
-returns-2 : tie.Need-returns-2 Inv-loop μ-loop
-returns-2 c = search needs
+same-length : tie.Need-same-length Inv-loop μ-loop
+same-length c = ⊎-elim (λ w. search needs) (λ w. search needs) (c .before .loop-test .came)
+
+returns : tie.Need-returns Inv-loop μ-loop
+returns c = search needs
 
 pub read-spec : {M : Type 1} → statement M
 read-spec =
@@ -74,9 +70,6 @@ read-spec =
     set-up-requires
     loop-holds
     next-requires
-    tell-requires
-    same-length
-    returns
     slice-aggregate-read
     slice-aggregate-read-2
     slice-aggregate-read-3
@@ -86,5 +79,6 @@ read-spec =
     add-k
     loop-less
     loop-again
-    same-length-2
-    returns-2)
+    tell-requires
+    same-length
+    returns)
