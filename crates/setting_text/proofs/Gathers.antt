@@ -27,7 +27,7 @@ use Rattle.setting_text.specs.declared.Heard.{Heard}
 use Rattle.setting_text.specs.declared.Draft.{Draft}
 use Rattle.setting_text.specs.declared.Gathered.{Gathered}
 use Rattle.setting_text.specs.Texts.{blank, stops, until, onto, cut, full, lines, said, words, first, others, same, isNumber, value, numberOf}
-use Rattle.setting_text.specs.Table.{item, word, one, from, end, table, place, worth, fresh, noted, further, turned, step, follow, heard}
+use Rattle.setting_text.specs.Table.{item, word, one, from, end, frameLines, partLines, channelLine, laneHead, packetsEnd, accessEnd, table, place, worth, fresh, counted, noted, further, turned, step, follow, through, heard}
 use Rattle.setting_text.specs.Facts.{nothing, refuse, told, withFact, addFact, listing, withChannel, withLane, ocfUnlike, addChannel, addLane, addLaneOf, takeSaid, takeAsked, takeLine, gather}
 use Rattle.setting_text.specs.Places.{Gathering}
 use Rattle.setting_text.proofs.Texts.{pieces, cut-until}
@@ -111,7 +111,7 @@ cond-false b x y e = ap (λ (t : Bool). cond t x y) e
 
 -- An empty line says nothing.
 gather-empty : (n : ℕ) (d : Draft) → d .fits ≡ true → gather n d (lines []) ≡ record { draft = d; line = 0 }
-unfolding gather lines cut takeLine takeAsked takeSaid words said full until first others same blank stops onto isNumber value numberOf text item word one from end table place worth fresh noted further turned step follow heard
+unfolding gather lines cut takeLine takeAsked takeSaid words said full until first others same blank stops onto isNumber value numberOf text item word one from end frameLines partLines channelLine laneHead packetsEnd accessEnd table place worth fresh counted noted further turned step follow through heard
 gather-empty n d e = cond-true (d .fits) _ _ e
 
 gather-after : (n : ℕ) (d : Draft) (zs : List ℕ) → d .fits ≡ true → gather n d (pieces (stops stop.Feed) zs) ≡ gather n d (lines (drop 1 zs))

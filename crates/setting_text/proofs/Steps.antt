@@ -8,11 +8,10 @@ use lib.ListN.{length, take, drop, length-take, length-drop, drop-of-length-le}
 use lib.Seq.{take-all, drop-drop, drop-length}
 use Rattle.rules.specs.Tests.{_=?_}
 use Rattle.setting_text.specs.declared.Stop.the-variants as stop
-use Rattle.setting_text.specs.declared.Item.{Item}
 use Rattle.setting_text.specs.declared.Heard.{Heard}
 use Rattle.setting_text.specs.declared.Trace.{Trace}
 use Rattle.setting_text.specs.Texts.{stops, until, cut, full, words, first, others, same}
-use Rattle.setting_text.specs.Table.{END, place, worth, fresh, noted, further, turned, step}
+use Rattle.setting_text.specs.Table.{END, Item, place, worth, fresh, noted, further, turned, step}
 use Rattle.setting_text.specs.Places.{Word, seen, moved}
 use Rattle.setting_text.proofs.Texts.{front, after, first-none}
 
@@ -71,13 +70,13 @@ module _ (n : ℕ) (w : List ℕ) (ks : List ℕ) (at from to : ℕ) (p : Word k
 
 -- ---- a word, held against its place in a line of the table
 
-pub seen-step : (l : List ℕ) (t : Trace) (i : Item) (from to n : ℕ) → Word l (t .at) from to → n ≡ worth (i .1) (i .0) (take (to - from) (drop from l))
-    → seen l (moved to (i .2) (noted (i .1) (i .2) n (t .now)) t) ≡ step (words l) i (seen l t)
+pub seen-step : (l : List ℕ) (t : Trace) (i : Item) (from to n : ℕ) → Word l (t .at) from to → n ≡ worth (i .ask) (i .keys) (take (to - from) (drop from l))
+    → seen l (moved to (i .field) (noted (i .ask) (i .field) n (t .now)) t) ≡ step (words l) i (seen l t)
 unfolding seen moved step turned
-seen-step l t i from to n w e = rw (w .word, sym e) (go (i .2 =? END))
+seen-step l t i from to n w e = rw (w .word, sym e) (go (i .field =? END))
   where
     h : Heard
-    h = noted (i .1) (i .2) n (t .now)
+    h = noted (i .ask) (i .field) n (t .now)
 
     go : (b : Bool)
         → seen l (cond b (record { at = 0; now = fresh true; best = further (t .best) h }) (record { at = to; now = h; best = t .best }))

@@ -13,12 +13,11 @@ use Rattle.rules.proofs.Tests.{split, same, and-left, and-right}
 use Rattle.setting_text.specs.declared.Says.the-variants as say
 use Rattle.setting_text.specs.declared.Ask.{Ask}
 use Rattle.setting_text.specs.declared.Ask.the-variants as ask
-use Rattle.setting_text.specs.declared.Item.{Item}
 use Rattle.setting_text.specs.declared.Heard.{Heard}
 use Rattle.setting_text.specs.declared.Trace.{Trace}
 use Rattle.setting_text.specs.Texts.{blank, stops, onto, cut, full, words, first, others, numberOf}
 use Rattle.setting_text.specs.Texts as texts
-use Rattle.setting_text.specs.Table.{END, item, word, one, from, end, table, place, worth, fresh, noted, further, Seen, turned, step, follow, heard}
+use Rattle.setting_text.specs.Table.{END, Item, item, word, one, from, end, frameLines, partLines, channelLine, laneHead, packetsEnd, accessEnd, table, place, worth, fresh, counted, noted, further, Seen, turned, step, follow, through, heard}
 use Rattle.setting_text.specs.Places.{seen, most, Bounded, Known, Asked, Sound}
 
 -- ---- each item keeps its bounds
@@ -38,21 +37,19 @@ known (ask.End say.Lane) = true
 known (ask.End say.Nothing) = true
 
 unfoldable fine : Item → Bool
-fine i = i .2 <? 14 && (below (i .1) (i .0) ≤? suc (getD most (i .2) 0) && known (i .1))
+fine i = below (i .ask) (i .keys) ≤? suc (getD most (i .field) 0) && known (i .ask)
 
 unfoldable allFine : List Item → Bool
 allFine [] = true
 allFine (i ∷ is) = fine i && allFine is
 
-table-fine : allFine table ≡ true
-unfolding allFine fine below known most text blank stops onto cut full words item word one from end table
-table-fine = refl
+unfoldable partsFine : List (List Item) → Bool
+partsFine [] = true
+partsFine (p ∷ ps) = allFine p && partsFine ps
 
-fine-at : (is : List Item) (k : ℕ) (z : Item) → allFine is ≡ true → k < length is → fine (getD is k z) ≡ true
-unfolding allFine
-fine-at [] k z e h = absurd (omega arith)
-fine-at (i ∷ is) zero z e h = and-left (fine i) (allFine is) e
-fine-at (i ∷ is) (suc k) z e h = fine-at is k z (and-right (fine i) (allFine is) e) (omega arith)
+table-fine : partsFine table ≡ true
+unfolding partsFine allFine fine below known most text blank stops onto cut full words item word one from end frameLines partLines channelLine laneHead packetsEnd accessEnd table
+table-fine = refl
 
 known-asked : (a : Ask) → known a ≡ true → Asked a
 unfolding known Asked Known
@@ -105,37 +102,30 @@ unfolding fresh Asked
 fresh-sound b = record { numbers = λ k. rw (zeros 14 k) (omega arith); says = omega arith }
 
 module _ (i : Item) (f : fine i ≡ true) where
-  in-field : i .2 < 14
-  unfolding fine
-  in-field = ltb-true _ _ (and-left (i .2 <? 14) _ f)
-
-  noted-sound : (w : List ℕ) (h : Heard) → Sound h → Sound (noted (i .1) (i .2) (worth (i .1) (i .0) w) h)
+  noted-sound : (w : List ℕ) (h : Heard) → Sound h → Sound (noted (i .ask) (i .field) (worth (i .ask) (i .keys) w) h)
   unfolding noted fine
   noted-sound w h s = go (h .fits) (n =? 65536) refl
     where
       n : ℕ
-      n = worth (i .1) (i .0) w
+      n = worth (i .ask) (i .keys) w
 
-      both : (below (i .1) (i .0) ≤? suc (getD most (i .2) 0) && known (i .1)) ≡ true
-      both = and-right (i .2 <? 14) _ f
+      asked : Asked (i .ask)
+      asked = known-asked (i .ask) (and-right (below (i .ask) (i .keys) ≤? suc (getD most (i .field) 0)) (known (i .ask)) f)
 
-      asked : Asked (i .1)
-      asked = known-asked (i .1) (and-right (below (i .1) (i .0) ≤? suc (getD most (i .2) 0)) (known (i .1)) both)
-
-      most-of : (n ≡ 65536 → ⊥) → n ≤ getD most (i .2) 0
+      most-of : (n ≡ 65536 → ⊥) → n ≤ getD most (i .field) 0
       most-of e =
-          let m : below (i .1) (i .0) ≤ suc (getD most (i .2) 0) =
-          leb-true _ _ (and-left (below (i .1) (i .0) ≤? suc (getD most (i .2) 0)) (known (i .1)) both) in
-          omega (arith, worth-below (i .1) (i .0) w e, m)
+          let m : below (i .ask) (i .keys) ≤ suc (getD most (i .field) 0) =
+          leb-true _ _ (and-left (below (i .ask) (i .keys) ≤? suc (getD most (i .field) 0)) (known (i .ask)) f) in
+          omega (arith, worth-below (i .ask) (i .keys) w e, m)
 
       go : (b c : Bool) → (n =? 65536) ≡ c
           → Sound
           (cond b
-          (cond c (record { numbers = h .numbers; count = h .count; ask = i .1; fits = false })
-          (record { numbers = set (h .numbers) (i .2) n; count = h .count + 1; ask = i .1; fits = true })) h)
+          (cond c (record { numbers = h .numbers; count = h .count; ask = i .ask; fits = false })
+          (record { numbers = set (h .numbers) (i .field) n; count = counted (h .count); ask = i .ask; fits = true })) h)
       go false c e = s
       go true true e = record { numbers = s .numbers; says = asked }
-      go true false e = record { numbers = bounded-set (h .numbers) (i .2) n (s .numbers) (most-of (eqb-false n 65536 e)); says = asked }
+      go true false e = record { numbers = bounded-set (h .numbers) (i .field) n (s .numbers) (most-of (eqb-false n 65536 e)); says = asked }
 
 record Both (s : Seen) : Type 0 where
   now : Sound (s .now)
@@ -143,10 +133,10 @@ record Both (s : Seen) : Type 0 where
 
 step-sound : (ws : List (List ℕ)) (i : Item) (s : Seen) → fine i ≡ true → Both s → Both (step ws i s)
 unfolding step turned further
-step-sound ws i s f q = go (i .2 =? END)
+step-sound ws i s f q = go (i .field =? END)
   where
     h : Heard
-    h = noted (i .1) (i .2) (worth (i .1) (i .0) (first (s .rest))) (s .now)
+    h = noted (i .ask) (i .field) (worth (i .ask) (i .keys) (first (s .rest))) (s .now)
 
     sound : Sound h
     sound = noted-sound i f (first (s .rest)) (s .now) (q .now)
@@ -166,65 +156,25 @@ follow-sound ws [] s e q = q
 follow-sound ws (i ∷ is) s e q =
     follow-sound ws is (step ws i s) (and-right (fine i) (allFine is) e) (step-sound ws i s (and-left (fine i) (allFine is) e) q)
 
+through-sound : (ws : List (List ℕ)) (ps : List (List Item)) (s : Seen) → partsFine ps ≡ true → Both s → Both (through ws ps s)
+unfolding through partsFine
+through-sound ws [] s e q = q
+through-sound ws (p ∷ ps) s e q =
+    through-sound ws ps (follow ws p s) (and-right (allFine p) (partsFine ps) e) (follow-sound ws p s (and-left (allFine p) (partsFine ps) e) q)
+
 pub heard-sound : (ws : List (List ℕ)) → Sound (heard ws)
 unfolding heard
-heard-sound ws = (follow-sound ws table _ table-fine (record { now = fresh-sound true; best = fresh-sound false })) .best
+heard-sound ws = (through-sound ws table _ table-fine (record { now = fresh-sound true; best = fresh-sound false })) .best
 
--- ---- the table is followed
+-- ---- one part of the table after another
 
--- At most one word more fits.
-step-count : (ws : List (List ℕ)) (i : Item) (s : Seen) → (step ws i s) .now .count ≤ s .now .count + 1
-unfolding step turned noted fresh
-step-count ws i s = go (i .2 =? END) (s .now .fits) (n =? 65536)
-  where
-    n : ℕ
-    n = worth (i .1) (i .0) (first (s .rest))
-
-    h : Bool → Bool → Heard
-    h b c =
-        cond b
-        (cond c (record { numbers = s .now .numbers; count = s .now .count; ask = i .1; fits = false })
-        (record { numbers = set (s .now .numbers) (i .2) n; count = s .now .count + 1; ask = i .1; fits = true })) (s .now)
-
-    go : (a b c : Bool) → (cond {A = Seen} a (record { rest = ws; now = fresh true; best = further (s .best) (h b c) })
-        (record { rest = others (s .rest); now = h b c; best = s .best })) .now .count ≤ s .now .count + 1
-    go true b c = omega arith
-    go false true true = omega arith
-    go false true false = omega arith
-    go false false c = omega arith
-
--- The items before number i were followed.
-pub record Following (l : List ℕ) (items : List Item) (t : Trace) (i : ℕ) : Type 0 where
-  pub same : items ≡ table
-  pub count : t .now .count ≤ i
-  pub goes : heard (words l) ≡ (follow (words l) (drop i table) (seen l t)) .best
-
-pub begins : (l : List ℕ) (now best : Heard) → now ≡ fresh true → best ≡ fresh false
-    → Following l table (record { at = 0; now = now; best = best }) 0
-unfolding seen heard fresh
-begins l now best p q = rw (p, q) (record { same = refl; count = omega arith; goes = refl })
-
-table-length : length table ≡ 48
-unfolding table
-table-length = refl
-
-module _ (l : List ℕ) (items : List Item) (t : Trace) (i : ℕ) (h : Following l items t i) where
-  pub field-in : (z : Item) → i < 48 → (getD items i z) .2 < 14
-  field-in z k = rw (h .same) (in-field (getD table i z) (fine-at table i z table-fine (rw table-length k)))
-
-  pub turn : (z : Item) (t′ : Trace) → i < 48 → seen l t′ ≡ step (words l) (getD items i z) (seen l t) → Following l items t′ (suc i)
-  unfolding follow seen
-  turn z t′ k e = record { same = h .same; count = omega (arith, n, h .count); goes = h .goes ∙ rw (drop-cons table i z long, e, h .same) }
+module _ (l : List ℕ) (now best : Heard) (a b c d e f g : Trace) where
+  pub hears : now ≡ fresh true → best ≡ fresh false → seen l a ≡ follow (words l) frameLines (seen l (record { at = 0; now = now; best = best }))
+      → seen l b ≡ follow (words l) partLines (seen l a) → seen l c ≡ follow (words l) channelLine (seen l b)
+      → seen l d ≡ follow (words l) laneHead (seen l c) → seen l e ≡ follow (words l) packetsEnd (seen l d)
+      → seen l f ≡ follow (words l) laneHead (seen l e) → seen l g ≡ follow (words l) accessEnd (seen l f) → g .best ≡ heard (words l)
+  unfolding heard through table seen
+  hears n o p1 p2 p3 p4 p5 p6 p7 = ap (λ (s : Seen). s .best) all
     where
-      long : i < length table
-      long = rw table-length k
-
-      n : t′ .now .count ≤ t .now .count + 1
-      n = rw (ap (λ (s : Seen). s .now .count) e) (step-count (words l) (getD items i z) (seen l t))
-
-  pub ends : 48 ≤ i → t .best ≡ heard (words l)
-  unfolding follow seen
-  ends k =
-      let long : length table ≤ i = rw table-length k in
-      let none : drop i table ≡ [] = drop-of-length-le table long in
-      sym (h .goes ∙ rw none)
+      all : seen l g ≡ through (words l) table (record { rest = words l; now = fresh true; best = fresh false })
+      all = p7 ∙ rw (p6, p5, p4, p3, p2, p1, n, o)

@@ -7,7 +7,7 @@ ghost use Rattle.rules.specs.Tests.{_≤?_, _=?_};
 ghost use Rattle.rules.specs.Refusals.{channelAt};
 ghost use Rattle.rules.specs.declared.Kind.the-variants as kinds;
 ghost use Rattle.setting_text.specs.Texts.{blank, stops, same, words, numberOf};
-ghost use Rattle.setting_text.specs.Table.{VC, SERVICE, place, worth, fresh, noted, step, heard};
+ghost use Rattle.setting_text.specs.Table.{VC, SERVICE, item, frameLines, partLines, channelLine, laneHead, packetsEnd, accessEnd, place, worth, fresh, counted, noted, step, follow, heard};
 ghost use Rattle.setting_text.specs.Places.{Until, Word, seen, moved, most, Bounded, Known, Sound, Gathering};
 ghost use Rattle.setting_text.specs.Facts.{nothing, refuse, told, withFact, addFact, withChannel, withLane, ocfUnlike, addChannel, channelOf, addLane, laneOf, addLaneOf, takeSaid, takeAsked, takeLine, zoneless, judged, lacking, allFound, found, answered, parsed};
 use rules::Channel;
@@ -97,10 +97,6 @@ pub enum Ask {
     End(Says),
 }
 
-// A word's place in a line of the table: the words that may stand there, with blanks after them; what is asked; the field that its
-// number goes to. The number of a word is its place among those that may stand there.
-pub struct Item(pub [u8; 18], pub Ask, pub usize);
-
 // What is heard of a line: its numbers by their fields, how many words fit, what was asked last, and whether all words fit.
 pub struct Heard {
     pub numbers: [usize; 14],
@@ -161,58 +157,6 @@ const LONGEST: usize = 11;
 const ASIDE: usize = 12;
 
 const END: usize = 13;
-
-// The lines of a setting's text, one after another, each to its end.
-const TABLE: [Item; 48] = [
-    Item(*b"frame             ", Ask::Word(Wanted::Fact), ASIDE),
-    Item(*b"length            ", Ask::Word(Wanted::Length), ASIDE),
-    Item(*b"                  ", Ask::Number(32, 4096), LENGTH),
-    Item(*b"                  ", Ask::End(Says::Fact(LENGTH)), END),
-    Item(*b"spacecraft        ", Ask::Word(Wanted::Fact), ASIDE),
-    Item(*b"                  ", Ask::Number(0, 65535), CRAFT),
-    Item(*b"                  ", Ask::End(Says::Fact(CRAFT)), END),
-    Item(*b"source destination", Ask::Word(Wanted::Fact), DIRECTION),
-    Item(*b"                  ", Ask::End(Says::Fact(DIRECTION)), END),
-    Item(*b"insert            ", Ask::Word(Wanted::Fact), ASIDE),
-    Item(*b"                  ", Ask::Number(0, 64), INSERT),
-    Item(*b"                  ", Ask::End(Says::Fact(INSERT)), END),
-    Item(*b"check             ", Ask::Word(Wanted::Fact), ASIDE),
-    Item(*b"no yes            ", Ask::Word(Wanted::YesOrNo), CHECK),
-    Item(*b"                  ", Ask::End(Says::Fact(CHECK)), END),
-    Item(*b"channel           ", Ask::Word(Wanted::Fact), ASIDE),
-    Item(*b"                  ", Ask::Number(0, 62), VC),
-    Item(*b"service           ", Ask::Word(Wanted::Service), ASIDE),
-    Item(*b"                  ", Ask::Number(0, 1), SERVICE),
-    Item(*b"count             ", Ask::Word(Wanted::Count), ASIDE),
-    Item(*b"                  ", Ask::Number(1, 7), OCTETS),
-    Item(*b"ocf               ", Ask::Word(Wanted::Ocf), ASIDE),
-    Item(*b"no yes            ", Ask::Word(Wanted::YesOrNo), OCF),
-    Item(*b"                  ", Ask::End(Says::Channel), END),
-    Item(*b"lane              ", Ask::Word(Wanted::Fact), ASIDE),
-    Item(*b"channel           ", Ask::Word(Wanted::Channel), ASIDE),
-    Item(*b"                  ", Ask::Number(0, 62), VC),
-    Item(*b"service           ", Ask::Word(Wanted::Service), ASIDE),
-    Item(*b"                  ", Ask::Number(0, 1), SERVICE),
-    Item(*b"map               ", Ask::Word(Wanted::Map), ASIDE),
-    Item(*b"                  ", Ask::Number(0, 15), MAP),
-    Item(*b"packets           ", Ask::Word(Wanted::Carries), UPID),
-    Item(*b"longest           ", Ask::Word(Wanted::Longest), ASIDE),
-    Item(*b"                  ", Ask::Number(7, 8192), LONGEST),
-    Item(*b"                  ", Ask::End(Says::Lane), END),
-    Item(*b"lane              ", Ask::Word(Wanted::Fact), ASIDE),
-    Item(*b"channel           ", Ask::Word(Wanted::Channel), ASIDE),
-    Item(*b"                  ", Ask::Number(0, 62), VC),
-    Item(*b"service           ", Ask::Word(Wanted::Service), ASIDE),
-    Item(*b"                  ", Ask::Number(0, 1), SERVICE),
-    Item(*b"map               ", Ask::Word(Wanted::Map), ASIDE),
-    Item(*b"                  ", Ask::Number(0, 15), MAP),
-    Item(*b"access            ", Ask::Word(Wanted::Carries), ASIDE),
-    Item(*b"                  ", Ask::Number(1, 30), UPID),
-    Item(*b"longest           ", Ask::Word(Wanted::Longest), ASIDE),
-    Item(*b"                  ", Ask::Number(1, 8192), LONGEST),
-    Item(*b"                  ", Ask::End(Says::Lane), END),
-    Item(*b"                  ", Ask::End(Says::Nothing), END),
-];
 
 // What is missing where it was never said.
 const MISSING: [Missing; 7] = [
@@ -370,15 +314,13 @@ fn number_in(word: &[u8], low: usize, high: usize) -> usize
     n
 }
 
-// The number of a word at its place in a line of the table; 65,536 where it does not fit.
-fn worth_of(word: &[u8], item: Item) -> usize
-    ensures { λ r. ⌜ r ≡ worth (item .1) (item .0) (now (word .entry)) ⌝ }
+// The number of a word of which this is asked; 65,536 where it does not fit. That of one of some words is its place among them.
+fn worth_of(word: &[u8], keys: &[u8], ask: Ask) -> usize
+    ensures { λ r. ⌜ r ≡ worth ask (now (keys .entry)) (now (word .entry)) ⌝ }
 {
-    let keys = item.0;
-    let ask = item.1;
     match ask {
         Ask::Word(wanted) => {
-            return place_of(word, &keys);
+            return place_of(word, keys);
         }
         Ask::Number(low, high) => {
             return number_in(word, low, high);
@@ -404,15 +346,24 @@ fn fresh_heard(fits: bool) -> Heard
     }
 }
 
-// What is heard after a word of this number.
-fn note(h: Heard, item: Item, n: usize) -> Heard
-    requires { ⌜ (h .count < 256) × (item .2 < 14) ⌝ }
-    ensures { λ r. ⌜ r ≡ noted (item .1) (item .2) n h ⌝ }
+// One more, up to 255.
+fn one_more(n: usize) -> usize
+    ensures { λ r. ⌜ r ≡ counted n ⌝ }
+{
+    if n < 255 {
+        return n + 1;
+    }
+    n
+}
+
+// What is heard after a word of which this was asked.
+fn note(h: Heard, ask: Ask, field: usize, n: usize) -> Heard
+    requires { ⌜ field < 14 ⌝ }
+    ensures { λ r. ⌜ r ≡ noted ask field n h ⌝ }
 {
     if !h.fits {
         return h;
     }
-    let ask = item.1;
     let mut numbers = h.numbers;
     if n == 65536 {
         return Heard {
@@ -422,11 +373,11 @@ fn note(h: Heard, item: Item, n: usize) -> Heard
             fits: false,
         };
     }
-    let field = item.2;
     numbers[field] = n;
+    let count = one_more(h.count);
     Heard {
         numbers: numbers,
-        count: h.count + 1,
+        count: count,
         ask: ask,
         fits: true,
     }
@@ -453,39 +404,123 @@ fn move_on(t: Trace, to: usize, field: usize, h: Heard) -> Trace
     r
 }
 
-// The next word, held against its place in a line of the table.
-fn hear_word(line: &[u8], t: Trace, item: Item) -> Trace
-    requires { ⌜ (t .now .count < 256) × (item .2 < 14) ⌝ }
-    ensures { λ r. ⌜ seen (now (line .entry)) r ≡ step (words (now (line .entry))) item (seen (now (line .entry)) t) ⌝ }
+// The next word, held against its place in a line of the table: the words that may stand there, what is asked, and the field that
+// its number goes to.
+fn hear_word(line: &[u8], t: Trace, keys: &[u8], ask: Ask, field: usize) -> Trace
+    requires { ⌜ field < 14 ⌝ }
+    ensures { λ r. ⌜ seen (now (line .entry)) r ≡ step (words (now (line .entry))) (item (now (keys .entry)) ask field) (seen (now (line .entry)) t) ⌝ }
 {
     let w = next_word(line, t.at);
     let from = w.from;
     let to = w.to;
     let word = &line[from..to];
-    let n = worth_of(word, item);
+    let n = worth_of(word, keys, ask);
     let h = t.now;
-    let g = note(h, item, n);
-    move_on(t, to, item.2, g)
+    let g = note(h, ask, field, n);
+    move_on(t, to, field, g)
+}
+
+// The table: frame length, spacecraft, source or destination.
+fn hear_frame(line: &[u8], t: Trace) -> Trace
+    ensures { λ r. ⌜ seen (now (line .entry)) r ≡ follow (words (now (line .entry))) frameLines (seen (now (line .entry)) t) ⌝ }
+{
+    let t = hear_word(line, t, b"frame", Ask::Word(Wanted::Fact), ASIDE);
+    let t = hear_word(line, t, b"length", Ask::Word(Wanted::Length), ASIDE);
+    let t = hear_word(line, t, b"", Ask::Number(32, 4096), LENGTH);
+    let t = hear_word(line, t, b"", Ask::End(Says::Fact(LENGTH)), END);
+    let t = hear_word(line, t, b"spacecraft", Ask::Word(Wanted::Fact), ASIDE);
+    let t = hear_word(line, t, b"", Ask::Number(0, 65535), CRAFT);
+    let t = hear_word(line, t, b"", Ask::End(Says::Fact(CRAFT)), END);
+    let t = hear_word(
+        line,
+        t,
+        b"source destination",
+        Ask::Word(Wanted::Fact),
+        DIRECTION,
+    );
+    hear_word(line, t, b"", Ask::End(Says::Fact(DIRECTION)), END)
+}
+
+// The table: insert, check, and a line without words.
+fn hear_parts(line: &[u8], t: Trace) -> Trace
+    ensures { λ r. ⌜ seen (now (line .entry)) r ≡ follow (words (now (line .entry))) partLines (seen (now (line .entry)) t) ⌝ }
+{
+    let t = hear_word(line, t, b"insert", Ask::Word(Wanted::Fact), ASIDE);
+    let t = hear_word(line, t, b"", Ask::Number(0, 64), INSERT);
+    let t = hear_word(line, t, b"", Ask::End(Says::Fact(INSERT)), END);
+    let t = hear_word(line, t, b"check", Ask::Word(Wanted::Fact), ASIDE);
+    let t = hear_word(line, t, b"no yes", Ask::Word(Wanted::YesOrNo), CHECK);
+    let t = hear_word(line, t, b"", Ask::End(Says::Fact(CHECK)), END);
+    hear_word(line, t, b"", Ask::End(Says::Nothing), END)
+}
+
+// The table: a channel.
+fn hear_channel(line: &[u8], t: Trace) -> Trace
+    ensures { λ r. ⌜ seen (now (line .entry)) r ≡ follow (words (now (line .entry))) channelLine (seen (now (line .entry)) t) ⌝ }
+{
+    let t = hear_word(line, t, b"channel", Ask::Word(Wanted::Fact), ASIDE);
+    let t = hear_word(line, t, b"", Ask::Number(0, 62), VC);
+    let t = hear_word(line, t, b"service", Ask::Word(Wanted::Service), ASIDE);
+    let t = hear_word(line, t, b"", Ask::Number(0, 1), SERVICE);
+    let t = hear_word(line, t, b"count", Ask::Word(Wanted::Count), ASIDE);
+    let t = hear_word(line, t, b"", Ask::Number(1, 7), OCTETS);
+    let t = hear_word(line, t, b"ocf", Ask::Word(Wanted::Ocf), ASIDE);
+    let t = hear_word(line, t, b"no yes", Ask::Word(Wanted::YesOrNo), OCF);
+    hear_word(line, t, b"", Ask::End(Says::Channel), END)
+}
+
+// The table: what all lanes have.
+fn hear_lane(line: &[u8], t: Trace) -> Trace
+    ensures { λ r. ⌜ seen (now (line .entry)) r ≡ follow (words (now (line .entry))) laneHead (seen (now (line .entry)) t) ⌝ }
+{
+    let t = hear_word(line, t, b"lane", Ask::Word(Wanted::Fact), ASIDE);
+    let t = hear_word(line, t, b"channel", Ask::Word(Wanted::Channel), ASIDE);
+    let t = hear_word(line, t, b"", Ask::Number(0, 62), VC);
+    let t = hear_word(line, t, b"service", Ask::Word(Wanted::Service), ASIDE);
+    let t = hear_word(line, t, b"", Ask::Number(0, 1), SERVICE);
+    let t = hear_word(line, t, b"map", Ask::Word(Wanted::Map), ASIDE);
+    hear_word(line, t, b"", Ask::Number(0, 15), MAP)
+}
+
+// The table: the rest of a packet lane.
+fn hear_packets(line: &[u8], t: Trace) -> Trace
+    ensures { λ r. ⌜ seen (now (line .entry)) r ≡ follow (words (now (line .entry))) packetsEnd (seen (now (line .entry)) t) ⌝ }
+{
+    let t = hear_word(line, t, b"packets", Ask::Word(Wanted::Carries), UPID);
+    let t = hear_word(line, t, b"longest", Ask::Word(Wanted::Longest), ASIDE);
+    let t = hear_word(line, t, b"", Ask::Number(7, 8192), LONGEST);
+    hear_word(line, t, b"", Ask::End(Says::Lane), END)
+}
+
+// The table: the rest of an access lane.
+fn hear_access(line: &[u8], t: Trace) -> Trace
+    ensures { λ r. ⌜ seen (now (line .entry)) r ≡ follow (words (now (line .entry))) accessEnd (seen (now (line .entry)) t) ⌝ }
+{
+    let t = hear_word(line, t, b"access", Ask::Word(Wanted::Carries), ASIDE);
+    let t = hear_word(line, t, b"", Ask::Number(1, 30), UPID);
+    let t = hear_word(line, t, b"longest", Ask::Word(Wanted::Longest), ASIDE);
+    let t = hear_word(line, t, b"", Ask::Number(1, 8192), LONGEST);
+    hear_word(line, t, b"", Ask::End(Says::Lane), END)
 }
 
 // What is heard of a line.
 fn hear_line(line: &[u8]) -> Heard
     ensures { λ r. ⌜ r ≡ heard (words (now (line .entry))) ⌝ }
 {
-    let items = TABLE;
     let now = fresh_heard(true);
     let best = fresh_heard(false);
-    let mut t = Trace {
+    let t = Trace {
         at: 0,
         now: now,
         best: best,
     };
-    let mut i: usize = 0;
-    while i < 48 {
-        let item = items[i];
-        t = hear_word(line, t, item);
-        i += 1;
-    }
+    let t = hear_frame(line, t);
+    let t = hear_parts(line, t);
+    let t = hear_channel(line, t);
+    let t = hear_lane(line, t);
+    let t = hear_packets(line, t);
+    let t = hear_lane(line, t);
+    let t = hear_access(line, t);
     t.best
 }
 

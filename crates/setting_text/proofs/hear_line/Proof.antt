@@ -1,76 +1,69 @@
-use Prim.Native.Nat.{_-_}
-use native.Mathlib.Numerals.{add-one}
-use Rattle.rules.specs.Listing.{text}
-use Rattle.setting_text.specs.Table.{item, word, one, from, end, table}
-use Rattle.setting_text.proofs.Table.{Following, begins, field-in, turn, ends}
+use Rattle.setting_text.proofs.Table.{hears}
 use borrow.Author.Needs.{needs}
 use Rattle.setting_text.proofs.hear_line.Statement.{statement}
 use Rattle.setting_text.proofs.hear_line.Tie as tie
 use Rattle.setting_text.proofs.hear_line.Reads as reads
 use Rattle.setting_text.proofs.hear_line.Lts as lts
 use Rattle.setting_text.proofs.fresh_heard.Reads as fresh-heard-reads
-use Rattle.setting_text.proofs.hear_word.Reads as hear-word-reads
+use Rattle.setting_text.proofs.hear_access.Reads as hear-access-reads
+use Rattle.setting_text.proofs.hear_channel.Reads as hear-channel-reads
+use Rattle.setting_text.proofs.hear_frame.Reads as hear-frame-reads
+use Rattle.setting_text.proofs.hear_lane.Reads as hear-lane-reads
+use Rattle.setting_text.proofs.hear_packets.Reads as hear-packets-reads
+use Rattle.setting_text.proofs.hear_parts.Reads as hear-parts-reads
 
-abbrev Inv-loop : tie.InvT-loop
-Inv-loop line items t₀ i₀ t i = Following line items t i
-
-abbrev μ-loop : tie.MeasureT-loop
-μ-loop line items t₀ i₀ t i = 48 - i
-
--- src/lib.rt:476:9
-fresh-heard-requires : tie.Need-fresh-heard-requires Inv-loop μ-loop
+-- src/lib.rt:510:9
+fresh-heard-requires : tie.Need-fresh-heard-requires
 fresh-heard-requires c κs = search needs
 
--- src/lib.rt:477:9
-fresh-heard-requires-2 : tie.Need-fresh-heard-requires-2 Inv-loop μ-loop
+-- src/lib.rt:511:9
+fresh-heard-requires-2 : tie.Need-fresh-heard-requires-2
 fresh-heard-requires-2 c κs = search needs
 
--- src/lib.rt:484:5
-loop-holds : tie.Need-loop-holds Inv-loop μ-loop
-unfolding text item word one from end table
-loop-holds c = begins _ _ _ (c .before .fresh-heard .ensures) (c .fresh-heard2 .ensures)
+-- src/lib.rt:517:9
+hear-frame-requires : tie.Need-hear-frame-requires
+hear-frame-requires c κs = search needs
 
--- src/lib.rt:485:20
-mul-item : tie.Need-mul-item Inv-loop μ-loop
-mul-item c = search needs
+-- src/lib.rt:518:9
+hear-parts-requires : tie.Need-hear-parts-requires
+hear-parts-requires c κs = search needs
 
--- src/lib.rt:485:20
-array-copy-out-item : tie.Need-array-copy-out-item Inv-loop μ-loop
-array-copy-out-item c = search needs
+-- src/lib.rt:519:9
+hear-channel-requires : tie.Need-hear-channel-requires
+hear-channel-requires c κs = search needs
 
--- src/lib.rt:486:9
-hear-word-requires : tie.Need-hear-word-requires Inv-loop μ-loop
-hear-word-requires c κs = let f = c .before .before .loop .inv in let k = f .count in (search needs, field-in _ _ _ _ f _ (c .before .loop-test .taken))
+-- src/lib.rt:520:9
+hear-lane-requires : tie.Need-hear-lane-requires
+hear-lane-requires c κs = search needs
 
--- src/lib.rt:487:9
-add-i : tie.Need-add-i Inv-loop μ-loop
-add-i c = search needs
+-- src/lib.rt:521:9
+hear-packets-requires : tie.Need-hear-packets-requires
+hear-packets-requires c κs = search needs
 
--- src/lib.rt:484:5
-loop-less : tie.Need-loop-less Inv-loop μ-loop
-loop-less c = search needs
+-- src/lib.rt:522:9
+hear-lane-requires-2 : tie.Need-hear-lane-requires-2
+hear-lane-requires-2 c κs = search needs
 
--- src/lib.rt:484:5
-loop-again : tie.Need-loop-again Inv-loop μ-loop
-loop-again c = rw add-one (turn _ _ _ _ (c .before .before .before .loop .inv) _ _ (c .before .before .loop-test .taken) (c .hear-word .ensures))
+-- src/lib.rt:523:9
+hear-access-requires : tie.Need-hear-access-requires
+hear-access-requires c κs = search needs
 
--- src/lib.rt:472:1
-returns : tie.Need-returns Inv-loop μ-loop
-returns c = ends _ _ _ _ (c .before .before .loop .inv) (c .before .loop-test .left)
+-- src/lib.rt:507:1
+returns : tie.Need-returns
+returns c = let c₈ = c .before .before .before .before .before .before .before .before in hears _ _ _ _ _ _ _ _ _ _ (c₈ .before .fresh-heard .ensures) (c₈ .fresh-heard2 .ensures) (c .before .before .before .before .before .before .before .hear-frame .ensures) (c .before .before .before .before .before .before .hear-parts .ensures)
+    (c .before .before .before .before .before .hear-channel .ensures) (c .before .before .before .before .hear-lane .ensures) (c .before .before .before .hear-packets .ensures) (c .before .before .hear-lane2 .ensures) (c .before .hear-access .ensures)
 
 pub hear-line-spec : {M : Type 1} → statement M
 hear-line-spec =
     tie.close
     (tie.spec
-    Inv-loop
-    μ-loop
     fresh-heard-requires
     fresh-heard-requires-2
-    loop-holds
-    mul-item
-    array-copy-out-item
-    hear-word-requires
-    add-i
-    loop-less
-    loop-again
+    hear-frame-requires
+    hear-parts-requires
+    hear-channel-requires
+    hear-lane-requires
+    hear-packets-requires
+    hear-lane-requires-2
+    hear-access-requires
     returns)

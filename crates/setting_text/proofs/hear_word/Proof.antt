@@ -1,3 +1,4 @@
+use Rattle.setting_text.specs.Table.{item}
 use Rattle.setting_text.proofs.Steps.{seen-step}
 use borrow.Author.Needs.{needs}
 use Rattle.setting_text.proofs.hear_word.Statement.{statement}
@@ -9,36 +10,37 @@ use Rattle.setting_text.proofs.next_word.Reads as next-word-reads
 use Rattle.setting_text.proofs.note.Reads as note-reads
 use Rattle.setting_text.proofs.worth_of.Reads as worth-of-reads
 
--- src/lib.rt:461:9
+-- src/lib.rt:413:9
 next-word-requires : tie.Need-next-word-requires
 next-word-requires c κs = search needs
 
--- src/lib.rt:464:16
+-- src/lib.rt:416:16
 sub-word : tie.Need-sub-word
 sub-word c = search needs
 
--- src/lib.rt:464:16
+-- src/lib.rt:416:16
 part-word-start : tie.Need-part-word-start
 part-word-start c = search needs
 
--- src/lib.rt:464:16
+-- src/lib.rt:416:16
 part-word-end : tie.Need-part-word-end
 part-word-end c = search needs
 
--- src/lib.rt:465:9
+-- src/lib.rt:417:9
 worth-of-requires : tie.Need-worth-of-requires
 worth-of-requires c κs = search needs
 
--- src/lib.rt:467:9
+-- src/lib.rt:419:9
 note-requires : tie.Need-note-requires
 note-requires c κs = search needs
 
--- src/lib.rt:468:5
+-- src/lib.rt:420:5
 move-on-requires : tie.Need-move-on-requires
 move-on-requires c κs = search needs
 
--- src/lib.rt:457:1
+-- src/lib.rt:409:1
 returns : tie.Need-returns
+unfolding item
 returns c = rw (c .move-on .ensures, c .before .note .ensures) (seen-step _ _ _ _ _ _ (c .before .before .before .before .before .next-word .ensures) (c .before .before .before .worth-of .ensures))
 
 pub hear-word-spec : {M : Type 1} → statement M

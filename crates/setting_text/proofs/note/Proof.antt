@@ -5,33 +5,36 @@ use Rattle.setting_text.proofs.note.Statement.{statement}
 use Rattle.setting_text.proofs.note.Tie as tie
 use Rattle.setting_text.proofs.note.Reads as reads
 use Rattle.setting_text.proofs.note.Lts as lts
+use Rattle.setting_text.proofs.one_more.Reads as one-more-reads
 
--- src/lib.rt:413:9
+-- src/lib.rt:365:9
 returns : tie.Need-returns
 unfolding noted
 returns c = rw (not-true (c .before .before .args .h .fits) (c .if1 .taken))
 
--- src/lib.rt:418:9
+-- src/lib.rt:369:9
 returns-2 : tie.Need-returns-2
 unfolding noted
 returns-2 c = rw (not-false (c .before .before .before .before .args .h .fits) (c .before .before .if1 .left), eq-eqb _ _ (c .if2 .taken))
 
--- src/lib.rt:426:5
+-- src/lib.rt:376:5
 mul-numbers : tie.Need-mul-numbers
 mul-numbers c = search needs
 
--- src/lib.rt:426:5
+-- src/lib.rt:376:5
 array-write-numbers : tie.Need-array-write-numbers
 array-write-numbers c = search needs
 
--- src/lib.rt:429:16
-add-t9 : tie.Need-add-t9
-add-t9 c = search needs
+-- src/lib.rt:377:9
+one-more-requires : tie.Need-one-more-requires
+one-more-requires c κs = search needs
 
--- src/lib.rt:408:1
+-- src/lib.rt:360:1
 returns-3 : tie.Need-returns-3
 unfolding noted
-returns-3 c = rw (not-false (c .before .before .before .before .before .args .h .fits) (c .before .before .before .if1 .left), ne-eqb _ _ (c .before .if2 .left))
+returns-3 c = rw (not-false (c .before .before .before .before .before .args .h .fits) (c .before .before .before .if1 .left), ne-eqb _ _ (c .before .if2 .left), c .one-more .ensures)
 
 pub note-spec : {M : Type 1} → statement M
-note-spec = tie.close (tie.spec returns returns-2 mul-numbers array-write-numbers add-t9 returns-3)
+note-spec =
+    tie.close
+    (tie.spec returns returns-2 mul-numbers array-write-numbers one-more-requires returns-3)
