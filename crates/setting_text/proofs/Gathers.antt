@@ -49,7 +49,9 @@ module _ (d : Draft) (r : Within d) where
 
   fact-within : (k n : ℕ) → Within (addFact k n d)
   unfolding addFact told withFact
-  fact-within k n = either-within (getD (d .facts) k false) (refuse want.NewFact d) _ (refuse-within want.NewFact) (record { channels = r .channels; lanes = r .lanes })
+  fact-within k n =
+      either-within (getD (d .facts) k false) (refuse want.NewFact d) _ (refuse-within want.NewFact)
+      (record { channels = r .channels; lanes = r .lanes })
 
   more-channels : (c : Channel) → d .setting .listed < 8 → Within (withChannel c d)
   unfolding withChannel told listing
@@ -161,7 +163,8 @@ module _ (t : List ℕ) (d : Draft) (n at : ℕ) (h : Taking t d n at) where
           room = rw here (line-within d (h .room) _);
           count = omega (arith, h .count);
           goes =
-              h .goes ∙ turn-of ∙ cond-true (d′ .fits) (gather (n + 1) d′ (pieces (stops stop.Feed) (drop size (drop at t)))) (record { draft = d′; line = n }) f
+              h .goes ∙ turn-of
+              ∙ cond-true (d′ .fits) (gather (n + 1) d′ (pieces (stops stop.Feed) (drop size (drop at t)))) (record { draft = d′; line = n }) f
               ∙ gather-after (n + 1) d′ (drop size (drop at t)) f ∙ ap (λ (x : List ℕ). gather (n + 1) d′ (lines x)) past;
         }
       where

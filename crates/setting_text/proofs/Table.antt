@@ -1,11 +1,11 @@
 -- Laws of the table: it is followed item by item, and what is heard of a line stays in its bounds.
 use Prim.Native.Nat.{ℕ, zero, suc, _+_, _≤_, _<_}
-use mathlib.Core.Path.{_≡_, refl, sym, ap, _∙_}
+use mathlib.Core.Path.{_≡_, refl, ap, _∙_}
 use mathlib.Core.Bool.{Bool, true, false, cond, _&&_}
 use mathlib.Core.List.{List, [], _∷_}
 use native.Mathlib.Omega.{arith}
-use lib.ListN.{length, take, drop, getD, set, replicate, drop-of-length-le}
-use lib.Seq.{drop-cons, set-out, getD-set-same, getD-set-other}
+use lib.ListN.{length, getD, set, replicate}
+use lib.Seq.{set-out, getD-set-same, getD-set-other}
 use borrow.Author.Tests.{leb-true, ltb-true, eqb-false}
 use Rattle.rules.specs.Tests.{_≤?_, _<?_, _=?_}
 use Rattle.rules.specs.Listing.{text}
@@ -67,7 +67,8 @@ unfolding place
 place-below n w [] e = absurd (e refl)
 place-below n w (k ∷ ks) e = go (texts.same w k) e (place-below (n + 1) w ks)
   where
-    go : (b : Bool) → (cond b n (place (n + 1) w ks) ≡ 65536 → ⊥) → ((place (n + 1) w ks ≡ 65536 → ⊥) → place (n + 1) w ks < n + 1 + length ks)
+    go : (b : Bool) → (cond b n (place (n + 1) w ks) ≡ 65536 → ⊥)
+        → ((place (n + 1) w ks ≡ 65536 → ⊥) → place (n + 1) w ks < n + 1 + length ks)
         → cond b n (place (n + 1) w ks) < n + suc (length ks)
     go true e q = omega arith
     go false e q = omega (arith, q e)

@@ -1,7 +1,7 @@
 // A setting from its text: a table of its lines, what each says, the first bad line, and what a text lacks.
 ghost use mathlib.Core.Path.{_≡_};
 ghost use mathlib.Core.Bool.{_&&_, cond};
-ghost use Prim.Native.Nat.{ℕ, _≤_, _<_};
+ghost use Prim.Native.Nat.{_≤_, _<_};
 ghost use lib.ListN.{getD};
 ghost use Rattle.rules.specs.Tests.{_≤?_, _=?_};
 ghost use Rattle.rules.specs.Refusals.{channelAt};

@@ -1,48 +1,37 @@
+-- `setting_text::add_lane_of` meets its contract. The lane of a channel that is listed, or a refusal.
 use mathlib.Core.Path.{sym, _∙_}
 use Rattle.setting_text.specs.Facts.{addLaneOf}
 use borrow.Author.Needs.{needs}
 use Rattle.setting_text.proofs.add_lane_of.Statement.{statement}
 use Rattle.setting_text.proofs.add_lane_of.Tie as tie
-use Rattle.setting_text.proofs.add_lane_of.Reads as reads
-use Rattle.setting_text.proofs.add_lane_of.Lts as lts
-use Rattle.setting_text.proofs.add_lane.Reads as add-lane-reads
-use Rattle.setting_text.proofs.lane_of.Reads as lane-of-reads
-use Rattle.setting_text.proofs.listed_at.Reads as listed-at-reads
-use Rattle.setting_text.proofs.refused.Reads as refused-reads
 
--- src/lib.rt:712:9
 listed-at-requires : tie.Need-listed-at-requires
 listed-at-requires c κs = search needs
 
--- src/lib.rt:713:19
 enum-known-p : tie.Need-enum-known-p
 enum-known-p c = search needs
 
--- src/lib.rt:714:27
 enum-told : tie.Need-enum-told
 enum-told c = search needs
 
--- src/lib.rt:714:9
 refused-requires : tie.Need-refused-requires
 refused-requires c κs = search needs
 
--- src/lib.rt:714:9
 returns : tie.Need-returns
 unfolding addLaneOf
 returns c = rw (sym (c .before .before .before .listed-at .ensures) ∙ c .before .enum-told .given .1) (c .refused .ensures)
 
--- src/lib.rt:716:9
 lane-of-requires : tie.Need-lane-of-requires
 lane-of-requires c κs = search needs
 
--- src/lib.rt:717:5
 add-lane-requires : tie.Need-add-lane-requires
 add-lane-requires c κs = search needs
 
--- src/lib.rt:707:1
 returns-2 : tie.Need-returns-2
 unfolding addLaneOf
-returns-2 c = rw (sym (c .before .before .before .before .before .listed-at .ensures) ∙ c .before .before .before .p .given .1, sym (c .before .lane-of .ensures)) (c .add-lane .ensures)
+returns-2 c =
+    rw (sym (c .before .before .before .before .before .listed-at .ensures) ∙ c .before .before .before .p .given .1, sym (c .before .lane-of .ensures))
+    (c .add-lane .ensures)
 
 pub add-lane-of-spec : {M : Type 1} → statement M
 add-lane-of-spec =

@@ -1,11 +1,9 @@
+-- `setting_text::fresh_heard` meets its contract. Its fields are these.
 use mathlib.Core.Path.{refl}
 use Rattle.setting_text.specs.Table.{fresh}
 use Rattle.setting_text.proofs.fresh_heard.Statement.{statement}
 use Rattle.setting_text.proofs.fresh_heard.Tie as tie
-use Rattle.setting_text.proofs.fresh_heard.Reads as reads
-use Rattle.setting_text.proofs.fresh_heard.Lts as lts
 
--- src/lib.rt:396:1
 returns : tie.Need-returns
 unfolding fresh
 returns c = refl

@@ -1,56 +1,51 @@
+-- `setting_text::hear_access` meets its contract. One word after another.
 use Rattle.rules.specs.Listing.{text}
 use Rattle.setting_text.specs.Table.{word, one, from, end, follow, accessEnd}
 use borrow.Author.Needs.{needs}
 use Rattle.setting_text.proofs.hear_access.Statement.{statement}
 use Rattle.setting_text.proofs.hear_access.Tie as tie
-use Rattle.setting_text.proofs.hear_access.Reads as reads
-use Rattle.setting_text.proofs.hear_access.Lts as lts
-use Rattle.setting_text.proofs.hear_word.Reads as hear-word-reads
 
--- src/lib.rt:499:32
 slice-aggregate-hear-word : tie.Need-slice-aggregate-hear-word
 slice-aggregate-hear-word c = search needs
 
--- src/lib.rt:499:9
 hear-word-requires : tie.Need-hear-word-requires
 hear-word-requires c κs = search needs
 
--- src/lib.rt:500:32
 slice-aggregate-hear-word-2 : tie.Need-slice-aggregate-hear-word-2
 slice-aggregate-hear-word-2 c = search needs
 
--- src/lib.rt:500:9
 hear-word-requires-2 : tie.Need-hear-word-requires-2
 hear-word-requires-2 c κs = search needs
 
--- src/lib.rt:501:32
 slice-aggregate-hear-word-3 : tie.Need-slice-aggregate-hear-word-3
 slice-aggregate-hear-word-3 c = search needs
 
--- src/lib.rt:501:9
 hear-word-requires-3 : tie.Need-hear-word-requires-3
 hear-word-requires-3 c κs = search needs
 
--- src/lib.rt:502:32
 slice-aggregate-hear-word-4 : tie.Need-slice-aggregate-hear-word-4
 slice-aggregate-hear-word-4 c = search needs
 
--- src/lib.rt:502:9
 hear-word-requires-4 : tie.Need-hear-word-requires-4
 hear-word-requires-4 c κs = search needs
 
--- src/lib.rt:503:24
 slice-aggregate-hear-word-5 : tie.Need-slice-aggregate-hear-word-5
 slice-aggregate-hear-word-5 c = search needs
 
--- src/lib.rt:503:5
 hear-word-requires-5 : tie.Need-hear-word-requires-5
 hear-word-requires-5 c κs = search needs
 
--- src/lib.rt:496:1
 returns : tie.Need-returns
 unfolding text word one from end follow accessEnd
-returns c = let c₈ = c .before .before .before .before .before .before .before .before in rw (c .hear-word5 .ensures, c .before .before .hear-word4 .ensures, c .before .before .before .before .hear-word3 .ensures, c .before .before .before .before .before .before .hear-word2 .ensures, c₈ .hear-word .ensures)
+returns c =
+    let c₈ = c .before .before .before .before .before .before .before .before in
+    rw (
+      c .hear-word5 .ensures,
+      c .before .before .hear-word4 .ensures,
+      c .before .before .before .before .hear-word3 .ensures,
+      c .before .before .before .before .before .before .hear-word2 .ensures,
+      c₈ .hear-word .ensures,
+    )
 
 pub hear-access-spec : {M : Type 1} → statement M
 hear-access-spec =

@@ -1,48 +1,43 @@
+-- `setting_text::hear_packets` meets its contract. One word after another.
 use Rattle.rules.specs.Listing.{text}
 use Rattle.setting_text.specs.Table.{word, one, from, end, follow, packetsEnd}
 use borrow.Author.Needs.{needs}
 use Rattle.setting_text.proofs.hear_packets.Statement.{statement}
 use Rattle.setting_text.proofs.hear_packets.Tie as tie
-use Rattle.setting_text.proofs.hear_packets.Reads as reads
-use Rattle.setting_text.proofs.hear_packets.Lts as lts
-use Rattle.setting_text.proofs.hear_word.Reads as hear-word-reads
 
--- src/lib.rt:489:32
 slice-aggregate-hear-word : tie.Need-slice-aggregate-hear-word
 slice-aggregate-hear-word c = search needs
 
--- src/lib.rt:489:9
 hear-word-requires : tie.Need-hear-word-requires
 hear-word-requires c κs = search needs
 
--- src/lib.rt:490:32
 slice-aggregate-hear-word-2 : tie.Need-slice-aggregate-hear-word-2
 slice-aggregate-hear-word-2 c = search needs
 
--- src/lib.rt:490:9
 hear-word-requires-2 : tie.Need-hear-word-requires-2
 hear-word-requires-2 c κs = search needs
 
--- src/lib.rt:491:32
 slice-aggregate-hear-word-3 : tie.Need-slice-aggregate-hear-word-3
 slice-aggregate-hear-word-3 c = search needs
 
--- src/lib.rt:491:9
 hear-word-requires-3 : tie.Need-hear-word-requires-3
 hear-word-requires-3 c κs = search needs
 
--- src/lib.rt:492:24
 slice-aggregate-hear-word-4 : tie.Need-slice-aggregate-hear-word-4
 slice-aggregate-hear-word-4 c = search needs
 
--- src/lib.rt:492:5
 hear-word-requires-4 : tie.Need-hear-word-requires-4
 hear-word-requires-4 c κs = search needs
 
--- src/lib.rt:486:1
 returns : tie.Need-returns
 unfolding text word one from end follow packetsEnd
-returns c = rw (c .hear-word4 .ensures, c .before .before .hear-word3 .ensures, c .before .before .before .before .hear-word2 .ensures, c .before .before .before .before .before .before .hear-word .ensures)
+returns c =
+    rw (
+      c .hear-word4 .ensures,
+      c .before .before .hear-word3 .ensures,
+      c .before .before .before .before .hear-word2 .ensures,
+      c .before .before .before .before .before .before .hear-word .ensures,
+    )
 
 pub hear-packets-spec : {M : Type 1} → statement M
 hear-packets-spec =

@@ -1,72 +1,65 @@
+-- `setting_text::hear_parts` meets its contract. One word after another.
 use Rattle.rules.specs.Listing.{text}
 use Rattle.setting_text.specs.Table.{word, one, from, end, follow, partLines}
 use borrow.Author.Needs.{needs}
 use Rattle.setting_text.proofs.hear_parts.Statement.{statement}
 use Rattle.setting_text.proofs.hear_parts.Tie as tie
-use Rattle.setting_text.proofs.hear_parts.Reads as reads
-use Rattle.setting_text.proofs.hear_parts.Lts as lts
-use Rattle.setting_text.proofs.hear_word.Reads as hear-word-reads
 
--- src/lib.rt:448:32
 slice-aggregate-hear-word : tie.Need-slice-aggregate-hear-word
 slice-aggregate-hear-word c = search needs
 
--- src/lib.rt:448:9
 hear-word-requires : tie.Need-hear-word-requires
 hear-word-requires c κs = search needs
 
--- src/lib.rt:449:32
 slice-aggregate-hear-word-2 : tie.Need-slice-aggregate-hear-word-2
 slice-aggregate-hear-word-2 c = search needs
 
--- src/lib.rt:449:9
 hear-word-requires-2 : tie.Need-hear-word-requires-2
 hear-word-requires-2 c κs = search needs
 
--- src/lib.rt:450:32
 slice-aggregate-hear-word-3 : tie.Need-slice-aggregate-hear-word-3
 slice-aggregate-hear-word-3 c = search needs
 
--- src/lib.rt:450:9
 hear-word-requires-3 : tie.Need-hear-word-requires-3
 hear-word-requires-3 c κs = search needs
 
--- src/lib.rt:451:32
 slice-aggregate-hear-word-4 : tie.Need-slice-aggregate-hear-word-4
 slice-aggregate-hear-word-4 c = search needs
 
--- src/lib.rt:451:9
 hear-word-requires-4 : tie.Need-hear-word-requires-4
 hear-word-requires-4 c κs = search needs
 
--- src/lib.rt:452:32
 slice-aggregate-hear-word-5 : tie.Need-slice-aggregate-hear-word-5
 slice-aggregate-hear-word-5 c = search needs
 
--- src/lib.rt:452:9
 hear-word-requires-5 : tie.Need-hear-word-requires-5
 hear-word-requires-5 c κs = search needs
 
--- src/lib.rt:453:32
 slice-aggregate-hear-word-6 : tie.Need-slice-aggregate-hear-word-6
 slice-aggregate-hear-word-6 c = search needs
 
--- src/lib.rt:453:9
 hear-word-requires-6 : tie.Need-hear-word-requires-6
 hear-word-requires-6 c κs = search needs
 
--- src/lib.rt:454:24
 slice-aggregate-hear-word-7 : tie.Need-slice-aggregate-hear-word-7
 slice-aggregate-hear-word-7 c = search needs
 
--- src/lib.rt:454:5
 hear-word-requires-7 : tie.Need-hear-word-requires-7
 hear-word-requires-7 c κs = search needs
 
--- src/lib.rt:445:1
 returns : tie.Need-returns
 unfolding text word one from end follow partLines
-returns c = let c₈ = c .before .before .before .before .before .before .before .before in rw (c .hear-word7 .ensures, c .before .before .hear-word6 .ensures, c .before .before .before .before .hear-word5 .ensures, c .before .before .before .before .before .before .hear-word4 .ensures, c₈ .hear-word3 .ensures, c₈ .before .before .hear-word2 .ensures, c₈ .before .before .before .before .hear-word .ensures)
+returns c =
+    let c₈ = c .before .before .before .before .before .before .before .before in
+    rw (
+      c .hear-word7 .ensures,
+      c .before .before .hear-word6 .ensures,
+      c .before .before .before .before .hear-word5 .ensures,
+      c .before .before .before .before .before .before .hear-word4 .ensures,
+      c₈ .hear-word3 .ensures,
+      c₈ .before .before .hear-word2 .ensures,
+      c₈ .before .before .before .before .hear-word .ensures,
+    )
 
 pub hear-parts-spec : {M : Type 1} → statement M
 hear-parts-spec =

@@ -1,3 +1,4 @@
+-- `setting_text::lacking_at` meets its contract. Each before i was said.
 use borrow.Author.Needs.{needs}
 use Prim.Native.Nat.{ℕ, _-_, _<_}
 use mathlib.Core.Bool.{false, not}
@@ -8,8 +9,6 @@ use Rattle.setting.proofs.Loops.{finds, misses}
 use Rattle.setting_text.specs.Facts.{lacking}
 use Rattle.setting_text.proofs.lacking_at.Statement.{statement}
 use Rattle.setting_text.proofs.lacking_at.Tie as tie
-use Rattle.setting_text.proofs.lacking_at.Reads as reads
-use Rattle.setting_text.proofs.lacking_at.Lts as lts
 
 abbrev Inv-loop : tie.InvT-loop
 Inv-loop f i₀ i = (k : ℕ) → k < i → not (getD f k false) ≡ false
@@ -17,32 +16,25 @@ Inv-loop f i₀ i = (k : ℕ) → k < i → not (getD f k false) ≡ false
 abbrev μ-loop : tie.MeasureT-loop
 μ-loop f i₀ i = 7 - i
 
--- src/lib.rt:843:5
 loop-holds : tie.Need-loop-holds Inv-loop μ-loop
 loop-holds c = below-none _
 
--- src/lib.rt:844:13
 array-read-if1 : tie.Need-array-read-if1 Inv-loop μ-loop
 array-read-if1 c = search needs
 
--- src/lib.rt:845:13
 returns : tie.Need-returns Inv-loop μ-loop
 unfolding lacking
 returns c = finds _ _ _ (c .before .loop-test .taken) (c .if1 .taken) (c .before .before .loop .inv)
 
--- src/lib.rt:847:9
 add-i : tie.Need-add-i Inv-loop μ-loop
 add-i c = search needs
 
--- src/lib.rt:843:5
 loop-less : tie.Need-loop-less Inv-loop μ-loop
 loop-less c = search needs
 
--- src/lib.rt:843:5
 loop-again : tie.Need-loop-again Inv-loop μ-loop
 loop-again c = below-more _ _ (c .before .before .loop .inv) (c .if1 .left)
 
--- src/lib.rt:838:1
 returns-2 : tie.Need-returns-2 Inv-loop μ-loop
 unfolding lacking
 returns-2 c = misses _ _ _ (c .loop-test .left) (c .before .loop .inv)

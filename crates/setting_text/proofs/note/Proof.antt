@@ -1,38 +1,35 @@
+-- `setting_text::note` meets its contract. None fitted before, the word does not fit, or it does.
 use borrow.Author.Tests.{eq-eqb, ne-eqb, not-true, not-false}
 use Rattle.setting_text.specs.Table.{noted}
 use borrow.Author.Needs.{needs}
 use Rattle.setting_text.proofs.note.Statement.{statement}
 use Rattle.setting_text.proofs.note.Tie as tie
-use Rattle.setting_text.proofs.note.Reads as reads
-use Rattle.setting_text.proofs.note.Lts as lts
-use Rattle.setting_text.proofs.one_more.Reads as one-more-reads
 
--- src/lib.rt:365:9
 returns : tie.Need-returns
 unfolding noted
 returns c = rw (not-true (c .before .before .args .h .fits) (c .if1 .taken))
 
--- src/lib.rt:369:9
 returns-2 : tie.Need-returns-2
 unfolding noted
 returns-2 c = rw (not-false (c .before .before .before .before .args .h .fits) (c .before .before .if1 .left), eq-eqb _ _ (c .if2 .taken))
 
--- src/lib.rt:376:5
 mul-numbers : tie.Need-mul-numbers
 mul-numbers c = search needs
 
--- src/lib.rt:376:5
 array-write-numbers : tie.Need-array-write-numbers
 array-write-numbers c = search needs
 
--- src/lib.rt:377:9
 one-more-requires : tie.Need-one-more-requires
 one-more-requires c κs = search needs
 
--- src/lib.rt:360:1
 returns-3 : tie.Need-returns-3
 unfolding noted
-returns-3 c = rw (not-false (c .before .before .before .before .before .args .h .fits) (c .before .before .before .if1 .left), ne-eqb _ _ (c .before .if2 .left), c .one-more .ensures)
+returns-3 c =
+    rw (
+      not-false (c .before .before .before .before .before .args .h .fits) (c .before .before .before .if1 .left),
+      ne-eqb _ _ (c .before .if2 .left),
+      c .one-more .ensures,
+    )
 
 pub note-spec : {M : Type 1} → statement M
 note-spec =

@@ -1,3 +1,4 @@
+-- `setting_text::put_fact` meets its contract. In each case one field is set.
 use borrow.Author.Needs.{needs}
 use native.Mathlib.Omega.{arith}
 use mathlib.Core.Path.{_≡_}
@@ -5,40 +6,31 @@ use Rattle.setting_text.specs.Facts.{withFact}
 use Rattle.setting_text.specs.Places.{most}
 use Rattle.setting_text.proofs.put_fact.Statement.{statement}
 use Rattle.setting_text.proofs.put_fact.Tie as tie
-use Rattle.setting_text.proofs.put_fact.Reads as reads
-use Rattle.setting_text.proofs.put_fact.Lts as lts
 
--- src/lib.rt:529:13
 returns : tie.Need-returns
 unfolding withFact
 returns c = rw (c .match .keys1)
 
--- src/lib.rt:532:23
 cast-t : tie.Need-cast-t
 unfolding most
 cast-t c = let h = simp (c .match .keys2) at (c .before .pre .1) in search needs
 
--- src/lib.rt:533:13
 returns-2 : tie.Need-returns-2
 unfolding withFact
 returns-2 c = rw (c .match .keys2)
 
--- src/lib.rt:536:21
 cast-t-2 : tie.Need-cast-t-2
 unfolding most
 cast-t-2 c = let h = simp (c .match .keys3) at (c .before .pre .1) in search needs
 
--- src/lib.rt:537:13
 returns-3 : tie.Need-returns-3
 unfolding withFact
 returns-3 c = rw (c .match .keys3)
 
--- src/lib.rt:541:13
 returns-4 : tie.Need-returns-4
 unfolding withFact
 returns-4 c = rw (c .match .keys4)
 
--- src/lib.rt:545:13
 returns-5 : tie.Need-returns-5
 unfolding withFact
 returns-5 c = let r = c .match .rest in let e : c .before .args .fact ≡ 4 = omega (arith, c .before .pre .0, r .1, r .0 .1, r .0 .0 .1, r .0 .0 .0 .1) in rw e

@@ -1,76 +1,57 @@
+-- `setting_text::take_said` meets its contract. What the line says decides.
 use mathlib.Core.Path.{sym, subst}
 use Rattle.setting_text.specs.Facts.{takeSaid, channelOf}
 use Rattle.setting_text.specs.Places.{most, Known}
 use borrow.Author.Needs.{needs}
 use Rattle.setting_text.proofs.take_said.Statement.{statement}
 use Rattle.setting_text.proofs.take_said.Tie as tie
-use Rattle.setting_text.proofs.take_said.Reads as reads
-use Rattle.setting_text.proofs.take_said.Lts as lts
-use Rattle.setting_text.proofs.add_channel.Reads as add-channel-reads
-use Rattle.setting_text.proofs.add_fact.Reads as add-fact-reads
-use Rattle.setting_text.proofs.add_lane_of.Reads as add-lane-of-reads
-use Rattle.setting_text.proofs.channel_of.Reads as channel-of-reads
 
--- src/lib.rt:726:20
 enum-known-says : tie.Need-enum-known-says
 enum-known-says c = search needs
 
--- src/lib.rt:727:35
 mul-add-fact : tie.Need-mul-add-fact
 unfolding Known
 mul-add-fact c = let h = subst Known (c .before .says .given .1) (c .before .before .before .pre .2) in search needs
 
--- src/lib.rt:727:35
 array-read-add-fact : tie.Need-array-read-add-fact
 unfolding Known
 array-read-add-fact c = let h = subst Known (c .before .says .given .1) (c .before .before .before .pre .2) in search needs
 
--- src/lib.rt:727:13
 add-fact-requires : tie.Need-add-fact-requires
 unfolding Known
 add-fact-requires c κs = (subst Known (c .before .says .given .1) (c .before .before .before .pre .2), c .before .before .before .pre .3 _)
 
--- src/lib.rt:727:13
 returns : tie.Need-returns
 unfolding takeSaid
 returns c = rw (c .before .before .says .given .1) (c .add-fact .ensures)
 
--- src/lib.rt:730:32
 enum-told : tie.Need-enum-told
 enum-told c = search needs
 
--- src/lib.rt:730:17
 channel-of-requires : tie.Need-channel-of-requires
 channel-of-requires c κs = search needs
 
--- src/lib.rt:731:13
 add-channel-requires : tie.Need-add-channel-requires
 unfolding channelOf most
 add-channel-requires c κs = (c .before .before .before .pre .0, rw (c .channel-of .ensures) (c .before .before .before .pre .3 6))
 
--- src/lib.rt:731:13
 returns-2 : tie.Need-returns-2
 unfolding takeSaid
 returns-2 c = rw (c .before .before .enum-told .given .1, sym (c .before .channel-of .ensures)) (c .add-channel .ensures)
 
--- src/lib.rt:734:35
 enum-told-2 : tie.Need-enum-told-2
 enum-told-2 c = search needs
 
--- src/lib.rt:734:13
 add-lane-of-requires : tie.Need-add-lane-of-requires
 add-lane-of-requires c κs = search needs
 
--- src/lib.rt:734:13
 returns-3 : tie.Need-returns-3
 unfolding takeSaid
 returns-3 c = rw (c .before .enum-told2 .given .1) (c .add-lane-of .ensures)
 
--- src/lib.rt:737:13
 enum-told-3 : tie.Need-enum-told-3
 enum-told-3 c = search needs
 
--- src/lib.rt:737:13
 returns-4 : tie.Need-returns-4
 unfolding takeSaid
 returns-4 c = rw (c .enum-told3 .given .1)

@@ -1,49 +1,37 @@
+-- `setting_text::worth_of` meets its contract. What is asked decides.
 use Rattle.setting_text.specs.Table.{worth}
 use Rattle.setting_text.proofs.Texts.{same-empty, same-some}
 use borrow.Author.Needs.{needs}
 use Rattle.setting_text.proofs.worth_of.Statement.{statement}
 use Rattle.setting_text.proofs.worth_of.Tie as tie
-use Rattle.setting_text.proofs.worth_of.Reads as reads
-use Rattle.setting_text.proofs.worth_of.Lts as lts
-use Rattle.setting_text.proofs.number_in.Reads as number-in-reads
-use Rattle.setting_text.proofs.place_of.Reads as place-of-reads
 
--- src/lib.rt:322:19
 enum-known-ask : tie.Need-enum-known-ask
 enum-known-ask c = search needs
 
--- src/lib.rt:323:13
 place-of-requires : tie.Need-place-of-requires
 place-of-requires c κs = search needs
 
--- src/lib.rt:323:13
 returns : tie.Need-returns
 unfolding worth
 returns c = rw (c .before .before .ask .given .1) (c .place-of .ensures)
 
--- src/lib.rt:325:21
 enum-known-ask-2 : tie.Need-enum-known-ask-2
 enum-known-ask-2 c = search needs
 
--- src/lib.rt:326:13
 number-in-requires : tie.Need-number-in-requires
 number-in-requires c κs = search needs
 
--- src/lib.rt:326:13
 returns-2 : tie.Need-returns-2
 unfolding worth
 returns-2 c = rw (c .before .before .ask2 .given .1) (c .number-in .ensures)
 
--- src/lib.rt:328:18
 enum-known-ask-3 : tie.Need-enum-known-ask-3
 enum-known-ask-3 c = search needs
 
--- src/lib.rt:330:17
 returns-3 : tie.Need-returns-3
 unfolding worth
 returns-3 c = rw (c .before .before .ask3 .given .1, same-empty _ (c .if1 .taken))
 
--- src/lib.rt:332:13
 returns-4 : tie.Need-returns-4
 unfolding worth
 returns-4 c = rw (c .before .before .ask3 .given .1, same-some _ (c .if1 .left))
