@@ -4,136 +4,104 @@ use mathlib.Core.Path.{_≡_, refl, sym, ap, _∙_}
 use mathlib.Core.Bool.{Bool, true, false, cond}
 use mathlib.Core.List.{List, [], _∷_}
 use native.Mathlib.Omega.{arith}
-use lib.ListN.{length, take, drop, length-drop, drop-of-length-le}
+use lib.ListN.{length, take, drop, getD, length-drop, drop-of-length-le}
 use lib.Seq.{take-all, drop-drop}
 use borrow.Author.Tests.{le-leb, lt-leb}
-use Rattle.rules.specs.declared.Kind.{Kind}
 use Rattle.rules.specs.declared.Channel.{Channel}
 use Rattle.rules.specs.declared.Lane.{Lane}
 use Rattle.rules.specs.declared.Place.{Place}
 use Rattle.rules.specs.declared.Place.the-variants.{At, Nowhere}
 use Rattle.rules.specs.Tests.{_≤?_, none}
-use Rattle.rules.specs.Listing.{text}
 use Rattle.rules.specs.Settings.{noSetting}
 use Rattle.rules.specs.Refusals.{channelAt, laneAt}
+use Rattle.rules.specs.Listing.{text}
 use Rattle.rules.proofs.Tests.{split}
 use Rattle.setting_text.specs.declared.Stop.the-variants as stop
 use Rattle.setting_text.specs.declared.Wanted.{Wanted}
 use Rattle.setting_text.specs.declared.Wanted.the-variants as want
-use Rattle.setting_text.specs.declared.Form.{Form}
-use Rattle.setting_text.specs.declared.Form.the-variants as form
+use Rattle.setting_text.specs.declared.Says.{Says}
+use Rattle.setting_text.specs.declared.Says.the-variants as say
+use Rattle.setting_text.specs.declared.Ask.{Ask}
+use Rattle.setting_text.specs.declared.Ask.the-variants as ask
+use Rattle.setting_text.specs.declared.Heard.{Heard}
 use Rattle.setting_text.specs.declared.Draft.{Draft}
 use Rattle.setting_text.specs.declared.Gathered.{Gathered}
-use Rattle.setting_text.specs.Texts.{stops, until, cut, full, lines, said, words, first, same, Seen}
-use Rattle.setting_text.specs.Facts.{nothing, remade, single, listing, refuse, withLength, withCraft, withBit, withInsert, withCheck, withChannel, withLane, settled, once, lengthLine, craftLine, bitLine, insertLine, checkLine, ocfUnlike, addChannel, channelLine, addLane, addLaneOf, packetsLine, accessLine, kindLine, laneLine, formOf, takeForm, takeLine, gather}
+use Rattle.setting_text.specs.Texts.{blank, stops, until, onto, cut, full, lines, said, words, first, others, same, isNumber, value, numberOf}
+use Rattle.setting_text.specs.Table.{item, word, one, from, end, frameLines, partLines, channelLine, laneHead, packetsEnd, accessEnd, table, place, worth, fresh, counted, noted, further, turned, step, follow, through, heard}
+use Rattle.setting_text.specs.Facts.{nothing, refuse, told, withFact, addFact, listing, withChannel, withLane, ocfUnlike, addChannel, addLane, addLaneOf, takeSaid, takeAsked, takeLine, gather}
 use Rattle.setting_text.specs.Places.{Gathering}
 use Rattle.setting_text.proofs.Texts.{pieces, cut-until}
 
--- ---- room
+-- ---- there is room
 
-pub record Room (d : Draft) : Type 0 where
+pub record Within (d : Draft) : Type 0 where
   pub channels : d .setting .listed ≤ 8
   pub lanes : d .setting .numbered ≤ 8
 
-either-room : (b : Bool) (d d′ : Draft) → Room d → Room d′ → Room (cond b d d′)
-either-room true d d′ r q = r
-either-room false d d′ r q = q
+either-within : (b : Bool) (d d′ : Draft) → Within d → Within d′ → Within (cond b d d′)
+either-within true d d′ r q = r
+either-within false d d′ r q = q
 
-module _ (d : Draft) (r : Room d) where
-  refuse-room : (w : Wanted) → Room (refuse w d)
+module _ (d : Draft) (r : Within d) where
+  refuse-within : (w : Wanted) → Within (refuse w d)
   unfolding refuse
-  refuse-room w = record { channels = r .channels; lanes = r .lanes }
+  refuse-within w = record { channels = r .channels; lanes = r .lanes }
 
-  settled-room : (e : Seen) (d′ : Draft) → Room d′ → Room (settled e d d′)
-  unfolding settled
-  settled-room e d′ q = either-room (e .fits) d′ (refuse (e .wanted) d) q (refuse-room (e .wanted))
+  fact-within : (k n : ℕ) → Within (addFact k n d)
+  unfolding addFact told withFact
+  fact-within k n =
+      either-within (getD (d .facts) k false) (refuse want.NewFact d) _ (refuse-within want.NewFact)
+      (record { channels = r .channels; lanes = r .lanes })
 
-  once-room : (t : Bool) (d′ : Draft) → Room d′ → Room (once t d d′)
-  unfolding once
-  once-room t d′ q = either-room t (refuse want.NewFact d) d′ (refuse-room want.NewFact) q
-
-  length-room : (n : ℕ) → Room (withLength n d)
-  unfolding withLength remade single
-  length-room n = record { channels = r .channels; lanes = r .lanes }
-
-  craft-room : (n : ℕ) → Room (withCraft n d)
-  unfolding withCraft remade single
-  craft-room n = record { channels = r .channels; lanes = r .lanes }
-
-  bit-room : (n : ℕ) → Room (withBit n d)
-  unfolding withBit remade single
-  bit-room n = record { channels = r .channels; lanes = r .lanes }
-
-  insert-room : (n : ℕ) → Room (withInsert n d)
-  unfolding withInsert remade single
-  insert-room n = record { channels = r .channels; lanes = r .lanes }
-
-  check-room : (b : Bool) → Room (withCheck b d)
-  unfolding withCheck remade single
-  check-room b = record { channels = r .channels; lanes = r .lanes }
-
-  more-channels : (c : Channel) → d .setting .listed < 8 → Room (withChannel c d)
-  unfolding withChannel remade listing
+  more-channels : (c : Channel) → d .setting .listed < 8 → Within (withChannel c d)
+  unfolding withChannel told listing
   more-channels c h = record { channels = omega arith; lanes = r .lanes }
 
-  more-lanes : (l : Lane) → d .setting .numbered < 8 → Room (withLane l d)
-  unfolding withLane remade listing
+  more-lanes : (l : Lane) → d .setting .numbered < 8 → Within (withLane l d)
+  unfolding withLane told listing
   more-lanes l h = record { channels = r .channels; lanes = omega arith }
 
-  add-channel-room : (c : Channel) → Room (addChannel c d)
+  add-channel-within : (c : Channel) → Within (addChannel c d)
   unfolding addChannel
-  add-channel-room c =
-      either-room (none (channelAt (d .setting) (c .vc) (c .service))) _ (refuse want.NewChannel d)
-      (either-room (ocfUnlike (d .setting) c) (refuse want.SameOcf d) _ (refuse-room want.SameOcf) last)
-      (refuse-room want.NewChannel)
+  add-channel-within c =
+      either-within (none (channelAt (d .setting) (c .vc) (c .service))) _ (refuse want.NewChannel d)
+      (either-within (ocfUnlike (d .setting) c) (refuse want.SameOcf d) _ (refuse-within want.SameOcf) last)
+      (refuse-within want.NewChannel)
     where
-      last : Room (cond (8 ≤? d .setting .listed) (refuse want.FewerChannels d) (withChannel c d))
+      last : Within (cond (8 ≤? d .setting .listed) (refuse want.FewerChannels d) (withChannel c d))
       last =
-          split 8 (d .setting .listed) (λ h. rw (le-leb _ _ h) (refuse-room want.FewerChannels)) (λ h. rw (lt-leb _ _ h) (more-channels c h))
+          split 8 (d .setting .listed) (λ h. rw (le-leb _ _ h) (refuse-within want.FewerChannels)) (λ h. rw (lt-leb _ _ h) (more-channels c h))
 
-  add-lane-room : (l : Lane) → Room (addLane l d)
+  add-lane-within : (l : Lane) → Within (addLane l d)
   unfolding addLane
-  add-lane-room l =
-      either-room (none (laneAt (d .setting) (l .channel) (l .map))) _ (refuse want.NewMap d) last (refuse-room want.NewMap)
+  add-lane-within l =
+      either-within (none (laneAt (d .setting) (l .channel) (l .map))) _ (refuse want.NewMap d) last (refuse-within want.NewMap)
     where
-      last : Room (cond (8 ≤? d .setting .numbered) (refuse want.FewerLanes d) (withLane l d))
+      last : Within (cond (8 ≤? d .setting .numbered) (refuse want.FewerLanes d) (withLane l d))
       last =
-          split 8 (d .setting .numbered) (λ h. rw (le-leb _ _ h) (refuse-room want.FewerLanes)) (λ h. rw (lt-leb _ _ h) (more-lanes l h))
+          split 8 (d .setting .numbered) (λ h. rw (le-leb _ _ h) (refuse-within want.FewerLanes)) (λ h. rw (lt-leb _ _ h) (more-lanes l h))
 
-  lane-of-room : (p : Place) (m : ℕ) (k : Kind) (u n : ℕ) → Room (addLaneOf p m k u n d)
+  lane-of-within : (p : Place) (ns : List ℕ) → Within (addLaneOf p ns d)
   unfolding addLaneOf
-  lane-of-room (At c) m k u n = add-lane-room _
-  lane-of-room Nowhere m k u n = refuse-room want.ListedChannel
+  lane-of-within (At c) ns = add-lane-within _
+  lane-of-within Nowhere ns = refuse-within want.ListedChannel
 
-  packets-room : (p : Place) (m : ℕ) (s : Seen) → Room (packetsLine p m d s)
-  unfolding packetsLine
-  packets-room p m s = settled-room _ _ (lane-of-room p m _ _ _)
+  said-within : (s : Says) (ns : List ℕ) → Within (takeSaid s ns d)
+  unfolding takeSaid
+  said-within (say.Fact k) ns = fact-within k _
+  said-within say.Channel ns = add-channel-within _
+  said-within say.Lane ns = lane-of-within _ ns
+  said-within say.Nothing ns = r
 
-  access-room : (p : Place) (m : ℕ) (s : Seen) → Room (accessLine p m d s)
-  unfolding accessLine
-  access-room p m s = settled-room _ _ (lane-of-room p m _ _ _)
+  asked-within : (a : Ask) (h : Heard) → Within (takeAsked a h d)
+  unfolding takeAsked
+  asked-within (ask.Word w) h = refuse-within w
+  asked-within (ask.Number low high) h = refuse-within (want.Number low high)
+  asked-within (ask.End s) h = either-within (h .fits) _ (refuse want.End d) (said-within s (h .numbers)) (refuse-within want.End)
 
-  kind-room : (p : Place) (m : ℕ) (s : Seen) → Room (kindLine p m d s)
-  unfolding kindLine
-  kind-room p m s =
-      either-room (same (first (s .rest)) (text "packets")) (packetsLine p m d s) (accessLine p m d s) (packets-room p m s) (access-room p m s)
-
-  form-room : (f : Form) (s : Seen) → Room (takeForm f d s)
-  unfolding takeForm lengthLine craftLine bitLine insertLine checkLine channelLine laneLine
-  form-room form.Empty s = r
-  form-room form.Frame s = settled-room _ _ (once-room _ _ (length-room _))
-  form-room form.Craft s = settled-room _ _ (once-room _ _ (craft-room _))
-  form-room form.Source s = settled-room _ _ (once-room _ _ (bit-room 0))
-  form-room form.Destination s = settled-room _ _ (once-room _ _ (bit-room 1))
-  form-room form.Insert s = settled-room _ _ (once-room _ _ (insert-room _))
-  form-room form.Check s = settled-room _ _ (once-room _ _ (check-room _))
-  form-room form.Channel s = settled-room _ _ (add-channel-room _)
-  form-room form.Lane s = kind-room _ _ _
-  form-room form.Unknown s = refuse-room want.Fact
-
-  pub line-room : (l : List ℕ) → Room (takeLine d l)
+  pub line-within : (l : List ℕ) → Within (takeLine d l)
   unfolding takeLine
-  line-room l = form-room _ _
+  line-within l = asked-within _ _
 
 -- ---- lines
 
@@ -145,7 +113,7 @@ cond-false b x y e = ap (λ (t : Bool). cond t x y) e
 
 -- An empty line says nothing.
 gather-empty : (n : ℕ) (d : Draft) → d .fits ≡ true → gather n d (lines []) ≡ record { draft = d; line = 0 }
-unfolding gather lines cut takeLine words said full until first same formOf takeForm
+unfolding gather lines cut takeLine takeAsked takeSaid words said full until first others same blank stops onto isNumber value numberOf text item word one from end frameLines partLines channelLine laneHead packetsEnd accessEnd table place worth fresh counted noted further turned step follow through heard
 gather-empty n d e = cond-true (d .fits) _ _ e
 
 gather-after : (n : ℕ) (d : Draft) (zs : List ℕ) → d .fits ≡ true → gather n d (pieces (stops stop.Feed) zs) ≡ gather n d (lines (drop 1 zs))
@@ -156,7 +124,7 @@ gather-after n d (z ∷ zs) e = refl
 -- All lines before octet `at` were taken, n - 1 of them.
 pub record Taking (t : List ℕ) (d : Draft) (n at : ℕ) : Type 0 where
   pub fits : d .fits ≡ true
-  pub room : Room d
+  pub room : Within d
   pub count : n ≤ at + 1
   pub goes : gather 1 nothing (lines t) ≡ gather n d (lines (drop at t))
 
@@ -183,19 +151,20 @@ module _ (t : List ℕ) (d : Draft) (n at : ℕ) (h : Taking t d n at) where
     here : d′ ≡ takeLine d (take size (drop at t))
     here = e ∙ ap (λ (x : List ℕ). takeLine d (take size x)) rest-is
 
-    one : gather n d (lines (drop at t)) ≡ cond (d′ .fits) (gather (n + 1) d′ (pieces (stops stop.Feed) (drop size (drop at t))))
+    turn-of : gather n d (lines (drop at t)) ≡ cond (d′ .fits) (gather (n + 1) d′ (pieces (stops stop.Feed) (drop size (drop at t))))
         (record { draft = d′; line = n })
     unfolding gather
-    one = rw (next, sym here)
+    turn-of = rw (next, sym here)
 
     pub turn : d′ .fits ≡ true → Taking t d′ (n + 1) (at + size + 1)
     turn f =
         record {
           fits = f;
-          room = rw here (line-room d (h .room) _);
+          room = rw here (line-within d (h .room) _);
           count = omega (arith, h .count);
           goes =
-              h .goes ∙ one ∙ cond-true (d′ .fits) (gather (n + 1) d′ (pieces (stops stop.Feed) (drop size (drop at t)))) (record { draft = d′; line = n }) f
+              h .goes ∙ turn-of
+              ∙ cond-true (d′ .fits) (gather (n + 1) d′ (pieces (stops stop.Feed) (drop size (drop at t)))) (record { draft = d′; line = n }) f
               ∙ gather-after (n + 1) d′ (drop size (drop at t)) f ∙ ap (λ (x : List ℕ). gather (n + 1) d′ (lines x)) past;
         }
       where
@@ -204,5 +173,5 @@ module _ (t : List ℕ) (d : Draft) (n at : ℕ) (h : Taking t d n at) where
 
     pub stops-here : d′ .fits ≡ false → Gathering t (record { draft = d′; line = n })
     stops-here f =
-        let r : Room d′ = rw here (line-room d (h .room) _) in
-        record { gathered = sym (h .goes ∙ one ∙ cond-false (d′ .fits) _ _ f); room = r .channels }
+        let r : Within d′ = rw here (line-within d (h .room) _) in
+        record { gathered = sym (h .goes ∙ turn-of ∙ cond-false (d′ .fits) _ _ f); room = r .channels }

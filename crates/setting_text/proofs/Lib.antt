@@ -1,6 +1,6 @@
 pub mod Texts
 pub mod Steps
-pub mod Lines
+pub mod Table
 pub mod Gathers
 pub mod Answers
 pub mod Valid

@@ -6,13 +6,12 @@ use mathlib.Core.List.{List, [], _∷_}
 use native.Mathlib.Omega.{arith}
 use lib.ListN.{length, take, drop, getD, drop-of-length-le}
 use lib.Seq.{drop-cons}
-use Rattle.rules.proofs.Tests.{split, and-right}
+use Rattle.rules.proofs.Tests.{and-right}
 use borrow.Author.Tests.{le-leb, lt-leb, eq-eqb, ne-eqb}
 use Rattle.rules.specs.Tests.{_≤?_, _=?_}
 use Rattle.setting_text.specs.declared.Stop.the-variants as stop
-use Rattle.setting_text.specs.declared.Wanted.{Wanted}
-use Rattle.setting_text.specs.Texts.{blank, stops, until, onto, cut, full, words, first, others, same, digit, digits, isNumber, value, numeral, Seen, step}
-use Rattle.setting_text.specs.Places.{numberFrom, numberOf}
+use Rattle.setting_text.specs.Texts.{blank, stops, until, onto, cut, full, words, first, others, same, digit, digits, isNumber, value, numberOf}
+use Rattle.setting_text.specs.Places.{numberFrom}
 
 -- ---- where the first octet stands that passes
 
@@ -176,55 +175,14 @@ number-end v w i h q = rw (drop-of-length-le w h, le-leb _ _ q)
 pub number-some : (w : List ℕ) → 0 < length w → numberOf w ≡ numberFrom 0 w
 unfolding numberOf numberFrom isNumber
 number-some [] h = absurd (omega arith)
-number-some (x ∷ w) h = go (digits (x ∷ w))
-  where
-    go : (b : Bool) → cond b (cond (b && value 0 (x ∷ w) ≤? 65535) (value 0 (x ∷ w)) 65536) 65536 ≡ cond (b && value 0 (x ∷ w) ≤? 65535) (value 0 (x ∷ w)) 65536
-    go true = refl
-    go false = refl
+number-some (x ∷ w) h = refl
 
 pub number-none : (w : List ℕ) → length w ≡ 0 → numberOf w ≡ 65536
 unfolding numberOf isNumber
 number-none [] h = refl
 number-none (x ∷ w) h = absurd (omega arith)
 
--- A number up to 65,535 is looked at as it is, and every other word is above each bound.
-module _ (low high : ℕ) (w : List ℕ) (h : high ≤ 65535) (t : Wanted) (s : Seen) where
-  abbrev Alike : ℕ → Bool → Type 0
-  Alike n ok = step (low ≤? n && n ≤? high) n t s ≡ step ok (value 0 w) t s
-
-  out : Alike 65536 false
-  unfolding step
-  out = let l : high < 65536 = omega arith in rw (lt-leb _ _ l) (go (low ≤? 65536))
-    where
-      go : (b : Bool) → step (b && false) 65536 t s ≡ step false (value 0 w) t s
-      go true = refl
-      go false = refl
-
-  above : 65535 < value 0 w → Alike 65536 (low ≤? value 0 w && value 0 w ≤? high)
-  above k = let l : high < value 0 w = omega arith in rw (lt-leb (value 0 w) high l) (go (low ≤? value 0 w))
-    where
-      go : (b : Bool) → Alike 65536 (b && false)
-      go true = out
-      go false = out
-
-  number-digits : isNumber w ≡ true → digits w ≡ true
-  unfolding isNumber
-  number-digits e = go w e
-    where
-      go : (w : List ℕ) → isNumber w ≡ true → digits w ≡ true
-      go [] e = absurd (false≢true e)
-      go (x ∷ w) e = e
-
-  pub step-number : Alike (numberOf w) (numeral low high w)
-  unfolding numberOf numberFrom numeral
-  step-number = go (isNumber w) refl
-    where
-      go : (b : Bool) → isNumber w ≡ b → Alike (cond b (cond (digits w && value 0 w ≤? 65535) (value 0 w) 65536) 65536)
-          (b && (low ≤? value 0 w && value 0 w ≤? high))
-      go false e = out
-      go true e =
-          rw (number-digits e)
-          (split (value 0 w) 65535 (λ k. rw (le-leb _ _ k)) (λ k. rw (lt-leb (value 0 w) 65535 k) (above k)))
+-- ---- no word
 
 pub same-empty : (w : List ℕ) → length w ≡ 0 → same w [] ≡ true
 unfolding same
@@ -233,3 +191,10 @@ same-empty (x ∷ w) h = absurd (omega arith)
 
 pub same-some : (w : List ℕ) → (length w ≡ 0 → ⊥) → same w [] ≡ false
 same-some w h = same-unlike w [] h
+
+-- No word is empty, so where the next one is, none is left.
+pub first-none : (zs : List (List ℕ)) → length (first (full zs)) ≡ 0 → full zs ≡ []
+unfolding full first
+first-none [] e = refl
+first-none ([] ∷ zs) e = first-none zs e
+first-none ((x ∷ z) ∷ zs) e = absurd (omega (arith, e))

@@ -7,14 +7,12 @@ use native.Mathlib.Omega.{arith}
 use Rattle.rules.specs.declared.Setting.{Setting}
 use Rattle.rules.specs.declared.Place.{Place}
 use Rattle.rules.specs.declared.Place.the-variants.{At, Nowhere}
-use Rattle.rules.specs.Tests.{_=?_}
 use Rattle.rules.specs.Settings.{settingOk}
 use Rattle.setting_text.specs.declared.Missing.{Missing}
 use Rattle.setting_text.specs.declared.Finding.{Finding}
 use Rattle.setting_text.specs.declared.Finding.the-variants as finds
-use Rattle.setting_text.specs.declared.Draft.{Draft}
 use Rattle.setting_text.specs.declared.Gathered.{Gathered}
-use Rattle.setting_text.specs.Facts.{judged, zoneless, listsFound, allFound, found, answered, parsed}
+use Rattle.setting_text.specs.Facts.{judged, zoneless, lacking, allFound, found, answered, parsed}
 
 -- Where another finding than Good stands on one side of a test, a good answer comes from the other side.
 abbrev Bad : Finding → Type 0
@@ -27,10 +25,6 @@ from-then : (b : Bool) (f g : Finding) → Bad g → cond b f g ≡ finds.Good �
 from-then true f g h e = e
 from-then false f g h e = absurd (h e)
 
-from-else : (b : Bool) (f g : Finding) → Bad f → cond b f g ≡ finds.Good → g ≡ finds.Good
-from-else true f g h e = absurd (h e)
-from-else false f g h e = e
-
 judged-good : (p : Place) (s : Setting) → judged p s ≡ finds.Good → settingOk s ≡ true
 unfolding judged
 judged-good (At i) s e = let z : _≡_ {A = ℕ} 0 1 = cc in absurd (omega arith)
@@ -40,23 +34,14 @@ judged-good Nowhere s e = go (settingOk s) e
     go true q = refl
     go false q = let z : _≡_ {A = ℕ} 0 1 = cc in absurd (omega arith)
 
-lists-good : (s : Setting) → listsFound s ≡ finds.Good → settingOk s ≡ true
-unfolding listsFound
-lists-good s e =
-    judged-good (zoneless s) s
-    (from-else (s .numbered =? 0) _ _ (lacks-bad _) (from-else (s .listed =? 0) _ _ (lacks-bad _) e))
-
-all-good : (d : Draft) → allFound d ≡ finds.Good → settingOk (d .setting) ≡ true
+all-good : (p : Place) (s : Setting) → allFound p s ≡ finds.Good → settingOk s ≡ true
 unfolding allFound
-all-good d e =
-    lists-good (d .setting)
-    (from-then (d .check) _ _ (lacks-bad _)
-    (from-then (d .insert) _ _ (lacks-bad _)
-    (from-then (d .bit) _ _ (lacks-bad _) (from-then (d .craft) _ _ (lacks-bad _) (from-then (d .length) _ _ (lacks-bad _) e)))))
+all-good (At k) s e = absurd (lacks-bad _ e)
+all-good Nowhere s e = judged-good (zoneless s) s e
 
 found-good : (g : Gathered) → found g ≡ finds.Good → settingOk (g .draft .setting) ≡ true
 unfolding found
-found-good g e = all-good (g .draft) (from-then (g .draft .fits) _ _ (λ q. let z : _≡_ {A = ℕ} 0 1 = cc in omega arith) e)
+found-good g e = all-good (lacking (g .draft)) (g .draft .setting) (from-then (g .draft .fits) _ _ (λ q. let z : _≡_ {A = ℕ} 0 1 = cc in omega arith) e)
 
 answered-good : (f : Finding) (s : Setting) → (f ≡ finds.Good → settingOk s ≡ true) → (answered f s) .finding ≡ finds.Good
     → settingOk ((answered f s) .setting) ≡ true

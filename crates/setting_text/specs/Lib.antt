@@ -1,3 +1,4 @@
 pub mod Texts
+pub mod Table
 pub mod Facts
 pub mod Places

@@ -1,14 +1,11 @@
--- The setting as a text: lines, words and numbers, and what is read of a line word by word.
+-- The setting as a text: lines, words and numbers.
 use Prim.Native.Nat.{ℕ, suc, _+_, _-_, _*_}
 use mathlib.Core.Bool.{Bool, true, false, cond, not, _&&_, _||_}
 use mathlib.Core.List.{List, [], _∷_}
 use lib.ListN.{take}
 use Rattle.rules.specs.Tests.{_≤?_, _=?_}
-use Rattle.rules.specs.Listing.{text}
 use Rattle.setting_text.specs.declared.Stop.{Stop}
 use Rattle.setting_text.specs.declared.Stop.the-variants as stop
-use Rattle.setting_text.specs.declared.Wanted.{Wanted}
-use Rattle.setting_text.specs.declared.Wanted.the-variants as want
 
 -- ---- lines and words
 
@@ -73,7 +70,7 @@ same [] (y ∷ ys) = false
 same (x ∷ xs) [] = false
 same (x ∷ xs) (y ∷ ys) = x =? y && same xs ys
 
--- ---- "A number is one or more decimal digits, nothing else."
+-- ---- "A number is one or more decimal digits (leading zeros are fine)."
 
 unfoldable pub digit : ℕ → Bool
 digit x = 48 ≤? x && x ≤? 57
@@ -91,45 +88,6 @@ unfoldable pub value : ℕ → List ℕ → ℕ
 value n [] = n
 value n (x ∷ xs) = value (10 * n + (x - 48)) xs
 
--- ---- a line, word by word
-
--- The words that are left, the number that the last one stood for, whether all fit so far, and what was expected instead of the
--- first that did not.
-pub record Seen : Type 0 where
-  pub rest : List (List ℕ)
-  pub number : ℕ
-  pub fits : Bool
-  pub wanted : Wanted
-
-unfoldable pub start : List (List ℕ) → Seen
-start ws = record { rest = ws; number = 0; fits = true; wanted = want.Nothing }
-
-unfoldable pub missed : Wanted → Seen → Seen
-missed w s = record { rest = s .rest; number = 0; fits = false; wanted = w }
-
--- The next word fits and stands for n, or this was wanted; once a word did not fit, none does.
-unfoldable pub step : Bool → ℕ → Wanted → Seen → Seen
-step ok n w s =
-    cond (s .fits)
-    (cond ok (record { rest = others (s .rest); number = n; fits = true; wanted = want.Nothing }) (missed w s))
-    (missed (s .wanted) s)
-
--- The next word is this one.
-unfoldable pub says : List ℕ → Wanted → Seen → Seen
-says k w s = step (same (first (s .rest)) k) 0 w s
-
--- The next word is a number from `low` to `high`.
-unfoldable pub numeral : ℕ → ℕ → List ℕ → Bool
-numeral low high w = isNumber w && (low ≤? value 0 w && value 0 w ≤? high)
-
-unfoldable pub number : ℕ → ℕ → Seen → Seen
-number low high s = step (numeral low high (first (s .rest))) (value 0 (first (s .rest))) (want.Number low high) s
-
--- The next word is `yes`, 1, or `no`, 0.
-unfoldable pub yesOrNo : Seen → Seen
-yesOrNo s =
-    step (same (first (s .rest)) (text "yes") || same (first (s .rest)) (text "no")) (cond (same (first (s .rest)) (text "yes")) 1 0) want.YesOrNo s
-
--- No word is left.
-unfoldable pub end : Seen → Seen
-end s = step (same (first (s .rest)) []) 0 want.End s
+-- The number, up to 65,535, that a word stands for; 65,536 where it stands for none.
+unfoldable pub numberOf : List ℕ → ℕ
+numberOf w = cond (isNumber w && value 0 w ≤? 65535) (value 0 w) 65536

@@ -1,15 +1,15 @@
-// A setting from its text: what each line says, the first bad line, and what a text lacks.
+// A setting from its text: a table of its lines, what each says, the first bad line, and what a text lacks.
 ghost use mathlib.Core.Path.{_≡_};
-ghost use mathlib.Core.List.{List};
-ghost use mathlib.Core.Bool.{_&&_, _||_, cond};
-ghost use Prim.Native.Nat.{ℕ, _≤_, _<_};
-ghost use lib.ListN.{drop};
-ghost use Rattle.rules.specs.Tests.{_≤?_};
+ghost use mathlib.Core.Bool.{_&&_, cond};
+ghost use Prim.Native.Nat.{_≤_, _<_};
+ghost use lib.ListN.{getD};
+ghost use Rattle.rules.specs.Tests.{_≤?_, _=?_};
 ghost use Rattle.rules.specs.Refusals.{channelAt};
-ghost use Rattle.setting_text.specs.Texts.{blank, stops, same, words, others, step, says, number, yesOrNo, end};
-ghost use Rattle.setting_text.specs.Places.{Until, seen, Word, numberOf};
-ghost use Rattle.setting_text.specs.Facts.{nothing, refuse, lengthLine, craftLine, bitLine, insertLine, checkLine, withChannel, withLane, addChannel, ocfUnlike, channelLine, addLane, addLaneOf, channelOf, packetsLine, accessLine, kindLine, laneLine, listForm, formOf, takeForm, takeLine, zoneless, judged, listsFound, allFound, found, answered, parsed};
-ghost use Rattle.setting_text.specs.Places.{Gathering};
+ghost use Rattle.rules.specs.declared.Kind.the-variants as kinds;
+ghost use Rattle.setting_text.specs.Texts.{blank, stops, same, words, numberOf};
+ghost use Rattle.setting_text.specs.Table.{VC, SERVICE, item, frameLines, partLines, channelLine, laneHead, packetsEnd, accessEnd, place, worth, fresh, counted, noted, step, follow, heard};
+ghost use Rattle.setting_text.specs.Places.{Until, Word, seen, moved, most, Bounded, Known, Sound, Gathering};
+ghost use Rattle.setting_text.specs.Facts.{nothing, refuse, told, withFact, addFact, withChannel, withLane, ocfUnlike, addChannel, channelOf, addLane, laneOf, addLaneOf, takeSaid, takeAsked, takeLine, zoneless, judged, lacking, allFound, found, answered, parsed};
 use rules::Channel;
 use rules::Kind;
 use rules::Lane;
@@ -75,42 +75,49 @@ pub enum Stop {
     Word,
 }
 
-// How far a line is read: the next octet, the last word's number, whether all words fit, and what was expected otherwise.
-pub struct Cursor {
-    pub at: usize,
-    pub number: usize,
-    pub fits: bool,
-    pub wanted: Wanted,
-}
-
 // Where a word stands.
 pub struct Span {
     pub from: usize,
     pub to: usize,
 }
 
-// What kind of line it is, by its first word.
-pub enum Form {
-    Empty,
-    Frame,
-    Craft,
-    Source,
-    Destination,
-    Insert,
-    Check,
+// What a line says: a single fact, by its field, a channel, a lane, or nothing.
+pub enum Says {
+    Fact(usize),
     Channel,
     Lane,
-    Unknown,
+    Nothing,
 }
 
-// What the lines said so far, which single facts were said, whether all lines fit, and what was expected otherwise.
+// What is asked of a word: to be one of some words, or else this was wanted; to be a number from .. to ..; not to be there, and
+// then the line says this.
+pub enum Ask {
+    Word(Wanted),
+    Number(usize, usize),
+    End(Says),
+}
+
+// What is heard of a line: its numbers by their fields, how many words fit, what was asked last, and whether all words fit.
+pub struct Heard {
+    pub numbers: [usize; 14],
+    pub count: usize,
+    pub ask: Ask,
+    pub fits: bool,
+}
+
+// How far a line is held against the table: the next octet, what is heard of it as the present line of the table, and as the best
+// one before.
+pub struct Trace {
+    pub at: usize,
+    pub now: Heard,
+    pub best: Heard,
+}
+
+// What the lines said so far, whether each single fact, a channel and a lane were said, whether all lines fit, and what was expected
+// otherwise.
 pub struct Draft {
     pub setting: Setting,
-    pub length: bool,
-    pub craft: bool,
-    pub bit: bool,
-    pub insert: bool,
-    pub check: bool,
+    pub facts: [bool; 7],
     pub fits: bool,
     pub wanted: Wanted,
 }
@@ -120,6 +127,47 @@ pub struct Gathered {
     pub draft: Draft,
     pub line: usize,
 }
+
+// The fields of a line's numbers: five single facts; those of a channel; those that a lane has besides; what
+// says nothing; the line's end.
+const LENGTH: usize = 0;
+
+const CRAFT: usize = 1;
+
+const DIRECTION: usize = 2;
+
+const INSERT: usize = 3;
+
+const CHECK: usize = 4;
+
+const VC: usize = 5;
+
+const SERVICE: usize = 6;
+
+const OCTETS: usize = 7;
+
+const OCF: usize = 8;
+
+const MAP: usize = 9;
+
+const UPID: usize = 10;
+
+const LONGEST: usize = 11;
+
+const ASIDE: usize = 12;
+
+const END: usize = 13;
+
+// What is missing where it was never said.
+const MISSING: [Missing; 7] = [
+    Missing::Length,
+    Missing::Spacecraft,
+    Missing::Direction,
+    Missing::Insert,
+    Missing::Check,
+    Missing::Channel,
+    Missing::Lane,
+];
 
 // Whether an octet is a blank.
 fn is_blank(x: u8) -> bool
@@ -228,117 +276,252 @@ fn number_of(word: &[u8]) -> usize
     v
 }
 
-// The cursor after the next word, which ends at `to`, fits or not, and stands for n.
-fn moved(c: Cursor, to: usize, ok: bool, n: usize, wanted: Wanted) -> Cursor
-    ensures { λ r. ⌜ ((l : List ℕ) → others (words (drop (c .at) l)) ≡ words (drop to l) → seen l r ≡ step ok n wanted (seen l c)) ⌝ }
+// Which of some words a word is, from 0; 65,536 where it is none.
+fn place_of(word: &[u8], keys: &[u8]) -> usize
+    ensures { λ r. ⌜ r ≡ place 0 (now (word .entry)) (words (now (keys .entry))) ⌝ }
 {
-    if c.fits {
-        if ok {
-            return Cursor {
-                at: to,
-                number: n,
-                fits: true,
-                wanted: Wanted::Nothing,
-            };
+    let mut n: usize = 0;
+    let mut at: usize = 0;
+    while at < keys.len() {
+        let w = next_word(keys, at);
+        let from = w.from;
+        let to = w.to;
+        if from == to {
+            return 65536;
         }
-        return Cursor {
-            at: c.at,
-            number: 0,
+        let key = &keys[from..to];
+        let found = same_word(word, key);
+        if found {
+            return n;
+        }
+        n += 1;
+        at = to;
+    }
+    65536
+}
+
+// The number that a word stands for, from `low` to `high`; 65,536 where it stands for none.
+fn number_in(word: &[u8], low: usize, high: usize) -> usize
+    ensures { λ r. ⌜ r ≡ cond (low ≤? numberOf (now (word .entry)) && numberOf (now (word .entry)) ≤? high) (numberOf (now (word .entry))) 65536 ⌝ }
+{
+    let n = number_of(word);
+    if n < low {
+        return 65536;
+    }
+    if high < n {
+        return 65536;
+    }
+    n
+}
+
+// The number of a word of which this is asked; 65,536 where it does not fit. That of one of some words is its place among them.
+fn worth_of(word: &[u8], keys: &[u8], ask: Ask) -> usize
+    ensures { λ r. ⌜ r ≡ worth ask (now (keys .entry)) (now (word .entry)) ⌝ }
+{
+    match ask {
+        Ask::Word(wanted) => {
+            return place_of(word, keys);
+        }
+        Ask::Number(low, high) => {
+            return number_in(word, low, high);
+        }
+        Ask::End(says) => {
+            if word.len() == 0 {
+                return 0;
+            }
+            return 65536;
+        }
+    }
+}
+
+// No word was heard yet.
+fn fresh_heard(fits: bool) -> Heard
+    ensures { λ r. ⌜ r ≡ fresh fits ⌝ }
+{
+    Heard {
+        numbers: [0; 14],
+        count: 0,
+        ask: Ask::Word(Wanted::Fact),
+        fits: fits,
+    }
+}
+
+// One more, up to 255.
+fn one_more(n: usize) -> usize
+    ensures { λ r. ⌜ r ≡ counted n ⌝ }
+{
+    if n < 255 {
+        return n + 1;
+    }
+    n
+}
+
+// What is heard after a word of which this was asked.
+fn note(h: Heard, ask: Ask, field: usize, n: usize) -> Heard
+    requires { ⌜ field < 14 ⌝ }
+    ensures { λ r. ⌜ r ≡ noted ask field n h ⌝ }
+{
+    if !h.fits {
+        return h;
+    }
+    let mut numbers = h.numbers;
+    if n == 65536 {
+        return Heard {
+            numbers: numbers,
+            count: h.count,
+            ask: ask,
             fits: false,
-            wanted: wanted,
         };
     }
-    let w = c.wanted;
-    Cursor {
-        at: c.at,
-        number: 0,
-        fits: false,
-        wanted: w,
+    numbers[field] = n;
+    let count = one_more(h.count);
+    Heard {
+        numbers: numbers,
+        count: count,
+        ask: ask,
+        fits: true,
     }
 }
 
-// The cursor after a word that has to be this one.
-fn says_word(line: &[u8], c: Cursor, key: &[u8], wanted: Wanted) -> Cursor
-    ensures { λ r. ⌜ seen (now (line .entry)) r ≡ says (now (key .entry)) wanted (seen (now (line .entry)) c) ⌝ }
+// The place after a word that ends at `to`; after a line of the table, the begin of the line.
+fn move_on(t: Trace, to: usize, field: usize, h: Heard) -> Trace
+    ensures { λ r. ⌜ r ≡ moved to field h t ⌝ }
 {
-    let w = next_word(line, c.at);
-    let from = w.from;
-    let to = w.to;
-    let word = &line[from..to];
-    let ok = same_word(word, key);
-    moved(c, to, ok, 0, wanted)
-}
-
-// Whether a number is from `low` to `high`.
-fn in_range(n: usize, low: usize, high: usize) -> bool
-    ensures { λ r. ⌜ r ≡ (low ≤? n && n ≤? high) ⌝ }
-{
-    if low <= n {
-        return n <= high;
+    let best = t.best;
+    let mut r = t;
+    if field != END {
+        r.at = to;
+        r.now = h;
+        return r;
     }
-    false
-}
-
-// The cursor after a word that has to be a number from `low` to `high`.
-fn number_from(line: &[u8], c: Cursor, low: usize, high: usize) -> Cursor
-    requires { ⌜ high ≤ 65535 ⌝ }
-    ensures read { λ r. ⌜ seen (now (line .entry)) r ≡ number low high (seen (now (line .entry)) c) ⌝ }
-    ensures within { λ r. ⌜ r .number ≤ high ⌝ }
-{
-    let w = next_word(line, c.at);
-    let from = w.from;
-    let to = w.to;
-    let word = &line[from..to];
-    let n = number_of(word);
-    let ok = in_range(n, low, high);
-    moved(c, to, ok, n, Wanted::Number(low, high))
-}
-
-// Whether one of two tests passes.
-fn either(a: bool, b: bool) -> bool
-    ensures { λ r. ⌜ r ≡ (a || b) ⌝ }
-{
-    if a {
-        return true;
+    let now = fresh_heard(true);
+    r.at = 0;
+    r.now = now;
+    if best.count < h.count {
+        r.best = h;
+        return r;
     }
-    b
+    r
 }
 
-// The number of `yes`, and of every other word.
-fn yes_number(yes: bool) -> usize
-    ensures { λ r. ⌜ r ≡ cond yes 1 0 ⌝ }
+// The next word, held against its place in a line of the table: the words that may stand there, what is asked, and the field that
+// its number goes to.
+fn hear_word(line: &[u8], t: Trace, keys: &[u8], ask: Ask, field: usize) -> Trace
+    requires { ⌜ field < 14 ⌝ }
+    ensures { λ r. ⌜ seen (now (line .entry)) r ≡ step (words (now (line .entry))) (item (now (keys .entry)) ask field) (seen (now (line .entry)) t) ⌝ }
 {
-    if yes {
-        return 1;
-    }
-    0
-}
-
-// The cursor after a word that has to be `yes` or `no`.
-fn yes_or_no(line: &[u8], c: Cursor) -> Cursor
-    ensures { λ r. ⌜ seen (now (line .entry)) r ≡ yesOrNo (seen (now (line .entry)) c) ⌝ }
-{
-    let w = next_word(line, c.at);
+    let w = next_word(line, t.at);
     let from = w.from;
     let to = w.to;
     let word = &line[from..to];
-    let yes = same_word(word, b"yes");
-    let no = same_word(word, b"no");
-    let n = yes_number(yes);
-    let ok = either(yes, no);
-    moved(c, to, ok, n, Wanted::YesOrNo)
+    let n = worth_of(word, keys, ask);
+    let h = t.now;
+    let g = note(h, ask, field, n);
+    move_on(t, to, field, g)
 }
 
-// The cursor at the line's end, where it has to be.
-fn line_end(line: &[u8], c: Cursor) -> Cursor
-    ensures { λ r. ⌜ seen (now (line .entry)) r ≡ end (seen (now (line .entry)) c) ⌝ }
+// The table: frame length, spacecraft, source or destination.
+fn hear_frame(line: &[u8], t: Trace) -> Trace
+    ensures { λ r. ⌜ seen (now (line .entry)) r ≡ follow (words (now (line .entry))) frameLines (seen (now (line .entry)) t) ⌝ }
 {
-    let w = next_word(line, c.at);
-    let from = w.from;
-    let to = w.to;
-    let word = &line[from..to];
-    let ok = same_word(word, b"");
-    moved(c, to, ok, 0, Wanted::End)
+    let t = hear_word(line, t, b"frame", Ask::Word(Wanted::Fact), ASIDE);
+    let t = hear_word(line, t, b"length", Ask::Word(Wanted::Length), ASIDE);
+    let t = hear_word(line, t, b"", Ask::Number(32, 4096), LENGTH);
+    let t = hear_word(line, t, b"", Ask::End(Says::Fact(LENGTH)), END);
+    let t = hear_word(line, t, b"spacecraft", Ask::Word(Wanted::Fact), ASIDE);
+    let t = hear_word(line, t, b"", Ask::Number(0, 65535), CRAFT);
+    let t = hear_word(line, t, b"", Ask::End(Says::Fact(CRAFT)), END);
+    let t = hear_word(
+        line,
+        t,
+        b"source destination",
+        Ask::Word(Wanted::Fact),
+        DIRECTION,
+    );
+    hear_word(line, t, b"", Ask::End(Says::Fact(DIRECTION)), END)
+}
+
+// The table: insert, check, and a line without words.
+fn hear_parts(line: &[u8], t: Trace) -> Trace
+    ensures { λ r. ⌜ seen (now (line .entry)) r ≡ follow (words (now (line .entry))) partLines (seen (now (line .entry)) t) ⌝ }
+{
+    let t = hear_word(line, t, b"insert", Ask::Word(Wanted::Fact), ASIDE);
+    let t = hear_word(line, t, b"", Ask::Number(0, 64), INSERT);
+    let t = hear_word(line, t, b"", Ask::End(Says::Fact(INSERT)), END);
+    let t = hear_word(line, t, b"check", Ask::Word(Wanted::Fact), ASIDE);
+    let t = hear_word(line, t, b"no yes", Ask::Word(Wanted::YesOrNo), CHECK);
+    let t = hear_word(line, t, b"", Ask::End(Says::Fact(CHECK)), END);
+    hear_word(line, t, b"", Ask::End(Says::Nothing), END)
+}
+
+// The table: a channel.
+fn hear_channel(line: &[u8], t: Trace) -> Trace
+    ensures { λ r. ⌜ seen (now (line .entry)) r ≡ follow (words (now (line .entry))) channelLine (seen (now (line .entry)) t) ⌝ }
+{
+    let t = hear_word(line, t, b"channel", Ask::Word(Wanted::Fact), ASIDE);
+    let t = hear_word(line, t, b"", Ask::Number(0, 62), VC);
+    let t = hear_word(line, t, b"service", Ask::Word(Wanted::Service), ASIDE);
+    let t = hear_word(line, t, b"", Ask::Number(0, 1), SERVICE);
+    let t = hear_word(line, t, b"count", Ask::Word(Wanted::Count), ASIDE);
+    let t = hear_word(line, t, b"", Ask::Number(1, 7), OCTETS);
+    let t = hear_word(line, t, b"ocf", Ask::Word(Wanted::Ocf), ASIDE);
+    let t = hear_word(line, t, b"no yes", Ask::Word(Wanted::YesOrNo), OCF);
+    hear_word(line, t, b"", Ask::End(Says::Channel), END)
+}
+
+// The table: what all lanes have.
+fn hear_lane(line: &[u8], t: Trace) -> Trace
+    ensures { λ r. ⌜ seen (now (line .entry)) r ≡ follow (words (now (line .entry))) laneHead (seen (now (line .entry)) t) ⌝ }
+{
+    let t = hear_word(line, t, b"lane", Ask::Word(Wanted::Fact), ASIDE);
+    let t = hear_word(line, t, b"channel", Ask::Word(Wanted::Channel), ASIDE);
+    let t = hear_word(line, t, b"", Ask::Number(0, 62), VC);
+    let t = hear_word(line, t, b"service", Ask::Word(Wanted::Service), ASIDE);
+    let t = hear_word(line, t, b"", Ask::Number(0, 1), SERVICE);
+    let t = hear_word(line, t, b"map", Ask::Word(Wanted::Map), ASIDE);
+    hear_word(line, t, b"", Ask::Number(0, 15), MAP)
+}
+
+// The table: the rest of a packet lane.
+fn hear_packets(line: &[u8], t: Trace) -> Trace
+    ensures { λ r. ⌜ seen (now (line .entry)) r ≡ follow (words (now (line .entry))) packetsEnd (seen (now (line .entry)) t) ⌝ }
+{
+    let t = hear_word(line, t, b"packets", Ask::Word(Wanted::Carries), UPID);
+    let t = hear_word(line, t, b"longest", Ask::Word(Wanted::Longest), ASIDE);
+    let t = hear_word(line, t, b"", Ask::Number(7, 8192), LONGEST);
+    hear_word(line, t, b"", Ask::End(Says::Lane), END)
+}
+
+// The table: the rest of an access lane.
+fn hear_access(line: &[u8], t: Trace) -> Trace
+    ensures { λ r. ⌜ seen (now (line .entry)) r ≡ follow (words (now (line .entry))) accessEnd (seen (now (line .entry)) t) ⌝ }
+{
+    let t = hear_word(line, t, b"access", Ask::Word(Wanted::Carries), ASIDE);
+    let t = hear_word(line, t, b"", Ask::Number(1, 30), UPID);
+    let t = hear_word(line, t, b"longest", Ask::Word(Wanted::Longest), ASIDE);
+    let t = hear_word(line, t, b"", Ask::Number(1, 8192), LONGEST);
+    hear_word(line, t, b"", Ask::End(Says::Lane), END)
+}
+
+// What is heard of a line.
+fn hear_line(line: &[u8]) -> Heard
+    ensures { λ r. ⌜ r ≡ heard (words (now (line .entry))) ⌝ }
+{
+    let now = fresh_heard(true);
+    let best = fresh_heard(false);
+    let t = Trace {
+        at: 0,
+        now: now,
+        best: best,
+    };
+    let t = hear_frame(line, t);
+    let t = hear_parts(line, t);
+    let t = hear_channel(line, t);
+    let t = hear_lane(line, t);
+    let t = hear_packets(line, t);
+    let t = hear_lane(line, t);
+    let t = hear_access(line, t);
+    t.best
 }
 
 // The draft, refused: this was wanted.
@@ -346,13 +529,10 @@ fn refused(d: Draft, wanted: Wanted) -> Draft
     ensures { λ r. ⌜ r ≡ refuse wanted d ⌝ }
 {
     let s = d.setting;
+    let f = d.facts;
     Draft {
         setting: s,
-        length: d.length,
-        craft: d.craft,
-        bit: d.bit,
-        insert: d.insert,
-        check: d.check,
+        facts: f,
         fits: false,
         wanted: wanted,
     }
@@ -366,111 +546,65 @@ fn no_draft() -> Draft
     let s = r.setting;
     Draft {
         setting: s,
-        length: false,
-        craft: false,
-        bit: false,
-        insert: false,
-        check: false,
+        facts: [false; 7],
         fits: true,
         wanted: Wanted::Nothing,
     }
 }
 
-// What `frame length F` says.
-fn take_length(d: Draft, line: &[u8], c: Cursor) -> Draft
-    ensures { λ r. ⌜ r ≡ lengthLine d (seen (now (line .entry)) c) ⌝ }
+// The setting with a single fact's number in its field.
+fn put_fact(s: Setting, fact: usize, n: usize) -> Setting
+    requires { ⌜ (fact < 5) × (n ≤ getD most fact 0) ⌝ }
+    ensures { λ r. ⌜ r ≡ withFact fact n s ⌝ }
 {
-    let k = says_word(line, c, b"length", Wanted::Length);
-    let n = number_from(line, k, 32, 4096);
-    let e = line_end(line, n);
-    if e.fits {
-        if d.length {
-            return refused(d, Wanted::NewFact);
+    let mut t = s;
+    match fact {
+        LENGTH => {
+            t.length = n;
+            return t;
         }
-        let mut t = d;
-        t.setting.length = n.number;
-        t.length = true;
-        return t;
+        CRAFT => {
+            t.craft = n as u16;
+            return t;
+        }
+        DIRECTION => {
+            t.bit = n as u8;
+            return t;
+        }
+        INSERT => {
+            t.insert = n;
+            return t;
+        }
+        _ => {
+            t.check = n == 1;
+            return t;
+        }
     }
-    let w = e.wanted;
-    refused(d, w)
 }
 
-// What `spacecraft N` says.
-fn take_craft(d: Draft, line: &[u8], c: Cursor) -> Draft
-    ensures { λ r. ⌜ r ≡ craftLine d (seen (now (line .entry)) c) ⌝ }
+// The draft with this setting, which a fact, a channel or a lane gave.
+fn tell(d: Draft, k: usize, s: Setting) -> Draft
+    requires { ⌜ k < 7 ⌝ }
+    ensures { λ r. ⌜ r ≡ told k s d ⌝ }
 {
-    let n = number_from(line, c, 0, 65535);
-    let e = line_end(line, n);
-    let craft = n.number as u16;
-    if e.fits {
-        if d.craft {
-            return refused(d, Wanted::NewFact);
-        }
-        let mut t = d;
-        t.setting.craft = craft;
-        t.craft = true;
-        return t;
-    }
-    let w = e.wanted;
-    refused(d, w)
+    let mut t = d;
+    t.setting = s;
+    t.facts[k] = true;
+    t
 }
 
-// What `source` says, with 0, or `destination`, with 1.
-fn take_bit(d: Draft, line: &[u8], c: Cursor, bit: u8) -> Draft
-    ensures { λ r. ⌜ r ≡ bitLine bit d (seen (now (line .entry)) c) ⌝ }
+// The draft with one single fact more, if it is new.
+fn add_fact(d: Draft, fact: usize, n: usize) -> Draft
+    requires { ⌜ (fact < 5) × (n ≤ getD most fact 0) ⌝ }
+    ensures { λ r. ⌜ r ≡ addFact fact n d ⌝ }
 {
-    let e = line_end(line, c);
-    if e.fits {
-        if d.bit {
-            return refused(d, Wanted::NewFact);
-        }
-        let mut t = d;
-        t.setting.bit = bit;
-        t.bit = true;
-        return t;
+    let f = d.facts;
+    if f[fact] {
+        return refused(d, Wanted::NewFact);
     }
-    let w = e.wanted;
-    refused(d, w)
-}
-
-// What `insert N` says.
-fn take_insert(d: Draft, line: &[u8], c: Cursor) -> Draft
-    ensures { λ r. ⌜ r ≡ insertLine d (seen (now (line .entry)) c) ⌝ }
-{
-    let n = number_from(line, c, 0, 64);
-    let e = line_end(line, n);
-    if e.fits {
-        if d.insert {
-            return refused(d, Wanted::NewFact);
-        }
-        let mut t = d;
-        t.setting.insert = n.number;
-        t.insert = true;
-        return t;
-    }
-    let w = e.wanted;
-    refused(d, w)
-}
-
-// What `check yes` or `check no` says.
-fn take_check(d: Draft, line: &[u8], c: Cursor) -> Draft
-    ensures { λ r. ⌜ r ≡ checkLine d (seen (now (line .entry)) c) ⌝ }
-{
-    let n = yes_or_no(line, c);
-    let e = line_end(line, n);
-    let check = n.number == 1;
-    if e.fits {
-        if d.check {
-            return refused(d, Wanted::NewFact);
-        }
-        let mut t = d;
-        t.setting.check = check;
-        t.check = true;
-        return t;
-    }
-    let w = e.wanted;
-    refused(d, w)
+    let s = d.setting;
+    let t = put_fact(s, fact, n);
+    tell(d, fact, t)
 }
 
 // Whether the other channel of this virtual channel has an OCF and this one not, or the reverse.
@@ -499,9 +633,7 @@ fn put_channel(d: Draft, c: Channel) -> Draft
     let n = s.listed;
     s.channels[n] = c;
     s.listed = n + 1;
-    let mut t = d;
-    t.setting = s;
-    t
+    tell(d, 5, s)
 }
 
 // The draft with one channel more, where it may be.
@@ -524,39 +656,18 @@ fn add_channel(d: Draft, c: Channel) -> Draft
     put_channel(d, c)
 }
 
-// What `channel V service S count N ocf yes` says, or `ocf no`.
-fn take_channel(d: Draft, line: &[u8], c: Cursor) -> Draft
-    requires { ⌜ d .setting .listed ≤ 8 ⌝ }
-    ensures { λ r. ⌜ r ≡ channelLine d (seen (now (line .entry)) c) ⌝ }
+// The channel of a line's numbers.
+fn channel_of(numbers: [usize; 14]) -> Channel
+    requires { ⌜ Bounded numbers ⌝ }
+    ensures { λ r. ⌜ r ≡ channelOf numbers ⌝ }
 {
-    let v = number_from(line, c, 0, 62);
-    let b = says_word(line, v, b"service", Wanted::Service);
-    let b = number_from(line, b, 0, 1);
-    let n = says_word(line, b, b"count", Wanted::Count);
-    let n = number_from(line, n, 1, 7);
-    let o = says_word(line, n, b"ocf", Wanted::Ocf);
-    let o = yes_or_no(line, o);
-    let e = line_end(line, o);
-    if e.fits {
-        let channel = channel_of(v.number, b.number, n.number, o.number);
-        return add_channel(d, channel);
-    }
-    let w = e.wanted;
-    refused(d, w)
-}
-
-// A channel of these numbers.
-fn channel_of(vc: usize, service: usize, octets: usize, ocf: usize) -> Channel
-    requires { ⌜ (vc ≤ 62) × (service ≤ 1) ⌝ }
-    ensures { λ r. ⌜ r ≡ channelOf vc service octets ocf ⌝ }
-{
-    let v = vc as u8;
-    let b = service as u8;
-    let o = ocf == 1;
+    let v = numbers[VC] as u8;
+    let b = numbers[SERVICE] as u8;
+    let o = numbers[OCF] == 1;
     Channel {
         vc: v,
         service: b,
-        octets: octets,
+        octets: numbers[OCTETS],
         ocf: o,
     }
 }
@@ -570,9 +681,7 @@ fn put_lane(d: Draft, l: Lane) -> Draft
     let n = s.numbered;
     s.lanes[n] = l;
     s.numbered = n + 1;
-    let mut t = d;
-    t.setting = s;
-    t
+    tell(d, 6, s)
 }
 
 // The draft with one lane more, where it may be.
@@ -591,166 +700,100 @@ fn add_lane(d: Draft, l: Lane) -> Draft
     put_lane(d, l)
 }
 
-// The draft with one lane more of the channel at a place.
-fn add_lane_of(d: Draft, p: Place, map: usize, kind: Kind, upid: usize, longest: usize) -> Draft
-    requires { ⌜ (d .setting .numbered ≤ 8) × (map ≤ 15) × (upid ≤ 30) ⌝ }
-    ensures { λ r. ⌜ r ≡ addLaneOf p map kind upid longest d ⌝ }
+// What a lane carries, by its UPID.
+fn kind_of(upid: usize) -> Kind
+    ensures { λ r. ⌜ r ≡ cond (upid =? 0) kinds.Packets kinds.Access ⌝ }
 {
-    let Place::At(c) = p else {
-        return refused(d, Wanted::ListedChannel);
-    };
-    let m = map as u8;
-    let u = upid as u8;
-    let l = Lane {
-        channel: c,
+    if upid == 0 {
+        return Kind::Packets;
+    }
+    Kind::Access
+}
+
+// The lane of a line's numbers.
+fn lane_of(channel: usize, numbers: [usize; 14]) -> Lane
+    requires { ⌜ Bounded numbers ⌝ }
+    ensures { λ r. ⌜ r ≡ laneOf channel numbers ⌝ }
+{
+    let m = numbers[MAP] as u8;
+    let u = numbers[UPID] as u8;
+    let k = kind_of(numbers[UPID]);
+    Lane {
+        channel: channel,
         map: m,
-        kind: kind,
-        longest: longest,
+        kind: k,
+        longest: numbers[LONGEST],
         upid: u,
-    };
-    add_lane(d, l)
-}
-
-// What a packet lane's line says after its map.
-fn take_packets(d: Draft, line: &[u8], p: Place, map: usize, c: Cursor) -> Draft
-    requires { ⌜ (d .setting .numbered ≤ 8) × (map ≤ 15) ⌝ }
-    ensures { λ r. ⌜ r ≡ packetsLine p map d (seen (now (line .entry)) c) ⌝ }
-{
-    let k = says_word(line, c, b"packets", Wanted::Carries);
-    let n = says_word(line, k, b"longest", Wanted::Longest);
-    let n = number_from(line, n, 7, 8192);
-    let e = line_end(line, n);
-    if e.fits {
-        return add_lane_of(d, p, map, Kind::Packets, 0, n.number);
     }
-    let w = e.wanted;
-    refused(d, w)
 }
 
-// What an access lane's line says after its map.
-fn take_access(d: Draft, line: &[u8], p: Place, map: usize, c: Cursor) -> Draft
-    requires { ⌜ (d .setting .numbered ≤ 8) × (map ≤ 15) ⌝ }
-    ensures { λ r. ⌜ r ≡ accessLine p map d (seen (now (line .entry)) c) ⌝ }
+// The place of the channel that a line's numbers name.
+fn listed_at(s: Setting, numbers: [usize; 14]) -> Place
+    requires { ⌜ s .listed ≤ 8 ⌝ }
+    requires bounded { ⌜ Bounded numbers ⌝ }
+    ensures { λ r. ⌜ r ≡ channelAt s (getD numbers VC 0) (getD numbers SERVICE 0) ⌝ }
 {
-    let k = says_word(line, c, b"access", Wanted::Carries);
-    let u = number_from(line, k, 1, 30);
-    let n = says_word(line, u, b"longest", Wanted::Longest);
-    let n = number_from(line, n, 1, 8192);
-    let e = line_end(line, n);
-    if e.fits {
-        return add_lane_of(d, p, map, Kind::Access, u.number, n.number);
-    }
-    let w = e.wanted;
-    refused(d, w)
-}
-
-// What a lane's line says after its map, by what the lane carries.
-fn take_kind(d: Draft, line: &[u8], p: Place, map: usize, c: Cursor) -> Draft
-    requires { ⌜ (d .setting .numbered ≤ 8) × (map ≤ 15) ⌝ }
-    ensures { λ r. ⌜ r ≡ kindLine p map d (seen (now (line .entry)) c) ⌝ }
-{
-    let w = next_word(line, c.at);
-    let from = w.from;
-    let to = w.to;
-    let word = &line[from..to];
-    let packets = same_word(word, b"packets");
-    if packets {
-        return take_packets(d, line, p, map, c);
-    }
-    take_access(d, line, p, map, c)
-}
-
-// The place of a listed channel by numbers that are in their ranges.
-fn listed_at(s: Setting, vc: usize, service: usize) -> Place
-    requires { ⌜ (s .listed ≤ 8) × (vc ≤ 62) × (service ≤ 1) ⌝ }
-    ensures { λ r. ⌜ r ≡ channelAt s vc service ⌝ }
-{
-    let v = vc as u8;
-    let b = service as u8;
+    let v = numbers[VC] as u8;
+    let b = numbers[SERVICE] as u8;
     setting::channel_at(s, v, b)
 }
 
-// What `lane channel V service S map M ..` says.
-fn take_lane(d: Draft, line: &[u8], c: Cursor) -> Draft
-    requires { ⌜ (d .setting .listed ≤ 8) × (d .setting .numbered ≤ 8) ⌝ }
-    ensures { λ r. ⌜ r ≡ laneLine d (seen (now (line .entry)) c) ⌝ }
+// The draft with one lane more, of a listed channel.
+fn add_lane_of(d: Draft, numbers: [usize; 14]) -> Draft
+    requires { ⌜ (d .setting .listed ≤ 8) × (d .setting .numbered ≤ 8) × Bounded numbers ⌝ }
+    ensures { λ r. ⌜ r ≡ addLaneOf (channelAt (d .setting) (getD numbers VC 0) (getD numbers SERVICE 0)) numbers d ⌝ }
 {
-    let v = says_word(line, c, b"channel", Wanted::Channel);
-    let v = number_from(line, v, 0, 62);
-    let b = says_word(line, v, b"service", Wanted::Service);
-    let b = number_from(line, b, 0, 1);
-    let m = says_word(line, b, b"map", Wanted::Map);
-    let m = number_from(line, m, 0, 15);
     let s = d.setting;
-    let p = listed_at(s, v.number, b.number);
-    take_kind(d, line, p, m.number, m)
+    let p = listed_at(s, numbers);
+    let Place::At(c) = p else {
+        return refused(d, Wanted::ListedChannel);
+    };
+    let l = lane_of(c, numbers);
+    add_lane(d, l)
 }
 
-// What kind of line one of these words begins.
-fn list_form(word: &[u8]) -> Form
-    ensures { λ r. ⌜ r ≡ listForm (now (word .entry)) ⌝ }
+// What a line says that fits.
+fn take_said(d: Draft, says: Says, numbers: [usize; 14]) -> Draft
+    requires { ⌜ (d .setting .listed ≤ 8) × (d .setting .numbered ≤ 8) × Known says × Bounded numbers ⌝ }
+    ensures { λ r. ⌜ r ≡ takeSaid says numbers d ⌝ }
 {
-    let insert = same_word(word, b"insert");
-    if insert {
-        return Form::Insert;
+    match says {
+        Says::Fact(k) => {
+            return add_fact(d, k, numbers[k]);
+        }
+        Says::Channel => {
+            let c = channel_of(numbers);
+            return add_channel(d, c);
+        }
+        Says::Lane => {
+            return add_lane_of(d, numbers);
+        }
+        Says::Nothing => {
+            return d;
+        }
     }
-    let check = same_word(word, b"check");
-    if check {
-        return Form::Check;
-    }
-    let channel = same_word(word, b"channel");
-    if channel {
-        return Form::Channel;
-    }
-    let lane = same_word(word, b"lane");
-    if lane {
-        return Form::Lane;
-    }
-    Form::Unknown
 }
 
-// What kind of line a word begins.
-fn form_of(word: &[u8]) -> Form
-    ensures { λ r. ⌜ r ≡ formOf (now (word .entry)) ⌝ }
+// What a line says of which this is heard.
+fn take_heard(d: Draft, h: Heard) -> Draft
+    requires { ⌜ (d .setting .listed ≤ 8) × (d .setting .numbered ≤ 8) × Sound h ⌝ }
+    ensures { λ r. ⌜ r ≡ takeAsked (h .ask) h d ⌝ }
 {
-    if word.len() == 0 {
-        return Form::Empty;
-    }
-    let frame = same_word(word, b"frame");
-    if frame {
-        return Form::Frame;
-    }
-    let craft = same_word(word, b"spacecraft");
-    if craft {
-        return Form::Craft;
-    }
-    let source = same_word(word, b"source");
-    if source {
-        return Form::Source;
-    }
-    let destination = same_word(word, b"destination");
-    if destination {
-        return Form::Destination;
-    }
-    list_form(word)
-}
-
-// What a line of this kind says after its first word.
-fn take_form(d: Draft, form: Form, line: &[u8], c: Cursor) -> Draft
-    requires { ⌜ (d .setting .listed ≤ 8) × (d .setting .numbered ≤ 8) ⌝ }
-    ensures { λ r. ⌜ r ≡ takeForm form d (seen (now (line .entry)) c) ⌝ }
-{
-    match form {
-        Form::Empty => d,
-        Form::Frame => take_length(d, line, c),
-        Form::Craft => take_craft(d, line, c),
-        Form::Source => take_bit(d, line, c, 0),
-        Form::Destination => take_bit(d, line, c, 1),
-        Form::Insert => take_insert(d, line, c),
-        Form::Check => take_check(d, line, c),
-        Form::Channel => take_channel(d, line, c),
-        Form::Lane => take_lane(d, line, c),
-        Form::Unknown => refused(d, Wanted::Fact),
+    let ask = h.ask;
+    match ask {
+        Ask::Word(wanted) => {
+            return refused(d, wanted);
+        }
+        Ask::Number(low, high) => {
+            return refused(d, Wanted::Number(low, high));
+        }
+        Ask::End(says) => {
+            let numbers = h.numbers;
+            if h.fits {
+                return take_said(d, says, numbers);
+            }
+            return refused(d, Wanted::End);
+        }
     }
 }
 
@@ -761,18 +804,8 @@ fn take_line(d: Draft, line: &[u8]) -> Draft
 {
     let n = until_stop(line, Stop::Hash);
     let words = &line[..n];
-    let w = next_word(words, 0);
-    let from = w.from;
-    let to = w.to;
-    let word = &words[from..to];
-    let form = form_of(word);
-    let c = Cursor {
-        at: to,
-        number: 0,
-        fits: true,
-        wanted: Wanted::Nothing,
-    };
-    take_form(d, form, words, c)
+    let h = hear_line(words);
+    take_heard(d, h)
 }
 
 // What all lines say, up to the first that does not fit.
@@ -836,42 +869,37 @@ fn judge(s: Setting) -> Finding
     }
 }
 
-// What a setting is of which the single facts were said.
-fn find_lists(s: Setting) -> Finding
-    requires { ⌜ s .listed ≤ 8 ⌝ }
-    ensures { λ r. ⌜ r ≡ listsFound s ⌝ }
+// The first of seven things that was never said.
+fn lacking_at(d: Draft) -> Place
+    ensures { λ r. ⌜ r ≡ lacking d ⌝ }
 {
-    if s.listed == 0 {
-        return Finding::Lacks(Missing::Channel);
+    let f = d.facts;
+    let mut i: usize = 0;
+    while i < 7 {
+        if !f[i] {
+            return Place::At(i);
+        }
+        i += 1;
     }
-    if s.numbered == 0 {
-        return Finding::Lacks(Missing::Lane);
-    }
-    judge(s)
+    Place::Nowhere
 }
 
 // What a text is of which every line fits.
 fn find_all(d: Draft) -> Finding
     requires { ⌜ d .setting .listed ≤ 8 ⌝ }
-    ensures { λ r. ⌜ r ≡ allFound d ⌝ }
+    ensures { λ r. ⌜ r ≡ allFound (lacking d) (d .setting) ⌝ }
 {
-    if !d.length {
-        return Finding::Lacks(Missing::Length);
+    let p = lacking_at(d);
+    match p {
+        Place::At(k) => {
+            let m = MISSING;
+            return Finding::Lacks(m[k]);
+        }
+        Place::Nowhere => {
+            let s = d.setting;
+            return judge(s);
+        }
     }
-    if !d.craft {
-        return Finding::Lacks(Missing::Spacecraft);
-    }
-    if !d.bit {
-        return Finding::Lacks(Missing::Direction);
-    }
-    if !d.insert {
-        return Finding::Lacks(Missing::Insert);
-    }
-    if !d.check {
-        return Finding::Lacks(Missing::Check);
-    }
-    let s = d.setting;
-    find_lists(s)
 }
 
 // What a text is of which these lines were taken.

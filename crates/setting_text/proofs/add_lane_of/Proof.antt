@@ -1,8 +1,12 @@
 -- `setting_text::add_lane_of` meets its contract. The lane of a channel that is listed, or a refusal.
+use mathlib.Core.Path.{sym, _∙_}
 use Rattle.setting_text.specs.Facts.{addLaneOf}
 use borrow.Author.Needs.{needs}
 use Rattle.setting_text.proofs.add_lane_of.Statement.{statement}
 use Rattle.setting_text.proofs.add_lane_of.Tie as tie
+
+listed-at-requires : tie.Need-listed-at-requires
+listed-at-requires c κs = search needs
 
 enum-known-p : tie.Need-enum-known-p
 enum-known-p c = search needs
@@ -15,30 +19,29 @@ refused-requires c κs = search needs
 
 returns : tie.Need-returns
 unfolding addLaneOf
-returns c = rw (c .before .enum-told .given .1) (c .refused .ensures)
+returns c = rw (sym (c .before .before .before .listed-at .ensures) ∙ c .before .enum-told .given .1) (c .refused .ensures)
 
-cast-m : tie.Need-cast-m
-cast-m c = search needs
-
-cast-u : tie.Need-cast-u
-cast-u c = search needs
+lane-of-requires : tie.Need-lane-of-requires
+lane-of-requires c κs = search needs
 
 add-lane-requires : tie.Need-add-lane-requires
 add-lane-requires c κs = search needs
 
 returns-2 : tie.Need-returns-2
 unfolding addLaneOf
-returns-2 c = rw (c .before .before .p .given .1) (c .add-lane .ensures)
+returns-2 c =
+    rw (sym (c .before .before .before .before .before .listed-at .ensures) ∙ c .before .before .before .p .given .1, sym (c .before .lane-of .ensures))
+    (c .add-lane .ensures)
 
 pub add-lane-of-spec : {M : Type 1} → statement M
 add-lane-of-spec =
     tie.close
     (tie.spec
+    listed-at-requires
     enum-known-p
     enum-told
     refused-requires
     returns
-    cast-m
-    cast-u
+    lane-of-requires
     add-lane-requires
     returns-2)

@@ -1,80 +1,43 @@
--- `setting_text::find_all` meets its contract. Five tests, one after another.
-use Rattle.setting_text.proofs.Texts.{not-true, not-false}
-use Rattle.setting_text.specs.Facts.{allFound}
+-- `setting_text::find_all` meets its contract. What was never said, or the whole setting decides.
+use mathlib.Core.Path.{sym, _∙_}
+use Rattle.rules.proofs.Tests.{found-at}
+use Rattle.setting_text.specs.Facts.{lacking, missing, allFound}
 use borrow.Author.Needs.{needs}
 use Rattle.setting_text.proofs.find_all.Statement.{statement}
 use Rattle.setting_text.proofs.find_all.Tie as tie
 
+lacking-at-requires : tie.Need-lacking-at-requires
+lacking-at-requires c κs = search needs
+
+enum-known-p : tie.Need-enum-known-p
+enum-known-p c = search needs
+
+array-copy-out-t6 : tie.Need-array-copy-out-t6
+unfolding lacking
+array-copy-out-t6 c = let h = found-at _ _ _ (sym (c .before .before .before .lacking-at .ensures) ∙ c .before .p .given .1) in search needs
+
 returns : tie.Need-returns
-unfolding allFound
-returns c = rw (not-true (c .before .before .args .d .length) (c .if1 .taken))
+unfolding allFound missing
+returns c = rw (sym (c .before .before .before .before .lacking-at .ensures) ∙ c .before .before .p .given .1)
+
+enum-told : tie.Need-enum-told
+enum-told c = search needs
+
+judge-requires : tie.Need-judge-requires
+judge-requires c κs = search needs
 
 returns-2 : tie.Need-returns-2
 unfolding allFound
-returns-2 c = rw (
-  not-false (c .before .before .before .before .args .d .length) (c .before .before .if1 .left),
-  not-true
-      (c .before .before .before .before .args .d .craft) (c .if2 .taken),
-)
-
-returns-3 : tie.Need-returns-3
-unfolding allFound
-returns-3 c = rw (
-  not-false (c .before .before .before .before .before .before .args .d .length) (c .before .before .before .before .if1 .left),
-  not-false
-      (c .before .before .before .before .before .before .args .d .craft) (c .before .before .if2 .left),
-  not-true
-      (c .before .before .before .before .before .before .args .d .bit) (c .if3 .taken),
-)
-
-returns-4 : tie.Need-returns-4
-unfolding allFound
-returns-4 c = rw (
-  not-false (c .before .before .before .before .before .before .before .before .args .d .length)
-      (c .before .before .before .before .before .before .if1 .left),
-  not-false
-      (c .before .before .before .before .before .before .before .before .args .d .craft) (c .before .before .before .before .if2 .left),
-  not-false
-      (c .before .before .before .before .before .before .before .before .args .d .bit) (c .before .before .if3 .left),
-  not-true
-      (c .before .before .before .before .before .before .before .before .args .d .insert) (c .if4 .taken),
-)
-
-returns-5 : tie.Need-returns-5
-unfolding allFound
-returns-5 c =
-    let c₈ = c .before .before .before .before .before .before .before .before in
-    rw (
-      not-false (c₈ .before .before .args .d .length) (c .before .before .before .before .before .before .before .before .if1 .left),
-      not-false
-          (c₈ .before .before .args .d .craft) (c .before .before .before .before .before .before .if2 .left),
-      not-false (c₈ .before .before .args .d .bit)
-          (c .before .before .before .before .if3 .left),
-      not-false (c₈ .before .before .args .d .insert) (c .before .before .if4 .left),
-      not-true
-          (c₈ .before .before .args .d .check) (c .if5 .taken),
-    )
-
-find-lists-requires : tie.Need-find-lists-requires
-find-lists-requires c κs = search needs
-
-returns-6 : tie.Need-returns-6
-unfolding allFound
-returns-6 c =
-    let c₈ = c .before .before .before .before .before .before .before .before in
-    rw (
-      not-false (c₈ .before .before .before .before .args .d .length) (c₈ .before .before .if1 .left),
-      not-false
-          (c₈ .before .before .before .before .args .d .craft) (c .before .before .before .before .before .before .before .before .if2 .left),
-      not-false
-          (c₈ .before .before .before .before .args .d .bit) (c .before .before .before .before .before .before .if3 .left),
-      not-false
-          (c₈ .before .before .before .before .args .d .insert) (c .before .before .before .before .if4 .left),
-      not-false
-          (c₈ .before .before .before .before .args .d .check) (c .before .before .if5 .left),
-    ) (c .find-lists .ensures)
+returns-2 c = rw (sym (c .before .before .before .before .lacking-at .ensures) ∙ c .before .before .enum-told .given .1) (c .judge .ensures)
 
 pub find-all-spec : {M : Type 1} → statement M
 find-all-spec =
     tie.close
-    (tie.spec returns returns-2 returns-3 returns-4 returns-5 find-lists-requires returns-6)
+    (tie.spec
+    lacking-at-requires
+    enum-known-p
+    array-copy-out-t6
+    returns
+    enum-told
+    judge-requires
+    returns-2)

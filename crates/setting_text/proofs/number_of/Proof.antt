@@ -4,7 +4,8 @@ use mathlib.Core.Path.{_≡_, sym, _∙_}
 use native.Mathlib.Numerals.{add-one}
 use lib.ListN.{length, drop}
 use borrow.Author.Needs.{needs}
-use Rattle.setting_text.specs.Places.{numberOf, numberFrom}
+use Rattle.setting_text.specs.Texts.{numberOf}
+use Rattle.setting_text.specs.Places.{numberFrom}
 use Rattle.setting_text.proofs.Texts.{number-turn, number-low, number-high, number-large, number-end, number-some, number-none}
 use Rattle.setting_text.proofs.number_of.Statement.{statement}
 use Rattle.setting_text.proofs.number_of.Tie as tie

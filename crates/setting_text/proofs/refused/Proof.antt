@@ -1,6 +1,6 @@
 -- `setting_text::refused` meets its contract. All but the last two fields are kept.
-use Rattle.setting_text.specs.Facts.{refuse}
 use mathlib.Core.Path.{refl}
+use Rattle.setting_text.specs.Facts.{refuse}
 use Rattle.setting_text.proofs.refused.Statement.{statement}
 use Rattle.setting_text.proofs.refused.Tie as tie
 

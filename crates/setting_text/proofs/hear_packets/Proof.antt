@@ -1,0 +1,54 @@
+-- `setting_text::hear_packets` meets its contract. One word after another.
+use Rattle.rules.specs.Listing.{text}
+use Rattle.setting_text.specs.Table.{word, one, from, end, follow, packetsEnd}
+use borrow.Author.Needs.{needs}
+use Rattle.setting_text.proofs.hear_packets.Statement.{statement}
+use Rattle.setting_text.proofs.hear_packets.Tie as tie
+
+slice-aggregate-hear-word : tie.Need-slice-aggregate-hear-word
+slice-aggregate-hear-word c = search needs
+
+hear-word-requires : tie.Need-hear-word-requires
+hear-word-requires c κs = search needs
+
+slice-aggregate-hear-word-2 : tie.Need-slice-aggregate-hear-word-2
+slice-aggregate-hear-word-2 c = search needs
+
+hear-word-requires-2 : tie.Need-hear-word-requires-2
+hear-word-requires-2 c κs = search needs
+
+slice-aggregate-hear-word-3 : tie.Need-slice-aggregate-hear-word-3
+slice-aggregate-hear-word-3 c = search needs
+
+hear-word-requires-3 : tie.Need-hear-word-requires-3
+hear-word-requires-3 c κs = search needs
+
+slice-aggregate-hear-word-4 : tie.Need-slice-aggregate-hear-word-4
+slice-aggregate-hear-word-4 c = search needs
+
+hear-word-requires-4 : tie.Need-hear-word-requires-4
+hear-word-requires-4 c κs = search needs
+
+returns : tie.Need-returns
+unfolding text word one from end follow packetsEnd
+returns c =
+    rw (
+      c .hear-word4 .ensures,
+      c .before .before .hear-word3 .ensures,
+      c .before .before .before .before .hear-word2 .ensures,
+      c .before .before .before .before .before .before .hear-word .ensures,
+    )
+
+pub hear-packets-spec : {M : Type 1} → statement M
+hear-packets-spec =
+    tie.close
+    (tie.spec
+    slice-aggregate-hear-word
+    hear-word-requires
+    slice-aggregate-hear-word-2
+    hear-word-requires-2
+    slice-aggregate-hear-word-3
+    hear-word-requires-3
+    slice-aggregate-hear-word-4
+    hear-word-requires-4
+    returns)

@@ -1,0 +1,20 @@
+-- `setting_text::one_more` meets its contract. One test decides.
+use borrow.Author.Tests.{lt-ltb, le-ltb}
+use Rattle.setting_text.specs.Table.{counted}
+use borrow.Author.Needs.{needs}
+use Rattle.setting_text.proofs.one_more.Statement.{statement}
+use Rattle.setting_text.proofs.one_more.Tie as tie
+
+add-result : tie.Need-add-result
+add-result c = search needs
+
+returns : tie.Need-returns
+unfolding counted
+returns c = rw (lt-ltb _ _ (c .if1 .taken))
+
+returns-2 : tie.Need-returns-2
+unfolding counted
+returns-2 c = rw (le-ltb _ _ (c .if1 .left))
+
+pub one-more-spec : {M : Type 1} → statement M
+one-more-spec = tie.close (tie.spec add-result returns returns-2)
