@@ -1,0 +1,20 @@
+-- Which file a file is.
+use Prim.Native.Nat.{ℕ, _/_, _%_}
+use mathlib.Core.Bool.{Bool, false, cond, not}
+use Rattle.rules.specs.Tests.{_=?_}
+use Rattle.files.specs.declared.Known.{Known}
+
+-- Of the system's answer: device, inode and mode. No file has mode 0.
+unfoldable pub knownOf : ℕ → ℕ → ℕ → ℕ → Known
+knownOf device inode mode size = record { device = device; inode = inode; size = size; mode = mode; there = not (mode =? 0) }
+
+-- "Every input is known by device and inode."
+unfoldable pub sameFile : Known → Known → Bool
+sameFile a b = cond (a .there) (cond (b .there) (cond (a .device =? b .device) (a .inode =? b .inode) false) false) false
+
+-- The four bits of the mode that say the kind: 8 is a regular file, 4 a folder.
+unfoldable pub isRegular : Known → Bool
+isRegular k = k .mode / 4096 % 16 =? 8
+
+unfoldable pub isFolder : Known → Bool
+isFolder k = k .mode / 4096 % 16 =? 4
