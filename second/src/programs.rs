@@ -2,6 +2,8 @@
 
 use std::fs::{self, File};
 use std::io::{self, BufReader, BufWriter, Read, Write};
+use std::os::fd::AsFd;
+use std::os::unix::fs::MetadataExt;
 
 use crate::packet::whole_space_packet;
 use crate::reader::{Answer, Areas, Class, Reader, HELD_AREA, RECORD, RECORD_AREA, UNIT_AREA};
@@ -205,9 +207,23 @@ fn pack_plan(arguments: &[String]) -> Result<PackPlan, String> {
     Ok(plan)
 }
 
+/// No file that is read may be standard output, and one that is read twice has to be a regular file.
+fn may_be_read(path: &str, twice: bool) -> Result<(), String> {
+    let file = fs::metadata(path).map_err(|error| format!("{path}: {error}"))?;
+    if !file.is_file() {
+        return if twice { Err(format!("{path}: not a regular file")) } else { Ok(()) };
+    }
+    let out = io::stdout().as_fd().try_clone_to_owned().and_then(|out| File::from(out).metadata()).map_err(said)?;
+    if (file.dev(), file.ino()) == (out.dev(), out.ino()) {
+        return Err(format!("{path}: standard output is this file"));
+    }
+    Ok(())
+}
+
 /// Zeros, or the octets of a file that has exactly as many.
 fn fixed_octets(path: &Option<String>, length: usize) -> Result<Vec<u8>, String> {
     let Some(path) = path else { return Ok(vec![0; length]) };
+    may_be_read(path, false)?;
     let octets = fs::read(path).map_err(|error| format!("{path}: {error}"))?;
     if octets.len() == length {
         Ok(octets)
@@ -253,8 +269,12 @@ pub fn pack(arguments: &[String]) -> Result<(), String> {
     let Some((setting_path, named)) = arguments.split_first() else {
         return Err("usage: pack SETTING LANE=FILE ..".to_string());
     };
+    may_be_read(setting_path, false)?;
     let setting = load_setting(setting_path)?;
     let plan = pack_plan(named)?;
+    if plan.lane_files.is_empty() {
+        return Err("usage: pack SETTING LANE=FILE ..".to_string());
+    }
     let insert = fixed_octets(&plan.insert_file, setting.insert as usize)?;
     let ocf = fixed_octets(&plan.ocf_file, 4)?;
     let mut writer = Writer::fresh(&setting).map_err(|_| "the setting is not valid")?;
@@ -275,6 +295,7 @@ fn pack_file(
     ocf: &[u8],
     out: &mut Vec<u8>,
 ) -> Result<(), String> {
+    may_be_read(path, true)?;
     let file = fs::read(path).map_err(|error| format!("{path}: {error}"))?;
     let listed = usize::try_from(lane).ok().and_then(|place| writer.setting.lanes.get(place));
     let Some(listed) = listed else { return Err(format!("{path}: refused 13: there is no lane {lane}")) };

@@ -10,10 +10,11 @@ ghost use Prim.Native.Nat.{_+_, _≤_};
 ghost use lib.ListN.{length, take};
 ghost use Rattle.io.specs.Counts.{Counts};
 ghost use Rattle.rules.specs.Settings.{lane, channel, ocfOctets, number};
-ghost use Rattle.packing.specs.Words.{begins as beginsWith, lane as laneNamed, nameOf, badPlan, planOn, fine};
+ghost use Rattle.packing.specs.Words.{begins as beginsWith, lane as laneNamed, nameOf, badPlan, planOn, fine, isWord, askOf, objectionTo};
 ghost use Rattle.packing.specs.Courses.{sound, wrongFault, ended, oneMore, sentFault, SentNext, goesOn, Unless, workedOff, areaBefore, batchOn, noBatch, nextBatch, Stepped, Passed, unitCourse, UnitPassed, LanePassed};
 ghost use Rattle.rules.specs.Areas.{batchSize};
 use file_batches::Wrong;
+use files::Known;
 use intake::Window;
 use rules::Kind;
 use rules::Lane;
@@ -446,6 +447,51 @@ fn unit_on(j: Job, c: Course, fd: i32, insert: &[u8], ocf: &[u8]) -> Course
     unit_step(j, c, w.good, &area[..n], insert, ocf)
 }
 
+// ---- which files may be read
+
+// What stands against reading a file: nothing; it would be read twice, and what is no regular file need not give the same octets again; it is
+// standard output, and frames would be written into it.
+enum Objection {
+    Nothing,
+    NotRegular,
+    Output,
+}
+
+// What stands against reading a file, with this standard output, once or twice.
+fn against(k: Known, out: Known, twice: bool) -> Objection
+    ensures { λ r. ⌜ r ≡ objectionTo k out twice ⌝ }
+{
+    let plain = files::regular(k);
+    if plain {
+        let own = files::same(k, out);
+        if own {
+            return Objection::Output;
+        }
+        return Objection::Nothing;
+    }
+    if twice {
+        return Objection::NotRegular;
+    }
+    Objection::Nothing
+}
+
+// Whether nothing stands against reading a file. Says what does.
+fn allowed(path: &[u8], k: Known, twice: bool) -> bool {
+    let out = files::of_descriptor(1);
+    let o = against(k, out, twice);
+    match o {
+        Objection::Nothing => true,
+        Objection::NotRegular => {
+            console::say(b"pack", path, b"not a regular file, which is read twice");
+            false
+        }
+        Objection::Output => {
+            console::say(b"pack", path, b"standard output is this file");
+            false
+        }
+    }
+}
+
 // ---- the setting's lanes
 
 // A lane of the setting, by its number; a lane of zeros where there is none.
@@ -504,6 +550,12 @@ fn file_on(writing: bool, c: Course, l: usize, path: &[u8], insert: &[u8], ocf: 
     let fd = os::open_read(path);
     if fd < 0 {
         console::say_failed(b"pack", path);
+        return end_with(c, Fault::NotRead);
+    }
+    let k = files::of_descriptor(fd);
+    let good = allowed(path, k, true);
+    if !good {
+        libc::close(fd);
         return end_with(c, Fault::NotRead);
     }
     let t = lane_on(writing, c, l, fd, insert, ocf);
@@ -566,11 +618,12 @@ enum Bad {
     NoWord,
 }
 
-// What is wrong with the arguments, and which of them name the insert and OCF octets, 0 for none.
+// What is wrong with the arguments, which of them name the insert and OCF octets, 0 for none, and whether one names a lane's file.
 struct Plan {
     bad: Bad,
     insert: usize,
     ocf: usize,
+    lanes: bool,
 }
 
 // The same plan, but for what is wrong.
@@ -581,6 +634,7 @@ fn bad_plan(p: Plan, bad: Bad) -> Plan
         bad: bad,
         insert: p.insert,
         ocf: p.ocf,
+        lanes: p.lanes,
     }
 }
 
@@ -589,7 +643,15 @@ fn planned(p: Plan, i: usize, name: Named) -> Plan
     ensures { λ r. ⌜ r ≡ planOn p i name ⌝ }
 {
     match name {
-        Named::ToLane(_) => p,
+        Named::ToLane(_) => {
+            let bad = p.bad;
+            Plan {
+                bad: bad,
+                insert: p.insert,
+                ocf: p.ocf,
+                lanes: true,
+            }
+        }
         Named::Insert => {
             if p.insert != 0 {
                 return bad_plan(p, Bad::InsertTwice);
@@ -598,6 +660,7 @@ fn planned(p: Plan, i: usize, name: Named) -> Plan
                 bad: Bad::Nothing,
                 insert: i,
                 ocf: p.ocf,
+                lanes: p.lanes,
             }
         }
         Named::Ocf => {
@@ -608,6 +671,7 @@ fn planned(p: Plan, i: usize, name: Named) -> Plan
                 bad: Bad::Nothing,
                 insert: p.insert,
                 ocf: i,
+                lanes: p.lanes,
             }
         }
         Named::Other => bad_plan(p, Bad::NoName),
@@ -663,6 +727,7 @@ fn plan_all(n: usize, numbered: usize) -> Plan {
         bad: Bad::Nothing,
         insert: 0,
         ocf: 0,
+        lanes: false,
     };
     let mut i: usize = 2;
     while i < n {
@@ -677,13 +742,8 @@ fn plan_all(n: usize, numbered: usize) -> Plan {
     plan
 }
 
-// Puts the octets of a file that has exactly n at the front of an area.
-fn load_file(path: &[u8], n: usize, area: &mut [u8]) -> bool {
-    let fd = os::open_read(path);
-    if fd < 0 {
-        console::say_failed(b"pack", path);
-        return false;
-    }
+// Puts the octets of an open file that has exactly n at the front of an area.
+fn load_open(path: &[u8], fd: i32, n: usize, area: &mut [u8]) -> bool {
     let mut space = io::buffer();
     let none = Window {
         have: 0,
@@ -693,10 +753,8 @@ fn load_file(path: &[u8], n: usize, area: &mut [u8]) -> bool {
     let w = intake::fill_up(fd, &mut space, none);
     if !w.good {
         console::say_failed(b"pack", path);
-        libc::close(fd);
         return false;
     }
-    libc::close(fd);
     let have = w.have;
     if have != n {
         say_expected(path, n as u64);
@@ -704,6 +762,24 @@ fn load_file(path: &[u8], n: usize, area: &mut [u8]) -> bool {
     }
     octets::copy(area, &space[..have]);
     true
+}
+
+// The same of a file by its name, where nothing stands against reading it once.
+fn load_file(path: &[u8], n: usize, area: &mut [u8]) -> bool {
+    let fd = os::open_read(path);
+    if fd < 0 {
+        console::say_failed(b"pack", path);
+        return false;
+    }
+    let k = files::of_descriptor(fd);
+    let free = allowed(path, k, false);
+    if free {
+        let good = load_open(path, fd, n, area);
+        libc::close(fd);
+        return good;
+    }
+    libc::close(fd);
+    false
 }
 
 // Puts the n octets of the file that argument i names, after its first `from` octets, at the front of an area; argument 0 leaves it.
@@ -737,20 +813,114 @@ fn pack_files(s: Setting, n: usize, insert: &[u8], ocf: &[u8]) {
     }
 }
 
+// Says how pack is called.
+fn say_usage() {
+    console::say(
+        b"pack",
+        b"usage",
+        b"pack SETTING LANE=FILE .. [insert=FILE] [ocf=FILE]",
+    );
+}
+
+// Packs by this setting and plan, with n arguments.
+fn pack_planned(s: Setting, n: usize, p: Plan) {
+    let mut insert = [0u8; 64];
+    let mut ocf = [0u8; 4];
+    let inserted = load_octets(p.insert, 7, s.insert, &mut insert);
+    if inserted {
+        let filled = load_octets(p.ocf, 4, 4, &mut ocf);
+        if filled {
+            pack_files(s, n, &insert, &ocf);
+        }
+    }
+}
+
 // Packs by this setting, with n arguments.
 fn pack_all(s: Setting, n: usize) {
     let p = plan_all(n, s.numbered);
     let bad = p.bad;
     let good = is_fine(bad);
     if good {
-        let mut insert = [0u8; 64];
-        let mut ocf = [0u8; 4];
-        let inserted = load_octets(p.insert, 7, s.insert, &mut insert);
-        if inserted {
-            let filled = load_octets(p.ocf, 4, 4, &mut ocf);
-            if filled {
-                pack_files(s, n, &insert, &ocf);
+        if p.lanes {
+            pack_planned(s, n, p);
+            return;
+        }
+        say_usage();
+    }
+}
+
+// Packs by the setting in the file of this name, with n arguments.
+fn pack_by(path: &[u8], n: usize) {
+    let k = files::of_name(path);
+    let free = allowed(path, k, false);
+    if free {
+        let mut area = [0u8; 65537];
+        let l = setting_file::load(b"pack", path, &mut area);
+        let j = l.judged;
+        let s = j.setting;
+        if j.good {
+            pack_all(s, n);
+        }
+    }
+}
+
+// What the first word asks for: frames by the setting of this name, or how pack is called, or which pack it is.
+enum Ask {
+    Frames,
+    Help,
+    Version,
+}
+
+// Whether these octets are that word.
+fn is_word(s: &[u8], word: &[u8]) -> bool
+    ensures { λ r. ⌜ r ≡ isWord (now (word .entry)) (now (s .entry)) ⌝ }
+{
+    let front = begins(s, word);
+    if front {
+        return s.len() == word.len();
+    }
+    false
+}
+
+// What the first word asks for.
+fn ask_of(s: &[u8]) -> Ask
+    ensures { λ r. ⌜ r ≡ askOf (now (s .entry)) ⌝ }
+{
+    let help = is_word(s, b"--help");
+    if help {
+        return Ask::Help;
+    }
+    let version = is_word(s, b"--version");
+    if version {
+        return Ask::Version;
+    }
+    Ask::Frames
+}
+
+// Prints what was asked for, in the place of frames.
+fn print_text(text: &[u8]) {
+    let good = io::write_all(1, text);
+    if good {
+        console::say_count(b"pack", b"done: ", 0, b" frames");
+        return;
+    }
+    console::say_failed(b"pack", b"standard output");
+}
+
+// Does what the first of n arguments asks for.
+fn answer(word: &[u8], n: usize) {
+    let a = ask_of(word);
+    match a {
+        Ask::Help => print_text(
+            b"pack SETTING LANE=FILE .. [insert=FILE] [ocf=FILE]\nWrites the frames of the files' packets and units to standard output. See docs/PROGRAMS.md.\n",
+        ),
+        Ask::Version => print_text(b"pack 0.2 (Khachmuren, CCSDS 732.1-B-3)\n"),
+        Ask::Frames => {
+            if n < 3 {
+                say_usage();
+                return;
             }
+            pack_by(word, n);
         }
     }
 }
@@ -758,12 +928,8 @@ fn pack_all(s: Setting, n: usize) {
 // The program.
 pub fn run() {
     let n = os::arg_count();
-    if n < 3 {
-        console::say(
-            b"pack",
-            b"usage",
-            b"pack SETTING LANE=FILE .. [insert=FILE] [ocf=FILE]",
-        );
+    if n < 2 {
+        say_usage();
         return;
     }
     let mut path = io::buffer();
@@ -772,11 +938,5 @@ pub fn run() {
         console::say_failed(b"pack", b"an argument");
         return;
     }
-    let mut area = [0u8; 65537];
-    let l = setting_file::load(b"pack", &path[..k], &mut area);
-    let j = l.judged;
-    let s = j.setting;
-    if j.good {
-        pack_all(s, n);
-    }
+    answer(&path[..k], n);
 }

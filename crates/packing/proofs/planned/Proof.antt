@@ -1,4 +1,4 @@
--- By what the argument names, and whether that was named before.
+-- `packing::planned` meets its contract: by what the argument names, and whether that was named before.
 use borrow.Author.Tests.{eq-eqb, ne-eqb}
 use Rattle.packing.specs.Words.{planOn}
 use borrow.Author.Needs.{needs}
@@ -36,7 +36,7 @@ bad-plan-requires-3 c κs = search needs
 
 returns-3 : tie.Need-returns-3
 unfolding planOn
-returns-3 c = search needs
+returns-3 c = rw (c .enum-told .given .1)
 
 returns-4 : tie.Need-returns-4
 unfolding planOn
