@@ -7,7 +7,7 @@ ghost use Rattle.rules.specs.Tests.{_≤?_, _=?_};
 ghost use Rattle.rules.specs.Refusals.{channelAt};
 ghost use Rattle.rules.specs.declared.Kind.the-variants as kinds;
 ghost use Rattle.setting_text.specs.Texts.{blank, stops, same, words, numberOf};
-ghost use Rattle.setting_text.specs.Table.{VC, SERVICE, item, frameLines, partLines, channelLine, laneHead, packetsEnd, accessEnd, place, worth, fresh, counted, noted, step, follow, heard};
+ghost use Rattle.setting_text.specs.Table.{VC, SERVICE, item, from, end, frameLines, partLines, channelLine, laneHead, packetsEnd, accessEnd, place, worth, fresh, counted, noted, step, follow, heard};
 ghost use Rattle.setting_text.specs.Places.{Until, Word, seen, moved, most, Bounded, Known, Sound, Gathering};
 ghost use Rattle.setting_text.specs.Facts.{nothing, refuse, told, withFact, addFact, withChannel, withLane, ocfUnlike, addChannel, channelOf, addLane, laneOf, addLaneOf, takeSaid, takeAsked, takeLine, zoneless, judged, lacking, allFound, found, answered, parsed};
 use rules::Channel;
@@ -420,17 +420,32 @@ fn hear_word(line: &[u8], t: Trace, keys: &[u8], ask: Ask, field: usize) -> Trac
     move_on(t, to, field, g)
 }
 
+// The next word, which has to be a number.
+fn hear_number(line: &[u8], t: Trace, low: usize, high: usize, field: usize) -> Trace
+    requires { ⌜ field < 14 ⌝ }
+    ensures { λ r. ⌜ seen (now (line .entry)) r ≡ step (words (now (line .entry))) (from low high field) (seen (now (line .entry)) t) ⌝ }
+{
+    hear_word(line, t, b"", Ask::Number(low, high), field)
+}
+
+// The line's end, and what the line says then.
+fn hear_end(line: &[u8], t: Trace, says: Says) -> Trace
+    ensures { λ r. ⌜ seen (now (line .entry)) r ≡ step (words (now (line .entry))) (end says) (seen (now (line .entry)) t) ⌝ }
+{
+    hear_word(line, t, b"", Ask::End(says), END)
+}
+
 // The table: frame length, spacecraft, source or destination.
 fn hear_frame(line: &[u8], t: Trace) -> Trace
     ensures { λ r. ⌜ seen (now (line .entry)) r ≡ follow (words (now (line .entry))) frameLines (seen (now (line .entry)) t) ⌝ }
 {
     let t = hear_word(line, t, b"frame", Ask::Word(Wanted::Fact), ASIDE);
     let t = hear_word(line, t, b"length", Ask::Word(Wanted::Length), ASIDE);
-    let t = hear_word(line, t, b"", Ask::Number(32, 4096), LENGTH);
-    let t = hear_word(line, t, b"", Ask::End(Says::Fact(LENGTH)), END);
+    let t = hear_number(line, t, 32, 4096, LENGTH);
+    let t = hear_end(line, t, Says::Fact(LENGTH));
     let t = hear_word(line, t, b"spacecraft", Ask::Word(Wanted::Fact), ASIDE);
-    let t = hear_word(line, t, b"", Ask::Number(0, 65535), CRAFT);
-    let t = hear_word(line, t, b"", Ask::End(Says::Fact(CRAFT)), END);
+    let t = hear_number(line, t, 0, 65535, CRAFT);
+    let t = hear_end(line, t, Says::Fact(CRAFT));
     let t = hear_word(
         line,
         t,
@@ -438,7 +453,7 @@ fn hear_frame(line: &[u8], t: Trace) -> Trace
         Ask::Word(Wanted::Fact),
         DIRECTION,
     );
-    hear_word(line, t, b"", Ask::End(Says::Fact(DIRECTION)), END)
+    hear_end(line, t, Says::Fact(DIRECTION))
 }
 
 // The table: insert, check, and a line without words.
@@ -446,12 +461,12 @@ fn hear_parts(line: &[u8], t: Trace) -> Trace
     ensures { λ r. ⌜ seen (now (line .entry)) r ≡ follow (words (now (line .entry))) partLines (seen (now (line .entry)) t) ⌝ }
 {
     let t = hear_word(line, t, b"insert", Ask::Word(Wanted::Fact), ASIDE);
-    let t = hear_word(line, t, b"", Ask::Number(0, 64), INSERT);
-    let t = hear_word(line, t, b"", Ask::End(Says::Fact(INSERT)), END);
+    let t = hear_number(line, t, 0, 64, INSERT);
+    let t = hear_end(line, t, Says::Fact(INSERT));
     let t = hear_word(line, t, b"check", Ask::Word(Wanted::Fact), ASIDE);
     let t = hear_word(line, t, b"no yes", Ask::Word(Wanted::YesOrNo), CHECK);
-    let t = hear_word(line, t, b"", Ask::End(Says::Fact(CHECK)), END);
-    hear_word(line, t, b"", Ask::End(Says::Nothing), END)
+    let t = hear_end(line, t, Says::Fact(CHECK));
+    hear_end(line, t, Says::Nothing)
 }
 
 // The table: a channel.
@@ -459,14 +474,14 @@ fn hear_channel(line: &[u8], t: Trace) -> Trace
     ensures { λ r. ⌜ seen (now (line .entry)) r ≡ follow (words (now (line .entry))) channelLine (seen (now (line .entry)) t) ⌝ }
 {
     let t = hear_word(line, t, b"channel", Ask::Word(Wanted::Fact), ASIDE);
-    let t = hear_word(line, t, b"", Ask::Number(0, 62), VC);
+    let t = hear_number(line, t, 0, 62, VC);
     let t = hear_word(line, t, b"service", Ask::Word(Wanted::Service), ASIDE);
-    let t = hear_word(line, t, b"", Ask::Number(0, 1), SERVICE);
+    let t = hear_number(line, t, 0, 1, SERVICE);
     let t = hear_word(line, t, b"count", Ask::Word(Wanted::Count), ASIDE);
-    let t = hear_word(line, t, b"", Ask::Number(1, 7), OCTETS);
+    let t = hear_number(line, t, 1, 7, OCTETS);
     let t = hear_word(line, t, b"ocf", Ask::Word(Wanted::Ocf), ASIDE);
     let t = hear_word(line, t, b"no yes", Ask::Word(Wanted::YesOrNo), OCF);
-    hear_word(line, t, b"", Ask::End(Says::Channel), END)
+    hear_end(line, t, Says::Channel)
 }
 
 // The table: what all lanes have.
@@ -475,11 +490,11 @@ fn hear_lane(line: &[u8], t: Trace) -> Trace
 {
     let t = hear_word(line, t, b"lane", Ask::Word(Wanted::Fact), ASIDE);
     let t = hear_word(line, t, b"channel", Ask::Word(Wanted::Channel), ASIDE);
-    let t = hear_word(line, t, b"", Ask::Number(0, 62), VC);
+    let t = hear_number(line, t, 0, 62, VC);
     let t = hear_word(line, t, b"service", Ask::Word(Wanted::Service), ASIDE);
-    let t = hear_word(line, t, b"", Ask::Number(0, 1), SERVICE);
+    let t = hear_number(line, t, 0, 1, SERVICE);
     let t = hear_word(line, t, b"map", Ask::Word(Wanted::Map), ASIDE);
-    hear_word(line, t, b"", Ask::Number(0, 15), MAP)
+    hear_number(line, t, 0, 15, MAP)
 }
 
 // The table: the rest of a packet lane.
@@ -488,8 +503,8 @@ fn hear_packets(line: &[u8], t: Trace) -> Trace
 {
     let t = hear_word(line, t, b"packets", Ask::Word(Wanted::Carries), UPID);
     let t = hear_word(line, t, b"longest", Ask::Word(Wanted::Longest), ASIDE);
-    let t = hear_word(line, t, b"", Ask::Number(7, 8192), LONGEST);
-    hear_word(line, t, b"", Ask::End(Says::Lane), END)
+    let t = hear_number(line, t, 7, 8192, LONGEST);
+    hear_end(line, t, Says::Lane)
 }
 
 // The table: the rest of an access lane.
@@ -497,10 +512,10 @@ fn hear_access(line: &[u8], t: Trace) -> Trace
     ensures { λ r. ⌜ seen (now (line .entry)) r ≡ follow (words (now (line .entry))) accessEnd (seen (now (line .entry)) t) ⌝ }
 {
     let t = hear_word(line, t, b"access", Ask::Word(Wanted::Carries), ASIDE);
-    let t = hear_word(line, t, b"", Ask::Number(1, 30), UPID);
+    let t = hear_number(line, t, 1, 30, UPID);
     let t = hear_word(line, t, b"longest", Ask::Word(Wanted::Longest), ASIDE);
-    let t = hear_word(line, t, b"", Ask::Number(1, 8192), LONGEST);
-    hear_word(line, t, b"", Ask::End(Says::Lane), END)
+    let t = hear_number(line, t, 1, 8192, LONGEST);
+    hear_end(line, t, Says::Lane)
 }
 
 // What is heard of a line.

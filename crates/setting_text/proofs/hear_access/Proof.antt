@@ -1,6 +1,6 @@
 -- `setting_text::hear_access` meets its contract. One word after another.
 use Rattle.rules.specs.Listing.{text}
-use Rattle.setting_text.specs.Table.{word, one, from, end, follow, accessEnd}
+use Rattle.setting_text.specs.Table.{word, follow, accessEnd}
 use borrow.Author.Needs.{needs}
 use Rattle.setting_text.proofs.hear_access.Statement.{statement}
 use Rattle.setting_text.proofs.hear_access.Tie as tie
@@ -11,40 +11,30 @@ slice-aggregate-hear-word c = search needs
 hear-word-requires : tie.Need-hear-word-requires
 hear-word-requires c κs = search needs
 
+hear-number-requires : tie.Need-hear-number-requires
+hear-number-requires c κs = search needs
+
 slice-aggregate-hear-word-2 : tie.Need-slice-aggregate-hear-word-2
 slice-aggregate-hear-word-2 c = search needs
 
 hear-word-requires-2 : tie.Need-hear-word-requires-2
 hear-word-requires-2 c κs = search needs
 
-slice-aggregate-hear-word-3 : tie.Need-slice-aggregate-hear-word-3
-slice-aggregate-hear-word-3 c = search needs
+hear-number-requires-2 : tie.Need-hear-number-requires-2
+hear-number-requires-2 c κs = search needs
 
-hear-word-requires-3 : tie.Need-hear-word-requires-3
-hear-word-requires-3 c κs = search needs
-
-slice-aggregate-hear-word-4 : tie.Need-slice-aggregate-hear-word-4
-slice-aggregate-hear-word-4 c = search needs
-
-hear-word-requires-4 : tie.Need-hear-word-requires-4
-hear-word-requires-4 c κs = search needs
-
-slice-aggregate-hear-word-5 : tie.Need-slice-aggregate-hear-word-5
-slice-aggregate-hear-word-5 c = search needs
-
-hear-word-requires-5 : tie.Need-hear-word-requires-5
-hear-word-requires-5 c κs = search needs
+hear-end-requires : tie.Need-hear-end-requires
+hear-end-requires c κs = search needs
 
 returns : tie.Need-returns
-unfolding text word one from end follow accessEnd
+unfolding text word follow accessEnd
 returns c =
-    let c₈ = c .before .before .before .before .before .before .before .before in
     rw (
-      c .hear-word5 .ensures,
-      c .before .before .hear-word4 .ensures,
-      c .before .before .before .before .hear-word3 .ensures,
-      c .before .before .before .before .before .before .hear-word2 .ensures,
-      c₈ .hear-word .ensures,
+      c .hear-end .ensures,
+      c .before .hear-number2 .ensures,
+      c .before .before .hear-word2 .ensures,
+      c .before .before .before .before .hear-number .ensures,
+      c .before .before .before .before .before .hear-word .ensures,
     )
 
 pub hear-access-spec : {M : Type 1} → statement M
@@ -53,12 +43,9 @@ hear-access-spec =
     (tie.spec
     slice-aggregate-hear-word
     hear-word-requires
+    hear-number-requires
     slice-aggregate-hear-word-2
     hear-word-requires-2
-    slice-aggregate-hear-word-3
-    hear-word-requires-3
-    slice-aggregate-hear-word-4
-    hear-word-requires-4
-    slice-aggregate-hear-word-5
-    hear-word-requires-5
+    hear-number-requires-2
+    hear-end-requires
     returns)

@@ -1,6 +1,6 @@
 -- `setting_text::hear_channel` meets its contract. One word after another.
 use Rattle.rules.specs.Listing.{text}
-use Rattle.setting_text.specs.Table.{word, one, from, end, follow, channelLine}
+use Rattle.setting_text.specs.Table.{word, one, follow, channelLine}
 use borrow.Author.Needs.{needs}
 use Rattle.setting_text.proofs.hear_channel.Statement.{statement}
 use Rattle.setting_text.proofs.hear_channel.Tie as tie
@@ -11,17 +11,26 @@ slice-aggregate-hear-word c = search needs
 hear-word-requires : tie.Need-hear-word-requires
 hear-word-requires c κs = search needs
 
+hear-number-requires : tie.Need-hear-number-requires
+hear-number-requires c κs = search needs
+
 slice-aggregate-hear-word-2 : tie.Need-slice-aggregate-hear-word-2
 slice-aggregate-hear-word-2 c = search needs
 
 hear-word-requires-2 : tie.Need-hear-word-requires-2
 hear-word-requires-2 c κs = search needs
 
+hear-number-requires-2 : tie.Need-hear-number-requires-2
+hear-number-requires-2 c κs = search needs
+
 slice-aggregate-hear-word-3 : tie.Need-slice-aggregate-hear-word-3
 slice-aggregate-hear-word-3 c = search needs
 
 hear-word-requires-3 : tie.Need-hear-word-requires-3
 hear-word-requires-3 c κs = search needs
+
+hear-number-requires-3 : tie.Need-hear-number-requires-3
+hear-number-requires-3 c κs = search needs
 
 slice-aggregate-hear-word-4 : tie.Need-slice-aggregate-hear-word-4
 slice-aggregate-hear-word-4 c = search needs
@@ -35,45 +44,23 @@ slice-aggregate-hear-word-5 c = search needs
 hear-word-requires-5 : tie.Need-hear-word-requires-5
 hear-word-requires-5 c κs = search needs
 
-slice-aggregate-hear-word-6 : tie.Need-slice-aggregate-hear-word-6
-slice-aggregate-hear-word-6 c = search needs
-
-hear-word-requires-6 : tie.Need-hear-word-requires-6
-hear-word-requires-6 c κs = search needs
-
-slice-aggregate-hear-word-7 : tie.Need-slice-aggregate-hear-word-7
-slice-aggregate-hear-word-7 c = search needs
-
-hear-word-requires-7 : tie.Need-hear-word-requires-7
-hear-word-requires-7 c κs = search needs
-
-slice-aggregate-hear-word-8 : tie.Need-slice-aggregate-hear-word-8
-slice-aggregate-hear-word-8 c = search needs
-
-hear-word-requires-8 : tie.Need-hear-word-requires-8
-hear-word-requires-8 c κs = search needs
-
-slice-aggregate-hear-word-9 : tie.Need-slice-aggregate-hear-word-9
-slice-aggregate-hear-word-9 c = search needs
-
-hear-word-requires-9 : tie.Need-hear-word-requires-9
-hear-word-requires-9 c κs = search needs
+hear-end-requires : tie.Need-hear-end-requires
+hear-end-requires c κs = search needs
 
 returns : tie.Need-returns
-unfolding text word one from end follow channelLine
+unfolding text word one follow channelLine
 returns c =
     let c₈ = c .before .before .before .before .before .before .before .before in
-    let c₁₆ = c₈ .before .before .before .before .before .before .before .before in
     rw (
-      c .hear-word9 .ensures,
-      c .before .before .hear-word8 .ensures,
-      c .before .before .before .before .hear-word7 .ensures,
-      c .before .before .before .before .before .before .hear-word6 .ensures,
-      c₈ .hear-word5 .ensures,
-      c₈ .before .before .hear-word4 .ensures,
-      c₈ .before .before .before .before .hear-word3 .ensures,
-      c₈ .before .before .before .before .before .before .hear-word2 .ensures,
-      c₁₆ .hear-word .ensures,
+      c .hear-end .ensures,
+      c .before .hear-word5 .ensures,
+      c .before .before .before .hear-word4 .ensures,
+      c .before .before .before .before .before .hear-number3 .ensures,
+      c .before .before .before .before .before .before .hear-word3 .ensures,
+      c₈ .hear-number2 .ensures,
+      c₈ .before .hear-word2 .ensures,
+      c₈ .before .before .before .hear-number .ensures,
+      c₈ .before .before .before .before .hear-word .ensures,
     )
 
 pub hear-channel-spec : {M : Type 1} → statement M
@@ -82,20 +69,16 @@ hear-channel-spec =
     (tie.spec
     slice-aggregate-hear-word
     hear-word-requires
+    hear-number-requires
     slice-aggregate-hear-word-2
     hear-word-requires-2
+    hear-number-requires-2
     slice-aggregate-hear-word-3
     hear-word-requires-3
+    hear-number-requires-3
     slice-aggregate-hear-word-4
     hear-word-requires-4
     slice-aggregate-hear-word-5
     hear-word-requires-5
-    slice-aggregate-hear-word-6
-    hear-word-requires-6
-    slice-aggregate-hear-word-7
-    hear-word-requires-7
-    slice-aggregate-hear-word-8
-    hear-word-requires-8
-    slice-aggregate-hear-word-9
-    hear-word-requires-9
+    hear-end-requires
     returns)

@@ -1,6 +1,6 @@
 -- `setting_text::hear_frame` meets its contract. One word after another.
 use Rattle.rules.specs.Listing.{text}
-use Rattle.setting_text.specs.Table.{word, one, from, end, follow, frameLines}
+use Rattle.setting_text.specs.Table.{word, one, follow, frameLines}
 use borrow.Author.Needs.{needs}
 use Rattle.setting_text.proofs.hear_frame.Statement.{statement}
 use Rattle.setting_text.proofs.hear_frame.Tie as tie
@@ -17,11 +17,23 @@ slice-aggregate-hear-word-2 c = search needs
 hear-word-requires-2 : tie.Need-hear-word-requires-2
 hear-word-requires-2 c κs = search needs
 
+hear-number-requires : tie.Need-hear-number-requires
+hear-number-requires c κs = search needs
+
+hear-end-requires : tie.Need-hear-end-requires
+hear-end-requires c κs = search needs
+
 slice-aggregate-hear-word-3 : tie.Need-slice-aggregate-hear-word-3
 slice-aggregate-hear-word-3 c = search needs
 
 hear-word-requires-3 : tie.Need-hear-word-requires-3
 hear-word-requires-3 c κs = search needs
+
+hear-number-requires-2 : tie.Need-hear-number-requires-2
+hear-number-requires-2 c κs = search needs
+
+hear-end-requires-2 : tie.Need-hear-end-requires-2
+hear-end-requires-2 c κs = search needs
 
 slice-aggregate-hear-word-4 : tie.Need-slice-aggregate-hear-word-4
 slice-aggregate-hear-word-4 c = search needs
@@ -29,51 +41,23 @@ slice-aggregate-hear-word-4 c = search needs
 hear-word-requires-4 : tie.Need-hear-word-requires-4
 hear-word-requires-4 c κs = search needs
 
-slice-aggregate-hear-word-5 : tie.Need-slice-aggregate-hear-word-5
-slice-aggregate-hear-word-5 c = search needs
-
-hear-word-requires-5 : tie.Need-hear-word-requires-5
-hear-word-requires-5 c κs = search needs
-
-slice-aggregate-hear-word-6 : tie.Need-slice-aggregate-hear-word-6
-slice-aggregate-hear-word-6 c = search needs
-
-hear-word-requires-6 : tie.Need-hear-word-requires-6
-hear-word-requires-6 c κs = search needs
-
-slice-aggregate-hear-word-7 : tie.Need-slice-aggregate-hear-word-7
-slice-aggregate-hear-word-7 c = search needs
-
-hear-word-requires-7 : tie.Need-hear-word-requires-7
-hear-word-requires-7 c κs = search needs
-
-slice-aggregate-hear-word-8 : tie.Need-slice-aggregate-hear-word-8
-slice-aggregate-hear-word-8 c = search needs
-
-hear-word-requires-8 : tie.Need-hear-word-requires-8
-hear-word-requires-8 c κs = search needs
-
-slice-aggregate-hear-word-9 : tie.Need-slice-aggregate-hear-word-9
-slice-aggregate-hear-word-9 c = search needs
-
-hear-word-requires-9 : tie.Need-hear-word-requires-9
-hear-word-requires-9 c κs = search needs
+hear-end-requires-3 : tie.Need-hear-end-requires-3
+hear-end-requires-3 c κs = search needs
 
 returns : tie.Need-returns
-unfolding text word one from end follow frameLines
+unfolding text word one follow frameLines
 returns c =
     let c₈ = c .before .before .before .before .before .before .before .before in
-    let c₁₆ = c₈ .before .before .before .before .before .before .before .before in
     rw (
-      c .hear-word9 .ensures,
-      c .before .before .hear-word8 .ensures,
-      c .before .before .before .before .hear-word7 .ensures,
-      c .before .before .before .before .before .before .hear-word6 .ensures,
-      c₈ .hear-word5 .ensures,
-      c₈ .before .before .hear-word4 .ensures,
-      c₈ .before .before .before .before .hear-word3 .ensures,
-      c₈ .before .before .before .before .before .before .hear-word2 .ensures,
-      c₁₆ .hear-word .ensures,
+      c .hear-end3 .ensures,
+      c .before .hear-word4 .ensures,
+      c .before .before .before .hear-end2 .ensures,
+      c .before .before .before .before .hear-number2 .ensures,
+      c .before .before .before .before .before .hear-word3 .ensures,
+      c .before .before .before .before .before .before .before .hear-end .ensures,
+      c₈ .hear-number .ensures,
+      c₈ .before .hear-word2 .ensures,
+      c₈ .before .before .before .hear-word .ensures,
     )
 
 pub hear-frame-spec : {M : Type 1} → statement M
@@ -84,18 +68,13 @@ hear-frame-spec =
     hear-word-requires
     slice-aggregate-hear-word-2
     hear-word-requires-2
+    hear-number-requires
+    hear-end-requires
     slice-aggregate-hear-word-3
     hear-word-requires-3
+    hear-number-requires-2
+    hear-end-requires-2
     slice-aggregate-hear-word-4
     hear-word-requires-4
-    slice-aggregate-hear-word-5
-    hear-word-requires-5
-    slice-aggregate-hear-word-6
-    hear-word-requires-6
-    slice-aggregate-hear-word-7
-    hear-word-requires-7
-    slice-aggregate-hear-word-8
-    hear-word-requires-8
-    slice-aggregate-hear-word-9
-    hear-word-requires-9
+    hear-end-requires-3
     returns)

@@ -1,6 +1,6 @@
 -- `setting_text::hear_lane` meets its contract. One word after another.
 use Rattle.rules.specs.Listing.{text}
-use Rattle.setting_text.specs.Table.{word, one, from, end, follow, laneHead}
+use Rattle.setting_text.specs.Table.{word, follow, laneHead}
 use borrow.Author.Needs.{needs}
 use Rattle.setting_text.proofs.hear_lane.Statement.{statement}
 use Rattle.setting_text.proofs.hear_lane.Tie as tie
@@ -17,11 +17,17 @@ slice-aggregate-hear-word-2 c = search needs
 hear-word-requires-2 : tie.Need-hear-word-requires-2
 hear-word-requires-2 c κs = search needs
 
+hear-number-requires : tie.Need-hear-number-requires
+hear-number-requires c κs = search needs
+
 slice-aggregate-hear-word-3 : tie.Need-slice-aggregate-hear-word-3
 slice-aggregate-hear-word-3 c = search needs
 
 hear-word-requires-3 : tie.Need-hear-word-requires-3
 hear-word-requires-3 c κs = search needs
+
+hear-number-requires-2 : tie.Need-hear-number-requires-2
+hear-number-requires-2 c κs = search needs
 
 slice-aggregate-hear-word-4 : tie.Need-slice-aggregate-hear-word-4
 slice-aggregate-hear-word-4 c = search needs
@@ -29,36 +35,21 @@ slice-aggregate-hear-word-4 c = search needs
 hear-word-requires-4 : tie.Need-hear-word-requires-4
 hear-word-requires-4 c κs = search needs
 
-slice-aggregate-hear-word-5 : tie.Need-slice-aggregate-hear-word-5
-slice-aggregate-hear-word-5 c = search needs
-
-hear-word-requires-5 : tie.Need-hear-word-requires-5
-hear-word-requires-5 c κs = search needs
-
-slice-aggregate-hear-word-6 : tie.Need-slice-aggregate-hear-word-6
-slice-aggregate-hear-word-6 c = search needs
-
-hear-word-requires-6 : tie.Need-hear-word-requires-6
-hear-word-requires-6 c κs = search needs
-
-slice-aggregate-hear-word-7 : tie.Need-slice-aggregate-hear-word-7
-slice-aggregate-hear-word-7 c = search needs
-
-hear-word-requires-7 : tie.Need-hear-word-requires-7
-hear-word-requires-7 c κs = search needs
+hear-number-requires-3 : tie.Need-hear-number-requires-3
+hear-number-requires-3 c κs = search needs
 
 returns : tie.Need-returns
-unfolding text word one from end follow laneHead
+unfolding text word follow laneHead
 returns c =
     let c₈ = c .before .before .before .before .before .before .before .before in
     rw (
-      c .hear-word7 .ensures,
-      c .before .before .hear-word6 .ensures,
-      c .before .before .before .before .hear-word5 .ensures,
-      c .before .before .before .before .before .before .hear-word4 .ensures,
-      c₈ .hear-word3 .ensures,
-      c₈ .before .before .hear-word2 .ensures,
-      c₈ .before .before .before .before .hear-word .ensures,
+      c .hear-number3 .ensures,
+      c .before .hear-word4 .ensures,
+      c .before .before .before .hear-number2 .ensures,
+      c .before .before .before .before .hear-word3 .ensures,
+      c .before .before .before .before .before .before .hear-number .ensures,
+      c .before .before .before .before .before .before .before .hear-word2 .ensures,
+      c₈ .before .hear-word .ensures,
     )
 
 pub hear-lane-spec : {M : Type 1} → statement M
@@ -69,14 +60,11 @@ hear-lane-spec =
     hear-word-requires
     slice-aggregate-hear-word-2
     hear-word-requires-2
+    hear-number-requires
     slice-aggregate-hear-word-3
     hear-word-requires-3
+    hear-number-requires-2
     slice-aggregate-hear-word-4
     hear-word-requires-4
-    slice-aggregate-hear-word-5
-    hear-word-requires-5
-    slice-aggregate-hear-word-6
-    hear-word-requires-6
-    slice-aggregate-hear-word-7
-    hear-word-requires-7
+    hear-number-requires-3
     returns)

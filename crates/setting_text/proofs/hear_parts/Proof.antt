@@ -1,6 +1,6 @@
 -- `setting_text::hear_parts` meets its contract. One word after another.
 use Rattle.rules.specs.Listing.{text}
-use Rattle.setting_text.specs.Table.{word, one, from, end, follow, partLines}
+use Rattle.setting_text.specs.Table.{word, one, follow, partLines}
 use borrow.Author.Needs.{needs}
 use Rattle.setting_text.proofs.hear_parts.Statement.{statement}
 use Rattle.setting_text.proofs.hear_parts.Tie as tie
@@ -10,6 +10,12 @@ slice-aggregate-hear-word c = search needs
 
 hear-word-requires : tie.Need-hear-word-requires
 hear-word-requires c κs = search needs
+
+hear-number-requires : tie.Need-hear-number-requires
+hear-number-requires c κs = search needs
+
+hear-end-requires : tie.Need-hear-end-requires
+hear-end-requires c κs = search needs
 
 slice-aggregate-hear-word-2 : tie.Need-slice-aggregate-hear-word-2
 slice-aggregate-hear-word-2 c = search needs
@@ -23,42 +29,24 @@ slice-aggregate-hear-word-3 c = search needs
 hear-word-requires-3 : tie.Need-hear-word-requires-3
 hear-word-requires-3 c κs = search needs
 
-slice-aggregate-hear-word-4 : tie.Need-slice-aggregate-hear-word-4
-slice-aggregate-hear-word-4 c = search needs
+hear-end-requires-2 : tie.Need-hear-end-requires-2
+hear-end-requires-2 c κs = search needs
 
-hear-word-requires-4 : tie.Need-hear-word-requires-4
-hear-word-requires-4 c κs = search needs
-
-slice-aggregate-hear-word-5 : tie.Need-slice-aggregate-hear-word-5
-slice-aggregate-hear-word-5 c = search needs
-
-hear-word-requires-5 : tie.Need-hear-word-requires-5
-hear-word-requires-5 c κs = search needs
-
-slice-aggregate-hear-word-6 : tie.Need-slice-aggregate-hear-word-6
-slice-aggregate-hear-word-6 c = search needs
-
-hear-word-requires-6 : tie.Need-hear-word-requires-6
-hear-word-requires-6 c κs = search needs
-
-slice-aggregate-hear-word-7 : tie.Need-slice-aggregate-hear-word-7
-slice-aggregate-hear-word-7 c = search needs
-
-hear-word-requires-7 : tie.Need-hear-word-requires-7
-hear-word-requires-7 c κs = search needs
+hear-end-requires-3 : tie.Need-hear-end-requires-3
+hear-end-requires-3 c κs = search needs
 
 returns : tie.Need-returns
-unfolding text word one from end follow partLines
+unfolding text word one follow partLines
 returns c =
     let c₈ = c .before .before .before .before .before .before .before .before in
     rw (
-      c .hear-word7 .ensures,
-      c .before .before .hear-word6 .ensures,
-      c .before .before .before .before .hear-word5 .ensures,
-      c .before .before .before .before .before .before .hear-word4 .ensures,
-      c₈ .hear-word3 .ensures,
-      c₈ .before .before .hear-word2 .ensures,
-      c₈ .before .before .before .before .hear-word .ensures,
+      c .hear-end3 .ensures,
+      c .before .hear-end2 .ensures,
+      c .before .before .hear-word3 .ensures,
+      c .before .before .before .before .hear-word2 .ensures,
+      c .before .before .before .before .before .before .hear-end .ensures,
+      c .before .before .before .before .before .before .before .hear-number .ensures,
+      c₈ .hear-word .ensures,
     )
 
 pub hear-parts-spec : {M : Type 1} → statement M
@@ -67,16 +55,12 @@ hear-parts-spec =
     (tie.spec
     slice-aggregate-hear-word
     hear-word-requires
+    hear-number-requires
+    hear-end-requires
     slice-aggregate-hear-word-2
     hear-word-requires-2
     slice-aggregate-hear-word-3
     hear-word-requires-3
-    slice-aggregate-hear-word-4
-    hear-word-requires-4
-    slice-aggregate-hear-word-5
-    hear-word-requires-5
-    slice-aggregate-hear-word-6
-    hear-word-requires-6
-    slice-aggregate-hear-word-7
-    hear-word-requires-7
+    hear-end-requires-2
+    hear-end-requires-3
     returns)
