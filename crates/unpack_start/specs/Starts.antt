@@ -1,13 +1,15 @@
--- What unpack decides before it begins.
-use Prim.Native.Nat.{ℕ, _-_}
+-- What unpack decides beside its frames.
+use Prim.Native.Nat.{ℕ, _-_, _/_}
 use mathlib.Core.Bool.{Bool, true, false, cond}
 use mathlib.Core.List.{List}
 use lib.ListN.{length, getD}
-use Rattle.rules.specs.Tests.{_=?_}
+use Rattle.rules.specs.Tests.{_=?_, _<?_}
 use Rattle.files.specs.declared.Known.{Known}
 use Rattle.files.specs.Known.{sameFile, isRegular, isFolder}
 use Rattle.unpack_start.specs.declared.Prefix.{Prefix}
 use Rattle.unpack_start.specs.declared.Prefix.the-variants.{Fine, Empty, Folder}
+use Rattle.unpack_start.specs.declared.Little.{Little}
+use Rattle.unpack_start.specs.declared.Little.the-variants.{Enough, Nothing, Fewer}
 
 -- "An empty prefix, a prefix that ends in a folder, are refused": one that ends in `/`, or names a folder itself.
 unfoldable pub prefixOf : List ℕ → Known → Prefix
@@ -17,3 +19,11 @@ prefixOf xs k =
 -- What is printed would go into a regular file that is an input.
 unfoldable pub spoils : Known → Known → Known → Bool
 spoils k a b = cond (isRegular k) (cond (sameFile k a) true (sameFile k b)) false
+
+-- How far a run is in percent, where a hundredth of the recording is h frames.
+unfoldable pub percentOf : ℕ → ℕ → ℕ
+percentOf h n = cond (h =? 0) 0 (cond (100 <? n / h) 100 (n / h))
+
+-- "When nothing was read, or more frames were refused than read."
+unfoldable pub littleOf : ℕ → ℕ → Little
+littleOf read refused = cond (read =? 0) Nothing (cond (read <? refused) Fewer Enough)

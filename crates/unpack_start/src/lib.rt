@@ -1,6 +1,8 @@
-// What unpack decides before it begins: whether names of files can begin with a prefix, and whether what is printed would go into an input.
+// What unpack decides beside its frames: what its words ask for, whether names of files can begin with a prefix, whether what is printed would
+// go into an input, how far it is, and whether little was read.
 ghost use mathlib.Core.Path.{_≡_};
-ghost use Rattle.unpack_start.specs.Starts.{prefixOf, spoils};
+ghost use Rattle.unpack_start.specs.Starts.{prefixOf, spoils, percentOf, littleOf};
+ghost use Rattle.unpack_start.specs.Words.{sameWord, isOption, wordOf, named, askedNext, startOf, noAsked, isDash};
 use files::Known;
 
 // What a prefix is: one that names can begin with, nothing, or a folder.
@@ -41,4 +43,220 @@ pub fn is_spoiled(k: Known, a: Known, b: Known) -> bool
         return files::same(k, b);
     }
     false
+}
+
+// ---- how far, and how much
+
+// How much was read: enough, nothing, or fewer frames than were refused.
+pub enum Little {
+    Enough,
+    Nothing,
+    Fewer,
+}
+
+// How far a run is in percent, where a hundredth of the recording is this many frames; 0 where that is not known.
+pub fn percent(hundredth: u64, count: u64) -> u64
+    ensures { λ r. ⌜ r ≡ percentOf hundredth count ⌝ }
+{
+    if hundredth == 0 {
+        return 0;
+    }
+    let p = count / hundredth;
+    if 100 < p {
+        return 100;
+    }
+    p
+}
+
+// How much was read.
+pub fn little_of(read: u64, refused: u64) -> Little
+    ensures { λ r. ⌜ r ≡ littleOf read refused ⌝ }
+{
+    if read == 0 {
+        return Little::Nothing;
+    }
+    if read < refused {
+        return Little::Fewer;
+    }
+    Little::Enough
+}
+
+// ---- words
+
+// What a word of the command line is: one of the options, an option that there is not, or a name.
+pub enum Word {
+    Totals,
+    Help,
+    Version,
+    Unknown,
+    Name,
+}
+
+// What the command line asks for: how many names there are and which words the first three are; the first option that there is not, 0 for none;
+// and which options stand there.
+pub struct Asked {
+    pub names: usize,
+    pub setting: usize,
+    pub recording: usize,
+    pub prefix: usize,
+    pub unknown: usize,
+    pub totals: bool,
+    pub help: bool,
+    pub version: bool,
+}
+
+// What a run of the program does: it prints its help or its version, refuses an option or the number of names, or unpacks.
+pub enum Start {
+    Help,
+    Version,
+    Unknown(usize),
+    Usage,
+    Work,
+}
+
+// Whether two words are the same.
+fn same_word(a: &[u8], b: &[u8]) -> bool
+    ensures { λ r. ⌜ r ≡ sameWord (now (a .entry)) (now (b .entry)) ⌝ }
+{
+    if a.len() != b.len() {
+        return false;
+    }
+    let mut i: usize = 0;
+    while i < a.len() {
+        if a[i] != b[i] {
+            return false;
+        }
+        i += 1;
+    }
+    true
+}
+
+// Whether a word stands for standard input.
+pub fn is_dash(word: &[u8]) -> bool
+    ensures { λ r. ⌜ r ≡ isDash (now (word .entry)) ⌝ }
+{
+    same_word(word, b"-")
+}
+
+// Whether a word begins as options do.
+fn is_option(word: &[u8]) -> bool
+    ensures { λ r. ⌜ r ≡ isOption (now (word .entry)) ⌝ }
+{
+    if word.len() < 2 {
+        return false;
+    }
+    if word[0] == b'-' {
+        return word[1] == b'-';
+    }
+    false
+}
+
+// What a word is.
+pub fn word_of(word: &[u8]) -> Word
+    ensures { λ r. ⌜ r ≡ wordOf (now (word .entry)) ⌝ }
+{
+    let option = is_option(word);
+    if option {} else {
+        return Word::Name;
+    }
+    let totals = same_word(word, b"--totals");
+    if totals {
+        return Word::Totals;
+    }
+    let help = same_word(word, b"--help");
+    if help {
+        return Word::Help;
+    }
+    let version = same_word(word, b"--version");
+    if version {
+        return Word::Version;
+    }
+    Word::Unknown
+}
+
+// Nothing is asked for.
+pub fn no_asked() -> Asked
+    ensures { λ r. ⌜ r ≡ noAsked ⌝ }
+{
+    Asked {
+        names: 0,
+        setting: 0,
+        recording: 0,
+        prefix: 0,
+        unknown: 0,
+        totals: false,
+        help: false,
+        version: false,
+    }
+}
+
+// With one name more, word i.
+fn name_at(a: Asked, i: usize) -> Asked
+    ensures { λ r. ⌜ r ≡ named a i ⌝ }
+{
+    let mut b = a;
+    if a.names == 0 {
+        b.names = 1;
+        b.setting = i;
+        return b;
+    }
+    if a.names == 1 {
+        b.names = 2;
+        b.recording = i;
+        return b;
+    }
+    if a.names == 2 {
+        b.names = 3;
+        b.prefix = i;
+        return b;
+    }
+    b.names = 4;
+    b
+}
+
+// With one word more, word i.
+pub fn next_word(a: Asked, i: usize, w: Word) -> Asked
+    ensures { λ r. ⌜ r ≡ askedNext a i w ⌝ }
+{
+    let mut b = a;
+    match w {
+        Word::Totals => {
+            b.totals = true;
+            b
+        }
+        Word::Help => {
+            b.help = true;
+            b
+        }
+        Word::Version => {
+            b.version = true;
+            b
+        }
+        Word::Unknown => {
+            if a.unknown == 0 {
+                b.unknown = i;
+            }
+            b
+        }
+        Word::Name => name_at(a, i),
+    }
+}
+
+// What a run does that is asked for this.
+pub fn start_of(a: Asked) -> Start
+    ensures { λ r. ⌜ r ≡ startOf a ⌝ }
+{
+    if a.help {
+        return Start::Help;
+    }
+    if a.version {
+        return Start::Version;
+    }
+    if a.unknown != 0 {
+        return Start::Unknown(a.unknown);
+    }
+    if a.names == 3 {
+        return Start::Work;
+    }
+    Start::Usage
 }

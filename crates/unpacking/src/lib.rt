@@ -13,6 +13,7 @@ ghost use lib.ListN.{length};
 ghost use Rattle.rules.specs.Tests.{_=?_};
 ghost use Rattle.rules.specs.Settings.{settingOk, readerOk};
 ghost use Rattle.unpack_text.specs.Lines.{title, totalsText};
+ghost use Rattle.setting_file.specs.Files.{judged};
 ghost use Rattle.unpacking.specs.Stages.{Took, AreasFit, Handed, Handled, Turned, Finished, firstTurn, endingOf, haltedTurn, outputOf, wellGone, goesOn};
 use files::Known;
 use outputs::Plan;
@@ -20,7 +21,11 @@ use rules::Answer;
 use rules::Reader;
 use rules::Setting;
 use rules::Verdict;
+use setting_file::Loaded;
+use unpack_start::Asked;
+use unpack_start::Little;
 use unpack_start::Prefix;
+use unpack_start::Start;
 use unpack_text::Tally;
 
 // What came of a frame: how many octets, and whether the system failed.
@@ -35,6 +40,15 @@ enum Went {
     NotRead,
     NotPrinted,
     NotWritten(usize),
+}
+
+// Where a run's octets go, and what it says on the way: the descriptors of its outputs, how many frames are a hundredth of the recording (0 where
+// that is not known), whether standard error is a terminal, and whether no line a frame is printed.
+struct Sinks {
+    fds: [i32; 10],
+    hundredth: u64,
+    live: bool,
+    quiet: bool,
 }
 
 // A frame taken: state and totals after it, whose it is, its answer, and where its line ends.
@@ -164,23 +178,32 @@ fn put_units(fds: [i32; 10], i: usize, units: &[u8], records: &[u8]) -> Went {
     Went::Well
 }
 
+// Prints a frame's line, where lines are printed.
+fn print_line(quiet: bool, line: &[u8]) -> bool {
+    if quiet {
+        return true;
+    }
+    io::write_all(1, line)
+}
+
 // Prints the line of frame k, and writes the units and the records that it gave.
 fn put_out(
     k: u64,
     v: Verdict,
     a: Answer,
-    fds: [i32; 10],
+    o: Sinks,
     line: &[u8],
     units: &[u8],
     records: &[u8],
 ) -> Went
     requires { ⌜ Handed k v a (now line) (now units) (now records) ⌝ }
 {
-    let printed = io::write_all(1, line);
+    let printed = print_line(o.quiet, line);
     if !printed {
         return Went::NotPrinted;
     }
     let i = output_of(v);
+    let fds = o.fds;
     put_units(fds, i, units, records)
 }
 
@@ -213,13 +236,37 @@ fn due(count: u64) -> bool
     count % 65536 == 0
 }
 
-// Says how far the program is, where that is due and all went well.
-fn say_progress(went: Went, count: u64) {
+// Ends what is said on the way: a line, or on a terminal the place where the next stands over it.
+fn end_far(live: bool) {
+    if live {
+        io::write_all(2, b" %\r");
+        return;
+    }
+    io::write_all(2, b" %\n");
+}
+
+// Says how far the program is.
+fn say_far(o: Sinks, count: u64) {
+    let h = o.hundredth;
+    if h == 0 {
+        console::say_count(b"unpack", b"", count, b" frames");
+        return;
+    }
+    let p = unpack_start::percent(h, count);
+    io::write_all(2, b"unpack: ");
+    io::print_decimal(2, count);
+    io::write_all(2, b" frames, ");
+    io::print_decimal(2, p);
+    end_far(o.live);
+}
+
+// The same, where it is due and all went well.
+fn say_progress(went: Went, count: u64, o: Sinks) {
     let good = well(went);
     if good {
         let now = due(count);
         if now {
-            console::say_count(b"unpack", b"", count, b" frames");
+            say_far(o, count);
         }
     }
 }
@@ -230,7 +277,7 @@ fn say_progress(went: Went, count: u64) {
 fn handle(
     u: Turn,
     came: Came,
-    fds: [i32; 10],
+    sinks: Sinks,
     frame: &[u8],
     held: &mut [u8],
     units: &mut [u8],
@@ -250,8 +297,8 @@ fn handle(
     let end = p.end;
     let o = a.octets;
     let c = rules::RECORD_SIZE * a.units;
-    let went = put_out(k, v, a, fds, &area[..end], &units[..o], &records[..c]);
-    say_progress(went, k + 1);
+    let went = put_out(k, v, a, sinks, &area[..end], &units[..o], &records[..c]);
+    say_progress(went, k + 1, sinks);
     let more = goes_on(came.octets == s.length, went);
     let after = p.state;
     let totals = p.totals;
@@ -296,7 +343,7 @@ fn halted(u: Turn, came: Came) -> Turn
 fn take_came(
     u: Turn,
     came: Came,
-    fds: [i32; 10],
+    o: Sinks,
     frame: &[u8],
     held: &mut [u8],
     units: &mut [u8],
@@ -312,14 +359,14 @@ fn take_came(
     if m == 0 {
         return halted(u, came);
     }
-    handle(u, came, fds, &frame[..m], held, units, records)
+    handle(u, came, o, &frame[..m], held, units, records)
 }
 
 // Reads, takes, prints and writes the next frame, if there is one.
 fn turn_frame(
     u: Turn,
     fd: i32,
-    fds: [i32; 10],
+    o: Sinks,
     frame: &mut [u8],
     held: &mut [u8],
     units: &mut [u8],
@@ -331,7 +378,7 @@ fn turn_frame(
     let r = u.state;
     let s = r.setting;
     let came = read_frame(fd, frame, s.length);
-    take_came(u, came, fds, frame, held, units, records)
+    take_came(u, came, o, frame, held, units, records)
 }
 
 // Before the first frame.
@@ -356,7 +403,7 @@ fn first_turn(s: Setting) -> Turn
 
 // Takes the recording's frames to its end, or to the first failure. A proved loop has to end: this one counts its frames, to a number that
 // no run reaches.
-fn take_all(s: Setting, fd: i32, fds: [i32; 10]) -> Turn
+fn take_all(s: Setting, fd: i32, o: Sinks) -> Turn
     requires { ⌜ settingOk s ≡ true ⌝ }
     ensures { λ u. ⌜ Finished s (u .count) (u .state) (u .totals) ⌝ }
 {
@@ -367,7 +414,7 @@ fn take_all(s: Setting, fd: i32, fds: [i32; 10]) -> Turn
     let mut u = first_turn(s);
     let mut k: u64 = 0;
     while k < 18446744073709551615 {
-        u = turn_frame(u, fd, fds, &mut frame, &mut held, &mut units, &mut records);
+        u = turn_frame(u, fd, o, &mut frame, &mut held, &mut units, &mut records);
         k = u.count;
         if u.more {} else {
             break;
@@ -392,8 +439,11 @@ fn hand_totals(r: Reader, t: Tally, text: &[u8]) -> bool
     print(text)
 }
 
-// Puts the title, and prints it.
-fn print_title() -> bool {
+// Puts the title, and prints it, where lines are printed.
+fn print_title(quiet: bool) -> bool {
+    if quiet {
+        return true;
+    }
     let mut area = [0u8; 57];
     let end = unpack_text::put_title(&mut area, 0);
     hand_title(&area[..end])
@@ -410,18 +460,20 @@ fn print_totals(r: Reader, t: Tally) -> bool
 
 // ---- the program
 
-// What a run has: the plan of its outputs, their descriptors, and its inputs as the system knows them.
+// What a run has: the plan of its outputs, where its octets go, and its inputs as the system knows them.
 struct Job {
     plan: Plan,
-    fds: [i32; 10],
+    sinks: Sinks,
     setting: Known,
     recording: Known,
 }
 
-// Whether all went well to the end, and how many frames there were.
+// Whether all went well to the end, and how many frames there were, were read and were refused.
 struct Outcome {
     whole: bool,
     count: u64,
+    read: u64,
+    refused: u64,
 }
 
 // Once all outputs are written: they are put on the device, what has their names is looked at once more, and they get them.
@@ -429,7 +481,8 @@ fn settle(job: Job, name: &mut [u8], n: usize) -> bool
     requires { ⌜ n + 51 ≤ length (now name) ⌝ }
 {
     let p = job.plan;
-    let fds = job.fds;
+    let o = job.sinks;
+    let fds = o.fds;
     let kept = outputs::keep_all(p, fds, name, n);
     if kept {
         let a = job.setting;
@@ -476,17 +529,20 @@ fn take_and_finish(
 ) -> Outcome
     requires { ⌜ (settingOk s ≡ true) × (n + 51 ≤ length (now name)) ⌝ }
 {
-    let fds = job.fds;
-    let u = take_all(s, fd, fds);
+    let o = job.sinks;
+    let u = take_all(s, fd, o);
     let went = u.went;
     let good = well(went);
     if good {
         let r = u.state;
         let t = u.totals;
+        let k = t.classes;
         let whole = finish(r, t, job, name, n);
         return Outcome {
             whole: whole,
             count: u.count,
+            read: k.read,
+            refused: k.refused,
         };
     }
     let p = job.plan;
@@ -494,6 +550,8 @@ fn take_and_finish(
     Outcome {
         whole: false,
         count: u.count,
+        read: 0,
+        refused: 0,
     }
 }
 
@@ -501,13 +559,33 @@ fn take_and_finish(
 fn unpack_all(s: Setting, fd: i32, recording: &[u8], job: Job, name: &mut [u8], n: usize) -> Outcome
     requires { ⌜ (settingOk s ≡ true) × (n + 51 ≤ length (now name)) ⌝ }
 {
-    let titled = print_title();
+    let o = job.sinks;
+    let titled = print_title(o.quiet);
     if titled {
         return take_and_finish(s, fd, recording, job, name, n);
     }
     Outcome {
         whole: false,
         count: 0,
+        read: 0,
+        refused: 0,
+    }
+}
+
+// Says that little was read, where it is so, and what to look at.
+fn say_little(few: Little, recording: &[u8]) {
+    match few {
+        Little::Enough => {}
+        Little::Nothing => console::say(
+            b"unpack",
+            recording,
+            b"no frame was read; see the refusal numbers that were printed, and whether this is its setting",
+        ),
+        Little::Fewer => console::say(
+            b"unpack",
+            recording,
+            b"more frames were refused than read; see the refusal numbers that were printed, and whether this is its setting",
+        ),
     }
 }
 
@@ -517,11 +595,14 @@ fn work(s: Setting, fd: i32, recording: &[u8], job: Job, name: &mut [u8], n: usi
 {
     let e = unpack_all(s, fd, recording, job, name, n);
     if e.whole {
+        let few = unpack_start::little_of(e.read, e.refused);
+        say_little(few, recording);
         console::say_count(b"unpack", b"done: ", e.count, b" frames");
         return;
     }
     let p = job.plan;
-    let fds = job.fds;
+    let o = job.sinks;
+    let fds = o.fds;
     outputs::remove_all(p, fds, name, n);
 }
 
@@ -535,9 +616,16 @@ fn with_job(s: Setting, fd: i32, recording: &[u8], job: Job, name: &mut [u8], n:
     if made {
         let a = job.setting;
         let b = job.recording;
+        let o = job.sinks;
+        let sinks = Sinks {
+            fds: fds,
+            hundredth: o.hundredth,
+            live: o.live,
+            quiet: o.quiet,
+        };
         let open = Job {
             plan: p,
-            fds: fds,
+            sinks: sinks,
             setting: a,
             recording: b,
         };
@@ -560,8 +648,40 @@ fn with_plan(s: Setting, fd: i32, recording: &[u8], job: Job, name: &mut [u8], n
     }
 }
 
+// How many frames of this length are a hundredth of so many octets; 0 where these do not stay.
+fn hundredth_of(plain: bool, size: u64, length: usize) -> u64 {
+    if plain {
+        if length != 0 {
+            return size / length as u64 / 100;
+        }
+    }
+    0
+}
+
+// Where octets go before there are outputs, and how far a recording goes: one that is no regular file says nothing of it.
+fn sinks_of(s: Setting, recording: Known, quiet: bool) -> Sinks {
+    let terminal = libc::isatty(2);
+    let plain = files::regular(recording);
+    let hundredth = hundredth_of(plain, recording.size, s.length);
+    Sinks {
+        fds: [-1i32; 10],
+        hundredth: hundredth,
+        live: terminal == 1,
+        quiet: quiet,
+    }
+}
+
 // Draws the number of a run, for the names of its unfinished files, and goes on.
-fn with_name(s: Setting, fd: i32, recording: &[u8], a: Known, b: Known, name: &mut [u8], n: usize)
+fn with_name(
+    s: Setting,
+    fd: i32,
+    recording: &[u8],
+    a: Known,
+    b: Known,
+    quiet: bool,
+    name: &mut [u8],
+    n: usize,
+)
     requires { ⌜ (settingOk s ≡ true) × (n + 51 ≤ length (now name)) ⌝ }
 {
     let mut drawn = [0u8; 8];
@@ -576,9 +696,10 @@ fn with_name(s: Setting, fd: i32, recording: &[u8], a: Known, b: Known, name: &m
         lanes: s.numbered,
         table: false,
     };
+    let sinks = sinks_of(s, b, quiet);
     let job = Job {
         plan: p,
-        fds: [-1i32; 10],
+        sinks: sinks,
         setting: a,
         recording: b,
     };
@@ -616,11 +737,11 @@ fn good_prefix(prefix: &[u8]) -> bool {
 }
 
 // Takes the prefix from the command line, and goes on.
-fn with_prefix(s: Setting, fd: i32, recording: &[u8], a: Known, b: Known)
+fn with_prefix(s: Setting, q: Asked, fd: i32, recording: &[u8], a: Known, b: Known)
     requires { ⌜ settingOk s ≡ true ⌝ }
 {
     let mut prefix = io::buffer();
-    let n = os::arg(3, &mut prefix);
+    let n = os::arg(q.prefix, &mut prefix);
     if os::errno() != 0 {
         console::say_failed(b"unpack", b"PREFIX");
         return;
@@ -629,7 +750,7 @@ fn with_prefix(s: Setting, fd: i32, recording: &[u8], a: Known, b: Known)
     if good {
         let mut name = [0u8; 4147];
         octets::copy(&mut name, &prefix[..n]);
-        with_name(s, fd, recording, a, b, &mut name, n);
+        with_name(s, fd, recording, a, b, q.totals, &mut name, n);
     }
 }
 
@@ -654,33 +775,54 @@ fn outside(a: Known, b: Known) -> bool {
 }
 
 // Looks at the recording, and goes on.
-fn with_recording(s: Setting, fd: i32, recording: &[u8], a: Known)
+fn with_recording(s: Setting, q: Asked, fd: i32, recording: &[u8], a: Known)
     requires { ⌜ settingOk s ≡ true ⌝ }
 {
     let b = files::of_descriptor(fd);
+    let twice = files::same(a, b);
+    if twice {
+        console::say(
+            b"unpack",
+            recording,
+            b"is the setting; expected a recording",
+        );
+        return;
+    }
     let good = outside(a, b);
     if good {
-        with_prefix(s, fd, recording, a, b);
+        with_prefix(s, q, fd, recording, a, b);
     }
 }
 
 // Opens the recording, and goes on.
-fn with_setting(s: Setting, a: Known)
+fn with_path(s: Setting, q: Asked, path: &[u8], a: Known)
+    requires { ⌜ settingOk s ≡ true ⌝ }
+{
+    let dash = unpack_start::is_dash(path);
+    if dash {
+        with_recording(s, q, 0, b"standard input", a);
+        return;
+    }
+    let fd = os::open_read(path);
+    if fd < 0 {
+        console::say_failed(b"unpack", path);
+        return;
+    }
+    with_recording(s, q, fd, path, a);
+    libc::close(fd);
+}
+
+// Takes the recording from the command line, and goes on.
+fn with_setting(s: Setting, q: Asked, a: Known)
     requires { ⌜ settingOk s ≡ true ⌝ }
 {
     let mut path = io::buffer();
-    let n = os::arg(2, &mut path);
+    let n = os::arg(q.recording, &mut path);
     if os::errno() != 0 {
         console::say_failed(b"unpack", b"RECORDING");
         return;
     }
-    let fd = os::open_read(&path[..n]);
-    if fd < 0 {
-        console::say_failed(b"unpack", &path[..n]);
-        return;
-    }
-    with_recording(s, fd, &path[..n], a);
-    libc::close(fd);
+    with_path(s, q, &path[..n], a);
 }
 
 // Whether standard output and standard error are open. A file that is opened would take the number of one that is closed.
@@ -696,21 +838,100 @@ fn open_ends() -> bool {
     false
 }
 
+// A setting from standard input or from a file.
+fn load_from(path: &[u8], area: &mut [u8]) -> Loaded
+    ensures { λ r. ⌜ r .judged ≡ judged (r .filled) (now (area .exit)) ⌝ }
+{
+    let dash = unpack_start::is_dash(path);
+    if dash {
+        return setting_file::load_open(b"unpack", b"standard input", 0, area);
+    }
+    setting_file::load(b"unpack", path, area)
+}
+
 // Reads the setting, and goes on.
-fn with_words() {
+fn with_words(q: Asked) {
     let mut path = io::buffer();
-    let n = os::arg(1, &mut path);
+    let n = os::arg(q.setting, &mut path);
     if os::errno() != 0 {
         console::say_failed(b"unpack", b"SETTING");
         return;
     }
     let mut area = [0u8; 65537];
-    let l = setting_file::load(b"unpack", &path[..n], &mut area);
+    let l = load_from(&path[..n], &mut area);
     let j = l.judged;
     if j.good {
         let s = j.setting;
         let a = l.file;
-        with_setting(s, a);
+        with_setting(s, q, a);
+    }
+}
+
+// ---- the command line
+
+// With word i more.
+fn add_word(q: Asked, i: usize) -> Asked {
+    let mut word = io::buffer();
+    let n = os::arg(i, &mut word);
+    let w = unpack_start::word_of(&word[..n]);
+    unpack_start::next_word(q, i, w)
+}
+
+// What all words ask for.
+fn read_words() -> Asked {
+    let n = os::arg_count();
+    let mut q = unpack_start::no_asked();
+    let mut i: usize = 1;
+    while i < n {
+        q = add_word(q, i);
+        i += 1;
+    }
+    q
+}
+
+// Says that a word is no option.
+fn say_unknown(i: usize) {
+    let mut word = io::buffer();
+    let n = os::arg(i, &mut word);
+    console::say(
+        b"unpack",
+        &word[..n],
+        b"is no option; expected --totals, --help or --version",
+    );
+}
+
+// Prints how the program is called.
+fn print_help() -> bool {
+    print(
+        b"unpack [--totals] SETTING RECORDING PREFIX\nReads the recording's frames and writes PREFIX.lane0 .., a lane's units each, and PREFIX.records. Prints a line a frame and totals.\n  --totals   prints the totals alone\n  --help     prints this\n  --version  prints which program this is\nA SETTING or a RECORDING of - is standard input. docs/PROGRAMS.md has the formats.\n",
+    )
+}
+
+// Says that the program did what it was asked for besides unpacking, where it did.
+fn say_printed(printed: bool, what: &[u8]) {
+    if printed {
+        console::say(b"unpack", b"done", what);
+    }
+}
+
+// Does what the words ask for, or says why it cannot.
+fn begin(start: Start, q: Asked) {
+    match start {
+        Start::Help => {
+            let printed = print_help();
+            say_printed(printed, b"help");
+        }
+        Start::Version => {
+            let printed = print(b"unpack 1, of frames by CCSDS 732.1-B-3\n");
+            say_printed(printed, b"version");
+        }
+        Start::Unknown(i) => say_unknown(i),
+        Start::Usage => console::say(
+            b"unpack",
+            b"usage",
+            b"unpack [--totals] SETTING RECORDING PREFIX",
+        ),
+        Start::Work => with_words(q),
     }
 }
 
@@ -718,10 +939,8 @@ fn with_words() {
 pub fn run() {
     let open = open_ends();
     if open {
-        if os::arg_count() != 4 {
-            console::say(b"unpack", b"usage", b"unpack SETTING RECORDING PREFIX");
-            return;
-        }
-        with_words();
+        let q = read_words();
+        let start = unpack_start::start_of(q);
+        begin(start, q);
     }
 }

@@ -1,4 +1,3 @@
--- `unpack_start::is_spoiled`: what its callees promise is enough.
 use Rattle.unpack_start.specs.Starts.{spoils}
 use mathlib.Core.Path.{sym, _∙_}
 use borrow.Author.Needs.{needs}

@@ -1,4 +1,3 @@
--- `unpack_start::prefix_of`: what its callees promise is enough.
 use Rattle.unpack_start.specs.Starts.{prefixOf}
 use borrow.Author.Tests.{eq-eqb, ne-eqb}
 use mathlib.Core.Path.{sym, _∙_}

@@ -1,8 +1,11 @@
--- The title is what was put.
+-- `unpacking::print_title`: the title is what was put.
 use Rattle.unpack_text.proofs.Cuts.{wrote-cut, wrote-front}
 use borrow.Author.Needs.{needs}
 use Rattle.unpacking.proofs.print_title.Statement.{statement}
 use Rattle.unpacking.proofs.print_title.Tie as tie
+
+returns : tie.Need-returns
+returns c = search needs
 
 slice-aggregate-put-title : tie.Need-slice-aggregate-put-title
 slice-aggregate-put-title c = search needs
@@ -19,16 +22,17 @@ slice-aggregate-hand-title c = wrote-cut (c .before .before .put-title .ensures)
 hand-title-requires : tie.Need-hand-title-requires
 hand-title-requires c κs = wrote-front (c .before .before .put-title .ensures)
 
-returns : tie.Need-returns
-returns c = search needs
+returns-2 : tie.Need-returns-2
+returns-2 c = search needs
 
 pub print-title-spec : {M : Type 1} → statement M
 print-title-spec =
     tie.close
     (tie.spec
+    returns
     slice-aggregate-put-title
     put-title-requires
     array-share-prefix-area
     slice-aggregate-hand-title
     hand-title-requires
-    returns)
+    returns-2)

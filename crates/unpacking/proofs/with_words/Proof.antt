@@ -1,4 +1,4 @@
--- A setting that is called good is valid.
+-- `unpacking::with_words`: a setting that is called good is valid.
 use mathlib.Core.Path.{sym, ap, _∙_}
 use Rattle.rules.specs.Settings.{settingOk}
 use Rattle.setting_file.specs.declared.Judged.{Judged}
@@ -31,23 +31,20 @@ say-failed-requires c κs = search needs
 returns : tie.Need-returns
 returns c = search needs
 
-slice-aggregate-load : tie.Need-slice-aggregate-load
-slice-aggregate-load c = search needs
-
 array-share-prefix-path : tie.Need-array-share-prefix-path
 array-share-prefix-path c = search needs
 
-slice-aggregate-load-2 : tie.Need-slice-aggregate-load-2
-slice-aggregate-load-2 c = search needs
+slice-aggregate-load-from : tie.Need-slice-aggregate-load-from
+slice-aggregate-load-from c = search needs
 
-slice-aggregate-load-3 : tie.Need-slice-aggregate-load-3
-slice-aggregate-load-3 c = search needs
+slice-aggregate-load-from-2 : tie.Need-slice-aggregate-load-from-2
+slice-aggregate-load-from-2 c = search needs
 
-load-requires : tie.Need-load-requires
-load-requires c κs = search needs
+load-from-requires : tie.Need-load-from-requires
+load-from-requires c κs = search needs
 
 with-setting-requires : tie.Need-with-setting-requires
-with-setting-requires c κs = let l = c .before .before .before .before .before .load in
+with-setting-requires c κs = let l = c .before .before .before .before .before .load-from in
     let e = l .ensures in
     ap (λ (j : Judged). settingOk (j .setting)) e
     ∙ judged-good (l .result .filled) _ (ap (λ (j : Judged). j .good) (sym e) ∙ c .before .before .if2 .taken)
@@ -70,11 +67,10 @@ with-words-spec =
     slice-aggregate-say-failed-2
     say-failed-requires
     returns
-    slice-aggregate-load
     array-share-prefix-path
-    slice-aggregate-load-2
-    slice-aggregate-load-3
-    load-requires
+    slice-aggregate-load-from
+    slice-aggregate-load-from-2
+    load-from-requires
     with-setting-requires
     returns-2
     returns-3)

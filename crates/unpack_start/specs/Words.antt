@@ -1,0 +1,69 @@
+-- What the words of unpack's command line ask for.
+use Prim.Native.Nat.{ℕ}
+use mathlib.Core.Bool.{Bool, true, false, cond, _&&_}
+use mathlib.Core.List.{List, [], _∷_}
+use lib.ListN.{length, getD}
+use Rattle.rules.specs.Tests.{_=?_, _<?_}
+use Rattle.rules.specs.Listing.{text}
+use Rattle.unpack_start.specs.declared.Word.{Word}
+use Rattle.unpack_start.specs.declared.Word.the-variants as word
+use Rattle.unpack_start.specs.declared.Asked.{Asked}
+use Rattle.unpack_start.specs.declared.Start.{Start}
+use Rattle.unpack_start.specs.declared.Start.the-variants as start
+
+-- Octet by octet, as far as both go.
+unfoldable pub alike : List ℕ → List ℕ → Bool
+alike [] ys = true
+alike (x ∷ xs) [] = true
+alike (x ∷ xs) (y ∷ ys) = x =? y && alike xs ys
+
+unfoldable pub sameWord : List ℕ → List ℕ → Bool
+sameWord a b = cond (length a =? length b) (alike a b) false
+
+unfoldable pub isDash : List ℕ → Bool
+isDash w = sameWord w (text "-")
+
+-- A word that begins with two dashes is an option.
+unfoldable pub isOption : List ℕ → Bool
+isOption w = cond (length w <? 2) false (cond (getD w 0 0 =? 45) (getD w 1 0 =? 45) false)
+
+unfoldable pub wordOf : List ℕ → Word
+wordOf w =
+    cond (isOption w)
+    (cond (sameWord w (text "--totals")) word.Totals
+    (cond (sameWord w (text "--help")) word.Help
+    (cond (sameWord w (text "--version")) word.Version word.Unknown)))
+    word.Name
+
+unfoldable pub noAsked : Asked
+noAsked = record { names = 0; setting = 0; recording = 0; prefix = 0; unknown = 0; totals = false; help = false; version = false }
+
+-- The first three names are setting, recording and prefix; a fourth is one too many.
+unfoldable pub named : Asked → ℕ → Asked
+named a i =
+    cond (a .names =? 0)
+    (record { names = 1; setting = i; recording = a .recording; prefix = a .prefix; unknown = a .unknown; totals = a .totals; help = a .help; version = a .version })
+    (cond (a .names =? 1)
+    (record { names = 2; setting = a .setting; recording = i; prefix = a .prefix; unknown = a .unknown; totals = a .totals; help = a .help; version = a .version })
+    (cond (a .names =? 2)
+    (record { names = 3; setting = a .setting; recording = a .recording; prefix = i; unknown = a .unknown; totals = a .totals; help = a .help; version = a .version })
+    (record { names = 4; setting = a .setting; recording = a .recording; prefix = a .prefix; unknown = a .unknown; totals = a .totals; help = a .help; version = a .version })))
+
+-- With one word more.
+unfoldable pub askedNext : Asked → ℕ → Word → Asked
+askedNext a i word.Totals =
+    record { names = a .names; setting = a .setting; recording = a .recording; prefix = a .prefix; unknown = a .unknown; totals = true; help = a .help; version = a .version }
+askedNext a i word.Help =
+    record { names = a .names; setting = a .setting; recording = a .recording; prefix = a .prefix; unknown = a .unknown; totals = a .totals; help = true; version = a .version }
+askedNext a i word.Version =
+    record { names = a .names; setting = a .setting; recording = a .recording; prefix = a .prefix; unknown = a .unknown; totals = a .totals; help = a .help; version = true }
+askedNext a i word.Unknown =
+    record { names = a .names; setting = a .setting; recording = a .recording; prefix = a .prefix; unknown = cond (a .unknown =? 0) i (a .unknown); totals = a .totals; help = a .help; version = a .version }
+askedNext a i word.Name = named a i
+
+-- Help, version, an option that there is not, and three names: the first that applies.
+unfoldable pub startOf : Asked → Start
+startOf a =
+    cond (a .help) start.Help
+    (cond (a .version) start.Version
+    (cond (a .unknown =? 0) (cond (a .names =? 3) start.Work start.Usage) (start.Unknown (a .unknown))))
