@@ -1,5 +1,5 @@
 -- How pack goes through a file: what the window holds is what was read, and all else follows from it.
-use Prim.Native.Nat.{ℕ, zero, suc, _+_, _-_, min}
+use Prim.Native.Nat.{ℕ, zero, suc, _+_, _-_, _/_, min}
 use mathlib.Core.Path.{_≡_}
 use mathlib.Core.Bool.{Bool, true, false, cond, not, _&&_}
 use mathlib.Core.List.{List, []}
@@ -90,6 +90,10 @@ abbrev pub Unless : Course → Course → Type 0
 Unless c d = (c .fault ≡ faults.NotSent → ⊥) → c ≡ d
 
 -- ---- batch by batch
+
+-- How far it is, is said where a multiple of 65,536 frames is reached.
+unfoldable pub dueAt : ℕ → ℕ → Bool
+dueAt before after = not (before / 65536 =? after / 65536)
 
 -- "Every argument and every file is looked through before the first frame is written." A batch has no more frames than octets.
 unfoldable pub batchOn : Job → Course → List ℕ → List ℕ → List ℕ → Course

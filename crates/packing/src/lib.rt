@@ -11,7 +11,7 @@ ghost use lib.ListN.{length, take};
 ghost use Rattle.io.specs.Counts.{Counts};
 ghost use Rattle.rules.specs.Settings.{lane, channel, ocfOctets, number};
 ghost use Rattle.packing.specs.Words.{begins as beginsWith, lane as laneNamed, nameOf, badPlan, planOn, fine, isWord, askOf, objectionTo};
-ghost use Rattle.packing.specs.Courses.{sound, wrongFault, ended, oneMore, sentFault, SentNext, goesOn, Unless, workedOff, areaBefore, batchOn, noBatch, nextBatch, Stepped, Passed, unitCourse, UnitPassed, LanePassed};
+ghost use Rattle.packing.specs.Courses.{sound, wrongFault, ended, oneMore, sentFault, dueAt, SentNext, goesOn, Unless, workedOff, areaBefore, batchOn, noBatch, nextBatch, Stepped, Passed, unitCourse, UnitPassed, LanePassed};
 ghost use Rattle.rules.specs.Areas.{batchSize};
 use file_batches::Wrong;
 use files::Known;
@@ -323,12 +323,29 @@ struct Job {
     longest: usize,
 }
 
+// Whether a multiple of 65,536 frames was reached between these numbers of them.
+fn is_due(before: u64, after: u64) -> bool
+    ensures { λ r. ⌜ r ≡ dueAt before after ⌝ }
+{
+    before / 65536 != after / 65536
+}
+
+// Says how many frames are written, about every 65,536 of them.
+fn say_progress(before: u64, after: u64) {
+    let due = is_due(before, after);
+    if due {
+        console::say_count(b"pack", b"", after, b" frames");
+    }
+}
+
 // How a batch goes on: worked off where frames are written, and passed over in the first pass.
 fn batch_on(j: Job, c: Course, batch: &[u8], insert: &[u8], ocf: &[u8]) -> Course
     ensures { λ r. ⌜ Unless r (batchOn j c (now (batch .entry)) (now (insert .entry)) (now (ocf .entry))) ⌝ }
 {
     if j.writing {
-        return work_off(c, j.lane, batch, insert, ocf);
+        let t = work_off(c, j.lane, batch, insert, ocf);
+        say_progress(c.frames, t.frames);
+        return t;
     }
     c
 }
