@@ -41,12 +41,7 @@ struct Turn {
 pub fn worked_setting() -> Setting
     ensures { λ r. ⌜ r ≡ worked packetLane ⌝ }
 {
-    let none = Channel {
-        vc: 0,
-        service: 0,
-        octets: 0,
-        ocf: false,
-    };
+    let none = setting::no_channel();
     let mut channels = [none; 8];
     channels[0] = Channel {
         vc: 3,
@@ -54,13 +49,7 @@ pub fn worked_setting() -> Setting
         octets: 1,
         ocf: false,
     };
-    let no_lane = Lane {
-        channel: 0,
-        map: 0,
-        kind: Kind::Packets,
-        longest: 0,
-        upid: 0,
-    };
+    let no_lane = setting::no_lane();
     let mut lanes = [no_lane; 8];
     lanes[0] = Lane {
         channel: 0,
@@ -139,19 +128,12 @@ fn failed(r: Reader, k: u64, about: &[u8]) -> Turn
 }
 
 // Lists frame k, which has these octets. After a whole frame the listing goes on from what is handed back.
-fn list_came(
-    k: u64,
-    r: Reader,
-    frame: &[u8],
-    held: &mut [u8],
-    units: &mut [u8],
-    records: &mut [u8],
-) -> Turn
-    requires { ⌜ Reached k r (now held) (now units) (now records) × (k < 18446744073709551615) × (1 ≤ length (now frame)) ⌝ }
-    ensures { λ t. ⌜ GoesOn (t .more) (Reached (k + 1) (t .state) (now (held .exit)) (now (units .exit)) (now (records .exit))) ⌝ }
+fn list_came(k: u64, r: Reader, f: &[u8], h: &mut [u8], u: &mut [u8], c: &mut [u8]) -> Turn
+    requires { ⌜ Reached k r (now h) (now u) (now c) × (k < 18446744073709551615) × (1 ≤ length (now f)) ⌝ }
+    ensures { λ t. ⌜ GoesOn (t .more) (Reached (k + 1) (t .state) (now (h .exit)) (now (u .exit)) (now (c .exit))) ⌝ }
 {
     let mut area = [0u8; 98];
-    let p = list_frame(k, r, frame, held, units, records, &mut area);
+    let p = list_frame(k, r, f, h, u, c, &mut area);
     let a = p.answer;
     let end = p.end;
     let s = p.state;
@@ -162,7 +144,7 @@ fn list_came(
     Turn {
         state: s,
         frames: k + 1,
-        more: frame.len() == 32,
+        more: f.len() == 32,
         good: true,
     }
 }

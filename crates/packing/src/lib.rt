@@ -518,13 +518,7 @@ fn lane_of(s: Setting, l: usize) -> Lane
     if l < 8 {
         return s.lanes[l];
     }
-    Lane {
-        channel: 0,
-        map: 0,
-        kind: Kind::Packets,
-        longest: 0,
-        upid: 0,
-    }
+    setting::no_lane()
 }
 
 // How many OCF octets the frames of a lane have.

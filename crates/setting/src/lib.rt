@@ -495,7 +495,7 @@ pub fn lane_at(s: Setting, c: usize, map: u8) -> Place
 }
 
 // A channel of zeros.
-fn no_channel() -> Channel
+pub fn no_channel() -> Channel
     ensures { λ r. ⌜ r ≡ noChannel ⌝ }
 {
     Channel {
@@ -507,7 +507,7 @@ fn no_channel() -> Channel
 }
 
 // A lane of zeros.
-fn no_lane() -> Lane
+pub fn no_lane() -> Lane
     ensures { λ r. ⌜ r ≡ noLane ⌝ }
 {
     Lane {

@@ -68,7 +68,7 @@ returns-2 c =
     let s = c₁₆ .before .before .before .before .before in
     let a = s .args in
     goes-if _ _
-    (λ e. carried (a .k) (a .r) (a .held .now) (a .units .now) (a .records .now) _ _ _ _ _ _ _ _ _ (s .pre .0)
+    (λ e. carried (a .k) (a .r) (a .h .now) (a .u .now) (a .c .now) _ _ _ _ _ _ _ _ _ (s .pre .0)
     (eqb-true _ _ e)
     (c₈ .before .before .before .before .list-frame .ensures))
 
