@@ -907,10 +907,10 @@ fn print_help() -> bool {
     )
 }
 
-// Says that the program did what it was asked for besides unpacking, where it did.
-fn say_printed(printed: bool, what: &[u8]) {
+// Says that the program did what it was asked for in the place of unpacking, where it did.
+fn say_printed(printed: bool) {
     if printed {
-        console::say(b"unpack", b"done", what);
+        console::say_count(b"unpack", b"done: ", 0, b" frames");
     }
 }
 
@@ -919,11 +919,11 @@ fn begin(start: Start, q: Asked) {
     match start {
         Start::Help => {
             let printed = print_help();
-            say_printed(printed, b"help");
+            say_printed(printed);
         }
         Start::Version => {
-            let printed = print(b"unpack 1, of frames by CCSDS 732.1-B-3\n");
-            say_printed(printed, b"version");
+            let printed = print(b"unpack 0.2 (Khachmuren, CCSDS 732.1-B-3)\n");
+            say_printed(printed);
         }
         Start::Unknown(i) => say_unknown(i),
         Start::Usage => console::say(
