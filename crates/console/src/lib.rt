@@ -1,11 +1,58 @@
 // What the archive's programs say to the people who run them, and the words of their command lines. No contract can speak of
 // what is written to a descriptor; each function is proved safe and ending.
+ghost use mathlib.Core.Path.{_≡_};
+ghost use Prim.Native.Nat.{_≤_};
+ghost use lib.ListN.{length};
+
+// The octet that stands for one of a name: a question mark for those that would end the line or do something to a terminal.
+fn plain(x: u8) -> u8
+    ensures { λ r. ⌜ 32 ≤ r ⌝ }
+{
+    if x < 32 {
+        return b'?';
+    }
+    if x == 127 {
+        return b'?';
+    }
+    x
+}
+
+// How many of n octets a name's area of 4,096 takes.
+fn within(n: usize) -> usize
+    ensures { λ r. ⌜ (r ≤ n) × (r ≤ 4096) ⌝ }
+{
+    if n < 4096 {
+        return n;
+    }
+    4096
+}
+
+// Puts a name to the front of an area so that it stays on one line; how many octets it has there.
+fn put_name(area: &mut [u8], name: &[u8]) -> usize
+    requires { ⌜ length (now area) ≡ 4096 ⌝ }
+    ensures { λ r. ⌜ r ≤ 4096 ⌝ }
+{
+    let n = within(name.len());
+    let mut i: usize = 0;
+    while i < n {
+        area[i] = plain(name[i]);
+        i += 1;
+    }
+    n
+}
+
+// Which program says something, and about which name.
+pub fn say_front(program: &[u8], about: &[u8]) {
+    let mut area = io::buffer();
+    let n = put_name(&mut area, about);
+    io::write_all(2, program);
+    io::write_all(2, b": ");
+    io::write_all(2, &area[..n]);
+}
 
 // A line to standard error: which program, about what, and what is wrong there.
 pub fn say(program: &[u8], about: &[u8], what: &[u8]) {
-    io::write_all(2, program);
-    io::write_all(2, b": ");
-    io::write_all(2, about);
+    say_front(program, about);
     io::write_all(2, b": ");
     io::write_all(2, what);
     io::write_all(2, b"\n");
@@ -13,9 +60,7 @@ pub fn say(program: &[u8], about: &[u8], what: &[u8]) {
 
 // The same for a place in a file, named by a word and a number.
 pub fn say_at(program: &[u8], about: &[u8], place: &[u8], n: u64, what: &[u8]) {
-    io::write_all(2, program);
-    io::write_all(2, b": ");
-    io::write_all(2, about);
+    say_front(program, about);
     io::write_all(2, b": ");
     io::write_all(2, place);
     io::write_all(2, b" ");
@@ -27,9 +72,11 @@ pub fn say_at(program: &[u8], about: &[u8], place: &[u8], n: u64, what: &[u8]) {
 
 // A line to standard error that ends in the system's word for the call that failed last.
 pub fn say_failed(program: &[u8], about: &[u8]) {
+    let mut area = io::buffer();
+    let n = put_name(&mut area, about);
     io::write_all(2, program);
     io::write_all(2, b": ");
-    os::fail(about);
+    os::fail(&area[..n]);
 }
 
 // A line to standard error: how far the program is, or that it is done.

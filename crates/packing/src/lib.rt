@@ -129,8 +129,7 @@ fn wrong_fault(at: u64, w: Wrong) -> Fault
 
 // Says how many octets a file should have.
 fn say_expected(path: &[u8], n: u64) {
-    io::write_all(2, b"pack: ");
-    io::write_all(2, path);
+    console::say_front(b"pack", path);
     io::write_all(2, b": expected exactly ");
     io::print_decimal(2, n);
     io::write_all(2, b" octets\n");
@@ -138,8 +137,7 @@ fn say_expected(path: &[u8], n: u64) {
 
 // Says that a packet is too long.
 fn say_long(path: &[u8], at: u64, n: u64) {
-    io::write_all(2, b"pack: ");
-    io::write_all(2, path);
+    console::say_front(b"pack", path);
     io::write_all(2, b": octet ");
     io::print_decimal(2, at);
     io::write_all(2, b": a packet of ");
@@ -165,8 +163,7 @@ fn say_wrong(path: &[u8], at: u64, w: Wrong) {
 
 // Says that the writer refused a batch.
 fn say_refused(path: &[u8], n: u8) {
-    io::write_all(2, b"pack: ");
-    io::write_all(2, path);
+    console::say_front(b"pack", path);
     io::write_all(2, b": a batch was refused ");
     io::print_decimal(2, n as u64);
     io::write_all(2, b"\n");

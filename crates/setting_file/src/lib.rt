@@ -39,9 +39,7 @@ pub struct Loaded {
 
 // Says that a line has something else than a number from `low` to `high`.
 fn say_range(program: &[u8], path: &[u8], line: usize, low: usize, high: usize) {
-    io::write_all(2, program);
-    io::write_all(2, b": ");
-    io::write_all(2, path);
+    console::say_front(program, path);
     io::write_all(2, b": line ");
     io::print_decimal(2, line as u64);
     io::write_all(2, b": expected a number from ");
