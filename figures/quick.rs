@@ -119,9 +119,9 @@ impl Setting {
                     && c.service <= 1
                     && (1..=7).contains(&c.count_length)
                     && self.zone(c).is_some()
-                    && channels[..i].iter().all(|d| {
-                        d.virtual_channel != c.virtual_channel || (d.service != c.service && d.ocf == c.ocf)
-                    })
+                    && channels[..i]
+                        .iter()
+                        .all(|d| d.virtual_channel != c.virtual_channel || (d.service != c.service && d.ocf == c.ocf))
             })
             && lanes.iter().enumerate().all(|(i, l)| {
                 let (least, upid) = match l.kind {
@@ -183,6 +183,12 @@ fn measure(octets: &[u8]) -> Measure {
     Measure::Long { length, idle: u16::from_be_bytes([head[0], head[1]]) & 0x07FF == 0x07FF }
 }
 
+/// How many octets E0 these begin with.
+fn idle_run(octets: &[u8]) -> usize {
+    let eights = octets.chunks_exact(8).take_while(|eight| **eight == [0xE0; 8]).count();
+    8 * eights + octets[8 * eights..].iter().take_while(|&&octet| octet == 0xE0).count()
+}
+
 // ---- reading
 
 const HELD: usize = 65_536;
@@ -239,7 +245,13 @@ struct Common {
 
 /// Hands out a unit of two parts, the second behind the first.
 #[inline(always)]
-fn hand_out(answer: &mut Answer, areas: &mut Areas, common: Common, first: Option<std::ops::Range<usize>>, second: &[u8]) {
+fn hand_out(
+    answer: &mut Answer,
+    areas: &mut Areas,
+    common: Common,
+    first: Option<std::ops::Range<usize>>,
+    second: &[u8],
+) {
     let start = answer.octets;
     let mut end = start;
     if let Some(range) = first {
@@ -248,7 +260,7 @@ fn hand_out(answer: &mut Answer, areas: &mut Areas, common: Common, first: Optio
     }
     areas.units[end..end + second.len()].copy_from_slice(second);
     end += second.len();
-    let record = &mut areas.records[16 * answer.units..16 * answer.units + 16];
+    let record: &mut [u8; 16] = (&mut areas.records[16 * answer.units..16 * answer.units + 16]).try_into().unwrap();
     record[..4].copy_from_slice(&common.head);
     record[4..8].copy_from_slice(&(start as u32).to_be_bytes());
     record[8..12].copy_from_slice(&((end - start) as u32).to_be_bytes());
@@ -309,8 +321,7 @@ impl Reader {
         if (flags & 8 != 0) != channel.ocf {
             return Answer::of(Class::Refused(11));
         }
-        let n = usize::from(channel.count_length);
-        let count = frame[7..7 + n].iter().fold(0, |count, &octet| count << 8 | u64::from(octet));
+        let count = u64::from_be_bytes(frame[7..15].try_into().unwrap()) >> (64 - 8 * channel.count_length);
         let map = (word >> 1 & 15) as u8;
         let lane = setting.lanes.iter().position(|l| usize::from(l.channel) == place && l.map == map);
         let Some(lane) = lane.filter(|_| flags & 0x40 == 0) else {
@@ -330,7 +341,8 @@ impl Reader {
         self.take(place, count, &mut answer);
         let zone = &frame[data_field + 3..data_field + 3 + zone];
         let pointer = Some(pointer).filter(|&pointer| pointer != 0xFFFF);
-        let common = Common { head: [lane as u8, channel.virtual_channel, of.map, channel.service], count: count as u32 };
+        let common =
+            Common { head: [lane as u8, channel.virtual_channel, of.map, channel.service], count: count as u32 };
         match of.kind {
             Kind::Packets => self.packets(lane, zone, pointer, common, areas, &mut answer),
             Kind::Access => self.access(lane, zone, rule, pointer, common, areas, &mut answer),
@@ -355,7 +367,15 @@ impl Reader {
         }
     }
 
-    fn packets(&mut self, lane: usize, zone: &[u8], pointer: Option<usize>, common: Common, areas: &mut Areas, answer: &mut Answer) {
+    fn packets(
+        &mut self,
+        lane: usize,
+        zone: &[u8],
+        pointer: Option<usize>,
+        common: Common,
+        areas: &mut Areas,
+        answer: &mut Answer,
+    ) {
         let longest = usize::from(self.setting.lanes[lane].longest);
         let begin = lane * PART;
         let lead = &zone[..pointer.unwrap_or(zone.len())];
@@ -371,7 +391,7 @@ impl Reader {
             let rest = &zone[at..];
             if rest[0] == 0xE0 {
                 // The longest is at least 7, so that a run of these is idle octets whatever else the setting says.
-                let run = rest.iter().position(|&octet| octet != 0xE0).unwrap_or(rest.len());
+                let run = idle_run(rest);
                 answer.idle += run;
                 at += run;
                 continue;
@@ -403,21 +423,34 @@ impl Reader {
     }
 
     /// The lead follows what the lane held.
-    fn join(&mut self, lane: usize, held: usize, lead: &[u8], pointer: Option<usize>, common: Common, areas: &mut Areas, answer: &mut Answer) {
+    fn join(
+        &mut self,
+        lane: usize,
+        held: usize,
+        lead: &[u8],
+        pointer: Option<usize>,
+        common: Common,
+        areas: &mut Areas,
+        answer: &mut Answer,
+    ) {
         let longest = usize::from(self.setting.lanes[lane].longest);
         let begin = lane * PART;
         let all = held + lead.len();
-        // The packet's first octets, as many as its measure asks for.
-        let mut head = [0; 6];
-        let known = all.min(6);
-        let of_held = held.min(6);
-        head[..of_held].copy_from_slice(&areas.held[begin..begin + of_held]);
-        head[of_held..known].copy_from_slice(&lead[..known - of_held]);
+        let measured = if held >= 6 {
+            measure(&areas.held[begin..begin + held])
+        } else {
+            // The packet's first octets, as many as its measure asks for.
+            let mut head = [0; 6];
+            let known = all.min(6);
+            head[..held].copy_from_slice(&areas.held[begin..begin + held]);
+            head[held..known].copy_from_slice(&lead[..known - held]);
+            measure(&head[..known])
+        };
         let fails = |answer: &mut Answer| answer.dropped += all;
         if pointer == Some(0) {
             return fails(answer);
         }
-        match measure(&head[..known]) {
+        match measured {
             Measure::Long { length, idle } if length == all && length <= longest => {
                 if idle {
                     answer.idle += all;
@@ -426,13 +459,23 @@ impl Reader {
                 }
             }
             Measure::TooFew => self.goes_on(lane, held, lead, pointer, areas, answer),
-            Measure::Long { length, .. } if length > all && length <= longest => self.goes_on(lane, held, lead, pointer, areas, answer),
+            Measure::Long { length, .. } if length > all && length <= longest => {
+                self.goes_on(lane, held, lead, pointer, areas, answer)
+            }
             _ => fails(answer),
         }
     }
 
     /// A held packet that is longer than what there is of it: only without a pointer may it be.
-    fn goes_on(&mut self, lane: usize, held: usize, lead: &[u8], pointer: Option<usize>, areas: &mut Areas, answer: &mut Answer) {
+    fn goes_on(
+        &mut self,
+        lane: usize,
+        held: usize,
+        lead: &[u8],
+        pointer: Option<usize>,
+        areas: &mut Areas,
+        answer: &mut Answer,
+    ) {
         let begin = lane * PART;
         if pointer.is_some() {
             answer.dropped += held + lead.len();
@@ -442,7 +485,16 @@ impl Reader {
         }
     }
 
-    fn access(&mut self, lane: usize, zone: &[u8], rule: u8, pointer: Option<usize>, common: Common, areas: &mut Areas, answer: &mut Answer) {
+    fn access(
+        &mut self,
+        lane: usize,
+        zone: &[u8],
+        rule: u8,
+        pointer: Option<usize>,
+        common: Common,
+        areas: &mut Areas,
+        answer: &mut Answer,
+    ) {
         let longest = usize::from(self.setting.lanes[lane].longest);
         let begin = lane * PART;
         let octets = &zone[..pointer.map_or(zone.len(), |last| last + 1)];
@@ -480,21 +532,27 @@ struct Writer {
     next: Vec<usize>,
 }
 
+/// Behind the packet that begins here, where it is whole and may be in a batch.
+#[inline(always)]
+fn behind(batch: &[u8], at: usize, longest: usize) -> Option<usize> {
+    let head = batch.get(at..)?.first_chunk::<6>()?;
+    let first = u16::from_be_bytes([head[0], head[1]]);
+    let length = 7 + usize::from(u16::from_be_bytes([head[4], head[5]]));
+    let good = first >> 13 == 0 && first & 0x07FF != 0x07FF && length <= longest && length <= batch.len() - at;
+    good.then_some(at + length)
+}
+
 /// Whether a packet batch keeps its rule; and where its first packet at or behind an octet starts, or the batch's end.
 fn walk(batch: &[u8], longest: usize, begin: usize) -> Option<usize> {
     let mut at = 0;
-    let mut first = None;
-    while at < batch.len() {
-        let Measure::Long { length, idle: false } = measure(&batch[at..]) else { return None };
-        if length > longest || length > batch.len() - at {
-            return None;
-        }
-        if at >= begin && first.is_none() {
-            first = Some(at);
-        }
-        at += length;
+    while at < begin.min(batch.len()) {
+        at = behind(batch, at, longest)?;
     }
-    Some(first.unwrap_or(batch.len()))
+    let first = at;
+    while at < batch.len() {
+        at = behind(batch, at, longest)?;
+    }
+    Some(first)
 }
 
 impl Writer {
@@ -549,19 +607,25 @@ impl Writer {
         frame[..4].copy_from_slice(&word.to_be_bytes());
         frame[4..6].copy_from_slice(&((setting.length - 1) as u16).to_be_bytes());
         frame[6] = channel.service << 7 | u8::from(channel.ocf) << 3 | channel.count_length;
-        let n = usize::from(channel.count_length);
         let count = &mut self.counts[usize::from(of.channel)];
-        frame[7..7 + n].copy_from_slice(&count.to_be_bytes()[8 - n..]);
+        // Eight octets at once: what is behind the count is written later.
+        frame[7..15].copy_from_slice(&(*count << (64 - 8 * channel.count_length)).to_be_bytes());
         *count = (*count + 1) & channel.top();
-        frame[7 + n..data_field].copy_from_slice(insert);
+        if !insert.is_empty() {
+            frame[7 + usize::from(channel.count_length)..data_field].copy_from_slice(insert);
+        }
         frame[data_field] = rule << 5 | of.upid;
         frame[data_field + 1..data_field + 3].copy_from_slice(&pointer.to_be_bytes());
         let part = &batch[begin..batch.len().min(begin + zone)];
         let (octets, rest) = frame[data_field + 3..].split_at_mut(part.len());
         octets.copy_from_slice(part);
         let (fill, rest) = rest.split_at_mut(zone - part.len());
-        fill.fill(if of.kind == Kind::Packets { 0xE0 } else { 0 });
-        rest[..ocf.len()].copy_from_slice(ocf);
+        if !fill.is_empty() {
+            fill.fill(if of.kind == Kind::Packets { 0xE0 } else { 0 });
+        }
+        if let (Some(to), Some(ocf)) = (rest.first_chunk_mut::<4>(), ocf.first_chunk::<4>()) {
+            *to = *ocf;
+        }
         if setting.check {
             let (checked, check) = frame.split_at_mut(setting.length - 2);
             check.copy_from_slice(&frame_check(checked).to_be_bytes());
@@ -588,7 +652,11 @@ fn setting(length: usize, check: bool) -> Setting {
 
 /// The last of the first n octets, or 0.
 fn last(area: &[u8], n: usize) -> u64 {
-    if n == 0 { 0 } else { u64::from(area[n - 1]) }
+    if n == 0 {
+        0
+    } else {
+        u64::from(area[n - 1])
+    }
 }
 
 /// A sum of low halves.
@@ -637,17 +705,15 @@ fn write(length: usize, check: bool, shown: bool) -> Option<(u64, u64)> {
     let mut writer = Writer::set_up(setting(length, check))?;
     let mut area = vec![0; length];
     let (mut frames, mut sum) = (0, 0);
-    each(&mut vec![0; BATCH], |batch| {
-        loop {
-            writer.write(0, batch, &[], &[0; 4], &mut area).expect("the batch is good");
-            if shown {
-                out.write_all(&area).unwrap();
-            }
-            sum = plus(sum, plus(last(&area, length / 2), last(&area, length)));
-            frames += 1;
-            if writer.next[0] == 0 {
-                return 0;
-            }
+    each(&mut vec![0; BATCH], |batch| loop {
+        writer.write(0, batch, &[], &[0; 4], &mut area).expect("the batch is good");
+        if shown {
+            out.write_all(&area).unwrap();
+        }
+        sum = plus(sum, plus(last(&area, length / 2), last(&area, length)));
+        frames += 1;
+        if writer.next[0] == 0 {
+            return 0;
         }
     });
     Some((frames, sum))
