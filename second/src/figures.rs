@@ -1,6 +1,7 @@
 //! `second measure`: the work that docs/FIGURES.md counts, and the input for it. The work is the frame check, reads or
 //! writes of frames from standard input, or no work at all, for them to be held against.
 
+use std::hint::black_box;
 use std::io::{self, BufWriter, Read, Write};
 
 use crate::frame::frame_check;
@@ -10,21 +11,21 @@ use crate::setting::{Channel, Kind, Lane, Setting};
 use crate::text::decimal;
 use crate::writer::{Lent, Writer, LONGEST_BATCH};
 
-pub const USAGE: &str = "usage: second measure pass|check|read|write LENGTH
+pub const USAGE: &str = "usage: second measure pass|batches|check|read|write LENGTH yes|no
        second measure packets BATCHES
-       second measure frames LENGTH COUNT";
+       second measure frames LENGTH yes|no COUNT";
 
-/// Frame check, OCF, no insert zone, a count of 3 octets, one packet lane.
-fn setting(length: u64) -> Setting {
-    Setting {
+/// OCF, no insert zone, a count of 3 octets, one packet lane; with frame check or without. The compiler does not know it.
+fn setting(length: u64, check: bool) -> Setting {
+    black_box(Setting {
         frame_length: length,
         spacecraft: 42,
         destination: false,
         insert: 0,
-        check: true,
+        check,
         channels: vec![Channel { virtual_channel: 3, service: 0, count_length: 3, ocf: true }],
         lanes: vec![Lane { channel: 0, map: 5, kind: Kind::Packet, longest: 8_192, upid: 0 }],
-    }
+    })
 }
 
 /// A sum of low halves.
@@ -46,6 +47,15 @@ fn batch(random: &mut Random) -> Vec<u8> {
     batch
 }
 
+/// The last of the first n octets, or 0.
+fn last(area: &[u8], n: usize) -> u64 {
+    if n == 0 {
+        0
+    } else {
+        u64::from(area[n - 1])
+    }
+}
+
 fn next(input: &mut impl Read, area: &mut [u8]) -> bool {
     input.read_exact(area).is_ok()
 }
@@ -62,18 +72,21 @@ fn write_batch(writer: &mut Writer, batch: &[u8], area: &mut [u8], mut each: imp
     }
 }
 
-fn fresh_writer(length: u64) -> Result<Writer, String> {
-    Writer::fresh(&setting(length)).map_err(|_| "the setting is not valid".to_string())
+fn fresh_writer(length: u64, check: bool) -> Result<Writer, String> {
+    Writer::fresh(&setting(length, check)).map_err(|_| "the setting is not valid".to_string())
 }
 
-fn work(word: &str, length: u64) -> Result<(u64, u64), String> {
+fn work(word: &str, length: u64, check: bool) -> Result<(u64, u64), String> {
     let mut input = io::stdin().lock();
     let mut area = vec![0; length as usize];
     let (mut frames, mut sum) = (0, 0);
     match word {
-        "pass" => {
+        "pass" | "batches" => {
+            if word == "batches" {
+                area = vec![0; LONGEST_BATCH];
+            }
             while next(&mut input, &mut area) {
-                sum = plus(sum, u64::from(area[0]));
+                sum = plus(sum, last(&area, 1));
                 frames += 1;
             }
         }
@@ -84,21 +97,22 @@ fn work(word: &str, length: u64) -> Result<(u64, u64), String> {
             }
         }
         "read" => {
-            let mut reader = Reader::fresh(&setting(length)).map_err(|_| "the setting is not valid")?;
+            let mut reader = Reader::fresh(&setting(length, check)).map_err(|_| "the setting is not valid")?;
             let (mut held, mut units, mut records) = (vec![0; HELD_AREA], vec![0; UNIT_AREA], vec![0; RECORD_AREA]);
             while next(&mut input, &mut area) {
                 let mut areas = Areas { held: &mut held, units: &mut units, records: &mut records };
-                let answer = reader.read(&area, &mut areas);
-                sum = plus(sum, plus(answer.units, answer.octets));
+                let a = reader.read(&area, &mut areas);
+                let counted = plus(plus(a.units, a.octets), plus(a.idle, a.dropped));
+                sum = plus(sum, plus(counted, plus(a.missing, last(&units, a.octets as usize))));
                 frames += 1;
             }
         }
         "write" => {
-            let mut writer = fresh_writer(length)?;
+            let mut writer = fresh_writer(length, check)?;
             let mut batch = vec![0; LONGEST_BATCH];
             while next(&mut input, &mut batch) {
                 write_batch(&mut writer, &batch, &mut area, |frame| {
-                    sum = plus(sum, u64::from(frame[frame.len() - 1]));
+                    sum = plus(sum, plus(last(frame, frame.len() / 2), last(frame, frame.len())));
                     frames += 1;
                 })?;
             }
@@ -116,9 +130,9 @@ fn put_packets(batches: u64, out: &mut impl Write) -> io::Result<()> {
     out.flush()
 }
 
-fn put_frames(length: u64, count: u64, out: &mut impl Write) -> Result<(), String> {
+fn put_frames(length: u64, check: bool, count: u64, out: &mut impl Write) -> Result<(), String> {
     let mut random = Random::new(1);
-    let mut writer = fresh_writer(length)?;
+    let mut writer = fresh_writer(length, check)?;
     let mut area = vec![0; length as usize];
     let mut left = count;
     while left > 0 {
@@ -135,14 +149,22 @@ fn put_frames(length: u64, count: u64, out: &mut impl Write) -> Result<(), Strin
     out.flush().map_err(|error| error.to_string())
 }
 
+fn yes(word: &str) -> Result<bool, String> {
+    match word {
+        "yes" => Ok(true),
+        "no" => Ok(false),
+        _ => Err(USAGE.to_string()),
+    }
+}
+
 pub fn run(arguments: &[String]) -> Result<(), String> {
     let words: Vec<&str> = arguments.iter().map(String::as_str).collect();
     let mut out = BufWriter::new(io::stdout().lock());
     match words[..] {
         ["packets", batches] => put_packets(decimal(batches)?, &mut out).map_err(|error| error.to_string()),
-        ["frames", length, count] => put_frames(decimal(length)?, decimal(count)?, &mut out),
-        [word, length] => {
-            let (frames, sum) = work(word, decimal(length)?)?;
+        ["frames", length, check, count] => put_frames(decimal(length)?, yes(check)?, decimal(count)?, &mut out),
+        [word, length, check] => {
+            let (frames, sum) = work(word, decimal(length)?, yes(check)?)?;
             writeln!(out, "frames {frames} sum {sum}").map_err(|error| error.to_string())
         }
         _ => Err(USAGE.to_string()),

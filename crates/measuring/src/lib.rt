@@ -1,7 +1,10 @@
 // Work to be measured: the frame check, reads or writes of frames that come from standard input, and no other work for them to be held
 // against. Its two arguments are the work's word and a file with the setting, which has one packet lane, an OCF and no insert zone; it prints
 // how many frames there were and a sum over what came out.
-ghost use Prim.Native.Nat.{_≤_};
+ghost use mathlib.Core.Path.{_≡_};
+ghost use Prim.Native.Nat.{_+_, _%_, _≤_};
+ghost use mathlib.Core.List.{_∷_};
+ghost use lib.ListN.{getD};
 use rules::Answer;
 use rules::Outcome;
 use rules::Setting;
@@ -10,13 +13,29 @@ use rules::Writer;
 // ---- numbers
 
 // An octet as a wide number.
-fn wide(x: u8) -> u64 {
+fn wide(x: u8) -> u64
+    ensures { λ r. ⌜ r ≡ x ⌝ }
+{
     x as u64
 }
 
 // A sum of low halves, which never wraps.
-fn plus(a: u64, b: u64) -> u64 {
+fn plus(a: u64, b: u64) -> u64
+    ensures { λ r. ⌜ r ≡ a % 4294967296 + b % 4294967296 ⌝ }
+{
     a % 0x100000000 + b % 0x100000000
+}
+
+// The last of the first n octets of an area; 0 where there are none, or not as many.
+fn last(area: &[u8], n: usize) -> u64
+    ensures { λ r. ⌜ r ≡ getD (0 ∷ now (area .entry)) n 0 ⌝ }
+{
+    if 0 < n {
+        if n <= area.len() {
+            return wide(area[n - 1]);
+        }
+    }
+    0
 }
 
 // Prints what came out.
@@ -39,15 +58,7 @@ fn next(area: &mut [u8]) -> bool {
     n == area.len()
 }
 
-// What is summed of an input that is passed over: its first octet.
-fn first(area: &[u8]) -> u64 {
-    if 0 < area.len() {
-        return wide(area[0]);
-    }
-    0
-}
-
-// Reads the input, and does nothing with it, or works out the check of each frame.
+// Reads the input, and sums its first octets or the check of each frame.
 fn pass(checked: bool, area: &mut [u8]) {
     let mut k: u64 = 0;
     let mut sum: u64 = 0;
@@ -61,16 +72,19 @@ fn pass(checked: bool, area: &mut [u8]) {
             let v = fecf::check_of(area);
             sum = plus(sum, v as u64);
         } else {
-            let v = first(area);
+            let v = last(area, 1);
             sum = plus(sum, v);
         }
         k += 1;
     }
 }
 
-// What is summed of an answer.
-fn worth(a: Answer) -> u64 {
-    plus(a.units as u64, a.octets as u64)
+// What is summed of a read: what its answer counts, and the last octet that was handed out.
+fn worth(a: Answer, units: &[u8]) -> u64 {
+    let out = plus(a.units as u64, a.octets as u64);
+    let not = plus(a.idle as u64, a.dropped as u64);
+    let octet = last(units, a.octets);
+    plus(plus(out, not), plus(a.missing, octet))
 }
 
 // A read of each frame.
@@ -91,7 +105,7 @@ fn read(s: Setting, area: &mut [u8]) {
         let a = t.answer;
         let after = t.state;
         state = after;
-        let w = worth(a);
+        let w = worth(a, &units);
         sum = plus(sum, w);
         k += 1;
     }
@@ -106,14 +120,9 @@ struct Course {
     good: bool,
 }
 
-// The last octet of a frame of n.
-fn last(area: &[u8], n: usize) -> u64 {
-    if 0 < n {
-        if n <= area.len() {
-            return wide(area[n - 1]);
-        }
-    }
-    0
+// What is summed of a frame of n octets: the one before its middle and the last, which are of the zone and of the check or the OCF.
+fn seen(area: &[u8], n: usize) -> u64 {
+    plus(last(area, n / 2), last(area, n))
 }
 
 // A frame of a batch.
@@ -124,7 +133,7 @@ fn write_next(c: Course, size: usize, batch: &[u8], area: &mut [u8]) -> Course {
     let t = writer::write(w, 0, batch, &none[..0], &ocf, area);
     let outcome = t.outcome;
     let after = t.state;
-    let x = last(area, size);
+    let x = seen(area, size);
     let sum = plus(c.sum, x);
     let frames = plus(c.frames, 1);
     let good = match outcome {

@@ -36,8 +36,8 @@ cast-plus c = search needs
 plus-requires : tie.Need-plus-requires Inv-loop μ-loop
 plus-requires c κs = search needs
 
-first-requires : tie.Need-first-requires Inv-loop μ-loop
-first-requires c κs = search needs
+last-requires : tie.Need-last-requires Inv-loop μ-loop
+last-requires c κs = search needs
 
 plus-requires-2 : tie.Need-plus-requires-2 Inv-loop μ-loop
 plus-requires-2 c κs = search needs
@@ -71,7 +71,7 @@ pass-spec =
     check-of-requires
     cast-plus
     plus-requires
-    first-requires
+    last-requires
     plus-requires-2
     add-k
     loop-less

@@ -37,6 +37,9 @@ slice-aggregate-read-3 c = search needs
 read-requires : tie.Need-read-requires Inv-loop μ-loop
 read-requires c κs = search needs
 
+slice-aggregate-worth : tie.Need-slice-aggregate-worth Inv-loop μ-loop
+slice-aggregate-worth c = search needs
+
 worth-requires : tie.Need-worth-requires Inv-loop μ-loop
 worth-requires c κs = search needs
 
@@ -74,6 +77,7 @@ read-spec =
     slice-aggregate-read-2
     slice-aggregate-read-3
     read-requires
+    slice-aggregate-worth
     worth-requires
     plus-requires
     add-k
