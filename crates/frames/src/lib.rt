@@ -18,11 +18,11 @@ use rules::Setting;
 // next number.
 pub struct Upcoming {
     pub place: usize,
-    pub lane: Lane,
-    pub channel: Channel,
     pub zone: usize,
     pub count: u64,
     pub number: usize,
+    pub lane: Lane,
+    pub channel: Channel,
 }
 
 // Lays the primary header and the insert zone at the area's front.
