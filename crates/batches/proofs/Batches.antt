@@ -14,12 +14,15 @@ use types.Run.{OneOf}
 use Rattle.rules.proofs.Measure as measure-type
 use Rattle.rules.specs.declared.Kind.{Kind}
 use Rattle.rules.specs.declared.Kind.the-variants.{Packets, Access}
+use Rattle.rules.specs.declared.Place.{Place}
+use Rattle.rules.specs.declared.Place.the-variants.{At, Nowhere}
 use Rattle.rules.specs.declared.Measure.{Measure}
 use Rattle.rules.specs.declared.Measure.the-variants.{Lacks, Packet, Idle, Unreadable}
 use Rattle.rules.specs.Tests.{_≤?_, _=?_, all}
-use Rattle.rules.specs.Areas.{joined}
+use Rattle.rules.specs.Areas.{joined, batchSize}
 use Rattle.rules.specs.Packets.{measure, whole, packetsUpTo, packets}
 use Rattle.rules.specs.Writing.{noneAbove, batchOk, startFrom}
+use Rattle.batches.specs.Starts.{stand, Passes, Passed, ifAny, Stands, Keeps}
 use Rattle.rules.proofs.Tests.{same}
 use Rattle.rules.proofs.Measures.{measure-cases, measure-none, packet-long}
 
@@ -95,27 +98,7 @@ module _ (b : List ℕ) (i : ℕ) (m : Measure) (is : m ≡ measure (take (lengt
     pub more-here : n ≤ length b - i → packets (drop i b) ≡ take n (drop i b) ∷ packets (drop (i + n) b)
     more-here h = here ∙ rw (e, length-drop i b, le-leb n (length b - i) h, drop-drop n i b)
 
--- There are no more octets in the packets than in the batch.
-upTo-inside : (n : ℕ) (xs : List ℕ) → length (joined (packetsUpTo n xs)) ≤ length xs
-unfolding packetsUpTo joined
-upTo-inside zero xs = omega arith
-upTo-inside (suc n) xs =
-    whole-cases (λ w. length (joined (w (packetsUpTo n))) ≤ length xs) xs (omega arith)
-    (λ k h l.
-    let q = upTo-inside n (drop k xs) in
-    let t = length-append (take k xs) (joined (packetsUpTo n (drop k xs))) in
-    let u = length-take-le k xs l in
-    let v = length-drop k xs in
-    omega (arith, q, t, u, v))
-
-pub packets-inside : (xs : List ℕ) → length (joined (packets xs)) ≤ length xs
-unfolding packets
-packets-inside xs = upTo-inside (length xs) xs
-
 -- ---- whether they are all of the octets, and none is above the longest
-
-abbrev pub stand : ℕ → List ℕ → Bool
-stand longest xs = all (length (joined (packets xs)) =? length xs ∷ noneAbove longest (packets xs) ∷ [])
 
 shifted : (n a b x y : ℕ) → a ≡ n + x → b ≡ n + y → a =? b ≡ x =? y
 shifted n a b x y p q =
@@ -157,9 +140,6 @@ unfolding startFrom
 starts-now [] = refl
 starts-now (p ∷ ps) = refl
 
-pub start-begin : (b : List ℕ) (n : ℕ) → startFrom (packets b) n ≡ 0 + startFrom (packets b) (n - 0)
-start-begin b n = rw (zero-add, sub-zero n)
-
 module _ (b : List ℕ) (n i : ℕ) where
   pub start-end : n ≤ i → i + startFrom (packets (drop i b)) (n - i) ≡ i
   start-end h = let z : n - i ≡ 0 = omega arith in rw (z, starts-now (packets (drop i b))) (add-zero i)
@@ -175,19 +155,69 @@ module _ (b : List ℕ) (n i : ℕ) where
       let z : n - i - k ≡ n - (i + k) = omega arith in
       rw (e, ne-eqb (n - i) 0 (λ q. omega arith), length-take-le k (drop i b) (rw (length-drop i b) fit), z) (sym (add-assoc i k _))
 
--- Their end at the latest.
-pub start-inside : (ps : List (List ℕ)) (n : ℕ) → startFrom ps n ≤ length (joined ps)
-unfolding startFrom joined
-start-inside [] n = omega arith
-start-inside (p ∷ ps) n = go (n =? 0) (start-inside ps (n - length p)) (length-append p (joined ps))
-  where
-    go : (t : Bool) → startFrom ps (n - length p) ≤ length (joined ps) → length (p ++ joined ps) ≡ length p + length (joined ps)
-        → cond t 0 (length p + startFrom ps (n - length p)) ≤ length (p ++ joined ps)
-    go true h e = omega arith
-    go false h e = omega arith
+-- ---- the invariant of a pass: what is asked of the octets from `from` on is what is asked of those from octet i on
 
--- ---- no batch is empty
+pub record Passing (longest : ℕ) (b : List ℕ) (from to i : ℕ) : Type 0 where
+  pub inside : i ≤ length b
+  pub stands : stand longest (drop from b) ≡ stand longest (drop i b)
+  pub starts : from + startFrom (packets (drop from b)) (to - from) ≡ i + startFrom (packets (drop i b)) (to - i)
 
+module _ {longest : ℕ} {b : List ℕ} {from to i : ℕ} (p : Passing longest b from to i) where
+  -- It ends at octet `to` or later.
+  pub passed : to ≤ i → Passes longest b from to i
+  passed h = record { reached = h; inside = p .inside; stands = p .stands; starts = p .starts ∙ start-end b to i h }
+
+  -- No packet there.
+  pub passed-none : i < length b → packets (drop i b) ≡ [] → stand longest (drop from b) ≡ false
+  passed-none h e = p .stands ∙ stand-none longest b i h e
+
+  module _ (n : ℕ) (fit : n ≤ length b - i) (e : packets (drop i b) ≡ take n (drop i b) ∷ packets (drop (i + n) b)) where
+    pub passed-above : longest < n → stand longest (drop from b) ≡ false
+    passed-above h = p .stands ∙ stand-above longest b i n fit e h
+
+    pub passed-more : i < to → n ≤ longest → Passing longest b from to (i + n)
+    passed-more k h =
+        record {
+          inside = omega (arith, p .inside);
+          stands = p .stands ∙ stand-more longest b i n fit e h;
+          starts = p .starts ∙ start-more b to i k n fit e;
+        }
+
+-- ---- two passes one after the other are one over the whole batch
+
+module _ (longest : ℕ) (b : List ℕ) (from to i : ℕ) (p : Passes longest b 0 to i) (near : from ≤ length b → to ≡ from) where
+  pub stands-by : (q : Place) → Passed longest b i (length b) q → Stands longest b from (ifAny i q)
+  stands-by (At k) w = (p .stands ∙ w .stands ∙ stand-end longest b k (w .reached), start)
+    where
+      start : from ≤ length b → startFrom (packets b) from ≡ i
+      start h = let n : from ≡ to - 0 = omega (arith, near h) in ap (startFrom (packets b)) n ∙ sym (zero-add _) ∙ p .starts
+  stands-by Nowhere w = p .stands ∙ w
+
+-- ---- a batch and its packets
+
+module _ (longest : ℕ) (b : List ℕ) (some : 1 ≤ length b) where
+  packets-ok : length b ≤ batchSize → batchOk Packets longest b ≡ stand longest b
+  unfolding batchOk all
+  packets-ok most = rw (le-leb 1 (length b) some, le-leb (length b) batchSize most)
+
+  pub packets-keep : length b ≤ batchSize → (from : ℕ) (r : Place) → Stands longest b from r → Keeps Packets longest b from r
+  packets-keep most from (At i) s = (packets-ok most ∙ s .0, s .1)
+  packets-keep most from Nowhere s = packets-ok most ∙ s
+
+  -- Too many octets, for either kind, or not too many for an access unit.
+  pub packets-above : batchSize < length b → batchOk Packets longest b ≡ false
+  unfolding batchOk all
+  packets-above h = rw (le-leb 1 (length b) some, lt-leb (length b) batchSize h)
+
+  pub access-above : longest < length b → batchOk Access longest b ≡ false
+  unfolding batchOk all
+  access-above h = rw (le-leb 1 (length b) some, lt-leb (length b) longest h)
+
+  pub access-ok : length b ≤ longest → batchOk Access longest b ≡ true
+  unfolding batchOk all
+  access-ok h = rw (le-leb 1 (length b) some, le-leb (length b) longest h)
+
+-- No batch is empty.
 pub batch-empty : (k : Kind) (longest : ℕ) (b : List ℕ) → length b ≡ 0 → batchOk k longest b ≡ false
 unfolding batchOk all
 batch-empty Packets longest b e = rw (lt-leb 1 (length b) (omega arith))

@@ -1,15 +1,13 @@
 -- The zones that a batch is cut into: how many there are, and offsets in one.
-use mathlib.Core.Path.{_≡_, sym, ap, _∙_}
+use mathlib.Core.Path.{_≡_, sym, _∙_}
 use mathlib.Core.List.{List}
 use Prim.Native.Nat.{ℕ, _+_, _-_, _*_, _/_, _%_, _<_}
-use native.Mathlib.Nat.{add-mul, one-mul, mul-one, mul-zero, mod-lt, div-add-mod', div-lt-self, div-eq-of-lt-le}
+use native.Mathlib.Nat.{add-mul, one-mul, mul-one, mod-lt, div-add-mod', div-lt-self, div-eq-of-lt-le}
 use native.Mathlib.Omega.{arith}
 use lib.ListN.{length}
 use Rattle.rules.specs.declared.Kind.{Kind}
 use Rattle.rules.specs.declared.Kind.the-variants.{Packets, Access}
-use Rattle.rules.specs.Packets.{packets}
 use Rattle.rules.specs.Writing.{offsetOf}
-use Rattle.batches.proofs.Batches.{packets-inside, start-inside}
 
 -- ---- how many zones of z octets n octets take: the quotient, and one more where something is left
 
@@ -43,15 +41,3 @@ pub offset-from : (k : Kind) (z : ℕ) (b : List ℕ) (i : ℕ) → offsetOf k 1
 unfolding offsetOf
 offset-from Packets z b i = rw (mul-one (i * z))
 offset-from Access z b i = rw (mul-one (i * z))
-
-pub offset-no-zone : (k : Kind) (b : List ℕ) (i : ℕ) → offsetOf k 1 b 0 ≡ offsetOf k 0 b i
-offset-no-zone k b i = ap (offsetOf k 1 b) (sym (mul-zero i)) ∙ offset-from k 0 b i
-
--- It is 0 in a zone that starts past the batch.
-pub offset-past : (k : Kind) (z : ℕ) (b : List ℕ) (i : ℕ) → length b < i * z → offsetOf k z b i ≡ 0
-unfolding offsetOf
-offset-past Packets z b i h =
-    let s = start-inside (packets b) (i * z) in
-    let t = packets-inside b in
-    omega (arith, s, t)
-offset-past Access z b i h = omega arith

@@ -1,76 +1,96 @@
-// A batch: whether it keeps its rule, how its frames are cut, and what rule, pointer and fill each carries. Each function is total, and gives
-// what one definition of the rules gives.
+// A batch: whether it keeps its rule, how its frames are cut, and what rule, pointer and fill each carries.
 ghost use mathlib.Core.Path.{_≡_};
-ghost use mathlib.Core.List.{[], _∷_};
-ghost use Prim.Native.Nat.{_+_, _-_, _/_};
+ghost use Prim.Native.Nat.{_+_, _-_, _*_, _/_, _≤_, _<_};
 ghost use lib.ListN.{length};
-ghost use Rattle.rules.specs.Tests.{_=?_, all};
-ghost use Rattle.rules.specs.Areas.{joined};
-ghost use Rattle.rules.specs.Packets.{packets};
 ghost use Rattle.rules.specs.Frames.{pointerTo};
-ghost use Rattle.rules.specs.Writing.{noneAbove, batchOk, fill, ruleOf, startFrom, offsetOf, pointerOf};
+ghost use Rattle.rules.specs.Writing.{fill, ruleOf, offsetOf, pointerOf};
+ghost use Rattle.batches.specs.Starts.{Passed, ifAny, StartsAt, Stands, Keeps};
 use rules::Kind;
 use rules::Measure;
 use rules::Place;
 
-// Whether the octets are whole Space Packets back to back, none idle, none above the longest.
-fn back_to_back(longest: usize, batch: &[u8]) -> bool
-    ensures { λ r. ⌜ r ≡ all
-        (length (joined (packets (now (batch .entry)))) =? length (now (batch .entry))
-        ∷ noneAbove longest (packets (now (batch .entry)))
-        ∷ []) ⌝ }
+// Passes packets from octet `from` on, up to the first that starts at octet `to` or later: where that is. Nowhere, where one on the way is
+// not whole, is idle or is above the longest.
+fn packets_to(longest: usize, batch: &[u8], from: usize, to: usize) -> Place
+    requires { ⌜ (from ≤ length (now batch)) × (to ≤ length (now batch)) ⌝ }
+    ensures { λ r. ⌜ Passed longest (now (batch .entry)) from to r ⌝ }
 {
-    let mut i: usize = 0;
-    while i < batch.len() {
+    let mut i = from;
+    while i < to {
         let m = packets::measure_at(&batch[i..]);
         let Measure::Packet(n) = m else {
-            return false;
+            return Place::Nowhere;
         };
         if batch.len() - i < n {
-            return false;
+            return Place::Nowhere;
         }
         if longest < n {
-            return false;
+            return Place::Nowhere;
         }
         i += n;
     }
-    true
+    Place::At(i)
 }
 
-// Whether a batch keeps the rule of its lane's kind.
-pub fn batch_ok(kind: Kind, longest: usize, batch: &[u8]) -> bool
-    ensures { λ r. ⌜ r ≡ batchOk kind longest (now (batch .entry)) ⌝ }
+// A number that is at most n: this one, where it is.
+fn at_most(from: usize, n: usize) -> usize
+    ensures { λ r. ⌜ (r ≤ n) × (from ≤ n → r ≡ from) ⌝ }
+{
+    if from < n {
+        return from;
+    }
+    n
+}
+
+// Octet i, where there is a place.
+fn if_any(i: usize, p: Place) -> Place
+    ensures { λ r. ⌜ r ≡ ifAny i p ⌝ }
+{
+    match p {
+        Place::At(_) => Place::At(i),
+        Place::Nowhere => Place::Nowhere,
+    }
+}
+
+// Where the first packet from octet `from` on starts, if the octets are whole Space Packets back to back, none idle, none above the
+// longest. Each packet is looked at once: those before that octet, then those from it on.
+fn back_to_back(longest: usize, batch: &[u8], from: usize) -> Place
+    ensures { λ r. ⌜ Stands longest (now (batch .entry)) from r ⌝ }
+{
+    let to = at_most(from, batch.len());
+    let p = packets_to(longest, batch, 0, to);
+    match p {
+        Place::At(i) => {
+            let q = packets_to(longest, batch, i, batch.len());
+            return if_any(i, q);
+        }
+        Place::Nowhere => {
+            return Place::Nowhere;
+        }
+    }
+}
+
+// Whether a batch keeps the rule of its lane's kind, and where its first packet from octet `from` on starts: nowhere if it does not.
+pub fn batch_start(kind: Kind, longest: usize, batch: &[u8], from: usize) -> Place
+    ensures { λ r. ⌜ Keeps kind longest (now (batch .entry)) from r ⌝ }
 {
     if batch.len() == 0 {
-        return false;
+        return Place::Nowhere;
     }
     match kind {
         Kind::Packets => {
             if rules::BATCH_SIZE < batch.len() {
-                return false;
+                return Place::Nowhere;
             }
-            back_to_back(longest, batch)
+            return back_to_back(longest, batch, from);
         }
-        Kind::Access => batch.len() <= longest,
-    }
-}
-
-// The first octet from octet n on at which a packet of the batch starts; where none does, the packets' end.
-pub fn start_from(batch: &[u8], n: usize) -> usize
-    ensures { λ r. ⌜ r ≡ startFrom (packets (now (batch .entry))) n ⌝ }
-{
-    let mut i: usize = 0;
-    while i < n {
-        let m = packets::measure_at(&batch[i..]);
-        let Measure::Packet(size) = m else {
-            return i;
-        };
-        if batch.len() - i < size {
-            return i;
+        Kind::Access => {
+            if longest < batch.len() {
+                return Place::Nowhere;
+            }
+            return Place::At(0);
         }
-        i += size;
     }
-    i
 }
 
 // The construction rule that frame i of a batch carries.
@@ -121,13 +141,14 @@ pub fn frames_of(z: usize, n: usize) -> usize
     n / z + 1
 }
 
-// The offset in a zone that starts at octet `from`: it is number `from` of the zones of one octet.
-fn offset_at(kind: Kind, batch: &[u8], from: usize) -> usize
+// The offset in a zone that starts at octet `from`: it is number `from` of the zones of one octet. `start` is where the first packet from
+// there on starts.
+fn offset_at(kind: Kind, batch: &[u8], from: usize, start: usize) -> usize
+    requires { ⌜ (from ≤ length (now batch)) × StartsAt kind (now batch) from start ⌝ }
     ensures { λ r. ⌜ r ≡ offsetOf kind 1 (now (batch .entry)) from ⌝ }
 {
     match kind {
         Kind::Packets => {
-            let start = start_from(batch, from);
             if start <= from {
                 return 0;
             }
@@ -142,24 +163,12 @@ fn offset_at(kind: Kind, batch: &[u8], from: usize) -> usize
     }
 }
 
-// The offset in frame i's zone at which the first packet starts or the unit ends, also where it is past the zone.
-pub fn offset_of(kind: Kind, z: usize, batch: &[u8], i: usize) -> usize
-    ensures { λ r. ⌜ r ≡ offsetOf kind z (now (batch .entry)) i ⌝ }
-{
-    if z == 0 {
-        return offset_at(kind, batch, 0);
-    }
-    if batch.len() / z < i {
-        return 0;
-    }
-    offset_at(kind, batch, i * z)
-}
-
-// The pointer that frame i carries.
-pub fn pointer_of(kind: Kind, z: usize, batch: &[u8], i: usize) -> usize
+// The pointer that frame i carries, told where the first packet from its zone on starts.
+pub fn pointer_of(kind: Kind, z: usize, batch: &[u8], i: usize, start: usize) -> usize
+    requires { ⌜ (i * z < length (now batch)) × StartsAt kind (now batch) (i * z) start ⌝ }
     ensures { λ r. ⌜ r ≡ pointerOf kind z (now (batch .entry)) i ⌝ }
 {
-    let n = offset_of(kind, z, batch, i);
+    let n = offset_at(kind, batch, i * z, start);
     if n < z {
         return pointer_to(Place::At(n));
     }

@@ -8,6 +8,7 @@ ghost use Rattle.rules.specs.Octets.{be, checkOf};
 ghost use Rattle.rules.specs.Areas.{laid};
 ghost use Rattle.rules.specs.Frames.{primary, dataHeader};
 ghost use Rattle.rules.specs.Writing.{zoneOf, ruleOf, pointerOf};
+ghost use Rattle.batches.specs.Starts.{StartsAt};
 ghost use Rattle.frames.specs.Fits.{upcomingFrame, FrameFits};
 use rules::Channel;
 use rules::Kind;
@@ -18,11 +19,11 @@ use rules::Setting;
 // next number.
 pub struct Upcoming {
     pub place: usize,
-    pub lane: Lane,
-    pub channel: Channel,
     pub zone: usize,
     pub count: u64,
     pub number: usize,
+    pub lane: Lane,
+    pub channel: Channel,
 }
 
 // Lays the primary header and the insert zone at the area's front.
@@ -58,13 +59,22 @@ fn piece_end(from: usize, z: usize, n: usize) -> usize
     from + z
 }
 
-// Lays rule, UPID, pointer and zone of frame i of a batch.
-fn put_data(area: &mut [u8], from: usize, kind: Kind, upid: u8, z: usize, batch: &[u8], i: usize)
-    requires { ⌜ (i * z < length (now batch)) × (z ≤ 4096) × (from + 3 + z ≤ length (now area)) ⌝ }
+// Lays rule, UPID, pointer and zone of frame i of a batch, told where the first packet from its zone on starts.
+fn put_data(
+    area: &mut [u8],
+    from: usize,
+    kind: Kind,
+    upid: u8,
+    z: usize,
+    batch: &[u8],
+    i: usize,
+    start: usize,
+)
+    requires { ⌜ (i * z < length (now batch)) × (z ≤ 4096) × (from + 3 + z ≤ length (now area)) × StartsAt kind (now batch) (i * z) start ⌝ }
     ensures { λ _. ⌜ now (area .exit) ≡ laid (now (area .entry)) from (dataHeader (ruleOf kind i) upid (pointerOf kind z (now (batch .entry)) i) ++ zoneOf kind z (now (batch .entry)) i) ⌝ }
 {
     let rule = batches::rule_of(kind, i);
-    let pointer = batches::pointer_of(kind, z, batch, i);
+    let pointer = batches::pointer_of(kind, z, batch, i, start);
     let h = header::data_header_of(rule, upid, pointer);
     octets::lay_number(area, from, 3, h);
     let a = i * z;
@@ -86,9 +96,17 @@ fn put_end(area: &mut [u8], from: usize, ocf: &[u8], check: bool)
     }
 }
 
-// Lays the upcoming frame at the area's front.
-pub fn put_frame(s: Setting, x: Upcoming, batch: &[u8], insert: &[u8], ocf: &[u8], area: &mut [u8])
-    requires { ⌜ FrameFits s x (now batch) (now insert) (now ocf) (now area) ⌝ }
+// Lays the upcoming frame at the area's front, told where the first packet from its zone on starts.
+pub fn put_frame(
+    s: Setting,
+    x: Upcoming,
+    start: usize,
+    batch: &[u8],
+    insert: &[u8],
+    ocf: &[u8],
+    area: &mut [u8],
+)
+    requires { ⌜ FrameFits s x (now batch) (now insert) (now ocf) (now area) × StartsAt (x .lane .kind) (now batch) (x .number * x .zone) start ⌝ }
     ensures { λ _. ⌜ now (area .exit) ≡ laid (now (area .entry)) 0 (upcomingFrame s x (now (batch .entry)) (now (insert .entry)) (now (ocf .entry))) ⌝ }
 {
     let a = x.lane;
@@ -97,6 +115,6 @@ pub fn put_frame(s: Setting, x: Upcoming, batch: &[u8], insert: &[u8], ocf: &[u8
     put_front(area, s, c, a, x.count, insert);
     let from = 7 + c.octets + insert.len();
     let kind = a.kind;
-    put_data(area, from, kind, a.upid, z, batch, x.number);
+    put_data(area, from, kind, a.upid, z, batch, x.number, start);
     put_end(area, from + 3 + z, ocf, s.check);
 }

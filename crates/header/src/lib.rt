@@ -13,25 +13,25 @@ use rules::Setting;
 
 // The primary header before the count.
 pub struct Head {
-    pub version: u8,
+    pub length: usize,
+    pub octets: usize,
     pub craft: u16,
+    pub version: u8,
     pub bit: u8,
     pub vc: u8,
     pub map: u8,
     pub ending: u8,
-    pub length: usize,
     pub bypass: u8,
     pub command: u8,
     pub spare: u8,
     pub ocf: u8,
-    pub octets: usize,
 }
 
 // The data field before the zone.
 pub struct Data {
+    pub pointer: usize,
     pub rule: u8,
     pub upid: u8,
-    pub pointer: usize,
 }
 
 // The number that the first n octets spell, at most eight; of fewer, all of them.

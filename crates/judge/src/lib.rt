@@ -23,12 +23,12 @@ use rules::Verdict;
 // that is read also its construction rule, what its pointer points to, and where its zone begins and how many octets it has.
 pub struct Sight {
     pub channel: usize,
-    pub lane: Place,
     pub count: u64,
-    pub rule: u8,
-    pub place: Place,
     pub begin: usize,
     pub size: usize,
+    pub lane: Place,
+    pub place: Place,
+    pub rule: u8,
 }
 
 // What the checks say: refused by a number, idle, or seen on a listed channel.

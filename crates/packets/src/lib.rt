@@ -48,9 +48,14 @@ pub fn measured_of(n: usize, a: u8, b: u8, d: u8, e: u8) -> Measure
 pub fn measure_at(octets: &[u8]) -> Measure
     ensures { λ r. ⌜ r ≡ measure (now (octets .entry)) ⌝ }
 {
+    let n = octets.len();
+    // Nearly always there are enough octets, and then they are read as they stand.
+    if 6 <= n {
+        return measured_of(n, octets[0], octets[1], octets[4], octets[5]);
+    }
     let a = octet(octets, 0);
     let b = octet(octets, 1);
     let d = octet(octets, 4);
     let e = octet(octets, 5);
-    measured_of(octets.len(), a, b, d, e)
+    measured_of(n, a, b, d, e)
 }

@@ -1,4 +1,5 @@
-// The types that document 01 speaks of, and those that its rules decide by. Plain data, all of it, handed in and out by value.
+// The types that document 01 speaks of, and those that its rules decide by. Plain data, all of it, handed in and out by value; so a struct
+// has its wide fields first and its narrow ones last, whatever the paper's order: the gaps between them would be copied piece by piece.
 
 // Sizes in octets: of the held area, of a lane's part of it, of the least unit and record areas, of a record, of the longest batch.
 pub const HELD_SIZE: usize = 65536;
@@ -22,18 +23,18 @@ pub enum Kind {
 // A virtual channel with a service (0 sequence-controlled, 1 expedited), how many octets its count has, and whether its
 // frames have an operational control field.
 pub struct Channel {
+    pub octets: usize,
     pub vc: u8,
     pub service: u8,
-    pub octets: usize,
     pub ocf: bool,
 }
 
 // A listed channel, by its place in the list; a map; what the lane carries; the longest unit; the protocol number.
 pub struct Lane {
     pub channel: usize,
-    pub map: u8,
-    pub kind: Kind,
     pub longest: usize,
+    pub kind: Kind,
+    pub map: u8,
     pub upid: u8,
 }
 
@@ -41,20 +42,20 @@ pub struct Lane {
 // then how many of the channels are listed, and how many of the lanes are numbered: later slots say nothing.
 pub struct Setting {
     pub length: usize,
+    pub insert: usize,
+    pub listed: usize,
+    pub numbered: usize,
+    pub channels: [Channel; 8],
+    pub lanes: [Lane; 8],
     pub craft: u16,
     pub bit: u8,
-    pub insert: usize,
     pub check: bool,
-    pub listed: usize,
-    pub channels: [Channel; 8],
-    pub numbered: usize,
-    pub lanes: [Lane; 8],
 }
 
 // Whether a count is expected, and which.
 pub struct Expect {
-    pub known: bool,
     pub count: u64,
+    pub known: bool,
 }
 
 // What a reader keeps of a lane: how many octets it holds.
@@ -84,14 +85,14 @@ pub enum Outcome {
 
 // What the reader's set-up answers.
 pub struct Listener {
-    pub outcome: Outcome,
     pub state: Reader,
+    pub outcome: Outcome,
 }
 
 // What the writer's set-up and each write answer.
 pub struct Sender {
-    pub outcome: Outcome,
     pub state: Writer,
+    pub outcome: Outcome,
 }
 
 // The class of a frame.
@@ -104,13 +105,13 @@ pub enum Class {
 
 // What a read answers: class, units, unit octets, missing frames, and octets that were idle, fill or dropped.
 pub struct Answer {
-    pub class: Class,
     pub units: usize,
     pub octets: usize,
     pub missing: u64,
     pub idle: usize,
     pub fill: usize,
     pub dropped: usize,
+    pub class: Class,
 }
 
 // A read's answer, and the state after it.
@@ -167,9 +168,9 @@ pub struct Gap {
 
 // What the records of one read have in common: lane, virtual channel, map, service, and the finishing frame's count.
 pub struct Info {
+    pub count: u64,
     pub lane: u8,
     pub vc: u8,
     pub map: u8,
     pub service: u8,
-    pub count: u64,
 }

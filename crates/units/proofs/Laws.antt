@@ -79,6 +79,12 @@ pub hands-both : (x : DataUnit) (m : Made) → hands x m ≡ both (hands x nothi
 unfolding both
 hands-both x m = made-same refl (sym (zero-add _)) (sym (zero-add _)) (sym (zero-add _))
 
+pub idles-none : (m : Made) → m ≡ idles 0 m
+idles-none m = made-same refl (sym (zero-add _)) refl refl
+
+pub idles-idles : (a b : ℕ) (m : Made) → idles a (idles b m) ≡ idles (a + b) m
+idles-idles a b m = made-same refl (omega arith) refl refl
+
 pub idles-both : (n : ℕ) (m : Made) → idles n m ≡ both (idles n nothing) m
 unfolding both
 idles-both n m = made-same refl (omega arith) (sym (zero-add _)) (sym (zero-add _))

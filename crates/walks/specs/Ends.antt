@@ -1,7 +1,8 @@
--- How a walk over a zone ends.
+-- How a walk over a zone ends, and a run of E0 octets.
+use mathlib.Core.Path.{_≡_}
 use mathlib.Core.List.{List}
-use Prim.Native.Nat.{ℕ, _≤_}
-use lib.ListN.{length, drop}
+use Prim.Native.Nat.{ℕ, _≤_, _<_}
+use lib.ListN.{length, getD, drop}
 use Rattle.rules.specs.declared.Info.{Info}
 use Rattle.rules.specs.Reading.{Made, nothing, holds, drops}
 use Rattle.units.specs.declared.Tally.{Tally}
@@ -26,3 +27,9 @@ Within n (Dropped at) = at ≤ n
 pub record Left (i : Info) (t : Tally) (u r z : List ℕ) (whole : Made) (w : Walked) (u′ r′ : List ℕ) : Type 0 where
   pub within : Within (length z) (w .end)
   pub begun : Begun i t u r whole (ended z (w .end)) (w .tally) u′ r′
+
+-- From octet `from` on up to octet `to` there are E0 octets only.
+pub record Run (z : List ℕ) (from to : ℕ) : Type 0 where
+  pub begins : from ≤ to
+  pub inside : to ≤ length z
+  pub each : (i : ℕ) → from ≤ i → i < to → getD z i 0 ≡ 0xE0

@@ -5,7 +5,7 @@ ghost use lib.ListN.{length, drop};
 ghost use Rattle.rules.specs.Packets.{measure};
 ghost use Rattle.rules.specs.Reading.{nextOf, walk};
 ghost use Rattle.units.specs.Hands.{Room, Went};
-ghost use Rattle.walks.specs.Ends.{Left};
+ghost use Rattle.walks.specs.Ends.{Run, Left};
 use rules::Next;
 use units::Stand;
 use units::Tally;
@@ -30,6 +30,22 @@ fn next_at(longest: usize, octets: &[u8]) -> Next
 {
     let m = packets::measure_at(octets);
     fates::next_of(longest, m, octets.len())
+}
+
+// Where the run of E0 octets from octet `from` on ends. Each of them is an idle packet, so a walk that has just left one out leaves out
+// all of them in one step.
+fn run_end(zone: &[u8], from: usize) -> usize
+    requires { ⌜ from ≤ length (now zone) ⌝ }
+    ensures { λ r. ⌜ Run (now (zone .entry)) from r ⌝ }
+{
+    let mut i = from;
+    while i < zone.len() {
+        if zone[i] != 0xE0 {
+            return i;
+        }
+        i += 1;
+    }
+    i
 }
 
 // From octet `from` on, reads one packet after another.
@@ -59,8 +75,9 @@ fn walk_on(
                 at = e;
             }
             Next::Skip(n) => {
-                t.idle = t.idle + n;
-                at = at + n;
+                let e = run_end(zone, at + n);
+                t.idle = t.idle + (e - at);
+                at = e;
             }
             Next::Keep => {
                 break Walk::Held(at);

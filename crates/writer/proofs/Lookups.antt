@@ -1,24 +1,27 @@
 -- What a valid state and an accepted call give: slots that are there, an upcoming frame that can be laid, and the state after it.
-use mathlib.Core.Path.{_≡_, refl, ap, _∙_}
+use mathlib.Core.Path.{_≡_, refl, sym, ap, _∙_}
 use Prim.Native.Nat.{ℕ, zero, suc, _+_, _-_, _*_, _/_, _%_, _^_, _≤_, _<_}
-use native.Mathlib.Nat.{le-div-iff-mul-le, pow-le-pow-right, zero-lt-suc, mod-eq-of-lt}
+use native.Mathlib.Nat.{mul-le-mul, le-div-iff-mul-le, pow-le-pow-right, zero-lt-suc, mod-eq-of-lt}
 use native.Mathlib.Omega.{arith}
-use mathlib.Core.Bool.{true}
+use mathlib.Core.Bool.{true, false}
 use mathlib.Core.List.{List}
 use lib.ListN.{length, set}
 use Rattle.rules.specs.declared.Writer.{Writer}
 use Rattle.rules.specs.declared.Outcome.the-variants.{Done, Refused}
-use Rattle.rules.specs.Tests.{given}
+use Rattle.rules.specs.declared.Place.the-variants.{At, Nowhere}
+use Rattle.rules.specs.Tests.{Refusal, given}
 use Rattle.rules.specs.Areas.{laid}
 use Rattle.rules.specs.Settings.{lane, channelOf, count, number, zone, writerOk}
-use Rattle.rules.specs.Writing.{frames, frameOf, numberAfter, countAfter, writerAfter}
+use Rattle.rules.specs.Writing.{batchOk, frames, frameOf, numberAfter, countAfter, writerAfter}
 use Rattle.rules.specs.Calls.{Sent, writeRefusals, written, write}
 use Rattle.rules.specs.Valid.{Good}
 use Rattle.rules.proofs.Valid.{good-writer, good-channelOf}
 use Rattle.rules.proofs.Calls.{Accepted}
 use Rattle.rules.proofs.Written.{zone-small}
 use Rattle.frames.specs.declared.Upcoming.{Upcoming}
-use Rattle.writer.specs.Lookups.{upcomingOf}
+use Rattle.batches.specs.Starts.{Keeps}
+use Rattle.writer.specs.declared.Judged.{Judged}
+use Rattle.writer.specs.Lookups.{upcomingOf, lateRefusals, batchRefusals, Judges}
 use Rattle.frames.specs.Fits.{upcomingFrame, FrameFits}
 
 -- ---- slots
@@ -67,6 +70,47 @@ ready w l batch insert ocf area a =
       small = zone-small (w .setting) g (channelOf (w .setting) l);
       room = omega (arith, a .room, a .insert, a .ocf, c .room);
     }
+
+-- The octet at which its zone begins can be worked out before it is known whether the batch has it.
+pub begins-small : (w : Writer) (l : ℕ) (x : Upcoming) → writerOk w ≡ true → l < w .setting .numbered → x ≡ upcomingOf w l
+    → x .number * x .zone < 2 ^ 64
+unfolding upcomingOf
+begins-small w l x ok h e =
+    let g = good-writer w ok in
+    let n : x .number ≤ 32767 = rw e (g .numbers l h) in
+    let z : x .zone ≤ 4096 = rw e (zone-small (w .setting) (g .setting) (channelOf (w .setting) l)) in
+    let m : x .number * x .zone ≤ 32767 * 4096 = mul-le-mul n z in
+    omega arith
+
+-- ---- what the checks say
+
+-- A batch that keeps its rule, and what comes after it; or one that does not.
+pub judged-kept : (w : Writer) (l : ℕ) (batch insert ocf : List ℕ) (x : Upcoming) (start n : ℕ) → x ≡ upcomingOf w l
+    → Keeps (x .lane .kind) (x .lane .longest) batch (x .number * x .zone) (At start) → n ≡ given (lateRefusals (w .setting) x batch insert ocf)
+    → Judges w l batch (batchRefusals w l batch insert ocf) (record { start = start; number = n })
+unfolding given batchRefusals upcomingOf
+judged-kept w l batch insert ocf x start n e k m =
+    let q : Keeps ((lane (w .setting) l) .kind) ((lane (w .setting) l) .longest) batch (number w l * zone (w .setting) (channelOf (w .setting) l)) (At start) =
+    rw e at k in
+    record { says = m ∙ ap (λ (y : Upcoming). given (lateRefusals (w .setting) y batch insert ocf)) e ∙ rw (q .0); starts = λ z. q .1 }
+
+pub judged-broken : (w : Writer) (l : ℕ) (batch insert ocf : List ℕ) (x : Upcoming) (j : Judged) → x ≡ upcomingOf w l
+    → Keeps (x .lane .kind) (x .lane .longest) batch (x .number * x .zone) Nowhere → j ≡ record { start = 0; number = 14 }
+    → Judges w l batch (batchRefusals w l batch insert ocf) j
+unfolding given batchRefusals upcomingOf
+judged-broken w l batch insert ocf x j e k r =
+    let q : batchOk ((lane (w .setting) l) .kind) ((lane (w .setting) l) .longest) batch ≡ false = rw e at k in
+    record { says = rw (q, r); starts = λ z. let n : j .number ≡ 14 = ap (λ (y : Judged). y .number) r in absurd (omega arith) }
+
+module _ {w : Writer} {l : ℕ} {batch : List ℕ} where
+  pub judged-refused : {rows : List Refusal} {j : Judged} {n : ℕ} → j ≡ record { start = 0; number = n } → (n ≡ 0 → ⊥) → n ≡ given rows
+      → Judges w l batch rows j
+  judged-refused {rows} {j} r some e =
+      let m = ap (λ (y : Judged). y .number) r in
+      record { says = m ∙ e; starts = λ z. absurd (some (sym m ∙ z)) }
+
+  pub judged-same : {rows others : List Refusal} {j : Judged} → given rows ≡ given others → Judges w l batch rows j → Judges w l batch others j
+  judged-same e q = record { says = q .says ∙ e; starts = q .starts }
 
 -- ---- the state after
 

@@ -7,9 +7,10 @@ ghost use Rattle.rules.specs.Settings.{channelOf, number, zone, writerOk};
 ghost use Rattle.rules.specs.Writing.{frames, numberAfter, writerAfter};
 ghost use Rattle.rules.specs.Calls.{writeRefusals};
 ghost use Rattle.rules.specs.Promises.{WriterStarts, WriteGives};
-ghost use Rattle.writer.specs.Lookups.{upcomingOf, lateRefusals, batchRefusals};
+ghost use Rattle.writer.specs.Lookups.{upcomingOf, lateRefusals, batchRefusals, Judges};
 use frames::Upcoming;
 use rules::Outcome;
+use rules::Place;
 use rules::Sender;
 use rules::Setting;
 use rules::Writer;
@@ -20,17 +21,21 @@ fn upcoming_of(w: Writer, l: usize) -> Upcoming
     ensures { λ r. ⌜ r ≡ upcomingOf w l ⌝ }
 {
     let s = w.setting;
-    let a = s.lanes[l];
+    let lanes = s.lanes;
+    let a = lanes[l];
     let p = a.channel;
-    let c = s.channels[p];
+    let channels = s.channels;
+    let c = channels[p];
     let z = setting::zone_of(s, c);
+    let counts = w.counts;
+    let next = w.next;
     Upcoming {
         place: p,
         lane: a,
         channel: c,
         zone: z,
-        count: w.counts[p],
-        number: w.next[l],
+        count: counts[p],
+        number: next[l],
     }
 }
 
@@ -47,12 +52,11 @@ fn number_after(i: usize, n: usize) -> usize
     i + 1
 }
 
-// The state after a frame of a batch of n octets on lane l.
-fn after(w: Writer, l: usize, batch: &[u8]) -> Writer
-    requires { ⌜ (writerOk w ≡ true) × (l < w .setting .numbered) × (number w l < frames (zone (w .setting) (channelOf (w .setting) l)) (now batch)) ⌝ }
+// The state after a frame of a batch on lane l, of which x was looked up.
+fn after(w: Writer, l: usize, x: Upcoming, batch: &[u8]) -> Writer
+    requires { ⌜ (writerOk w ≡ true) × (l < w .setting .numbered) × (x ≡ upcomingOf w l) × (number w l < frames (zone (w .setting) (channelOf (w .setting) l)) (now batch)) ⌝ }
     ensures { λ r. ⌜ r ≡ writerAfter w l (now (batch .entry)) ⌝ }
 {
-    let x = upcoming_of(w, l);
     let c = x.channel;
     let m = octets::modulus(c.octets);
     let n = batches::frames_of(x.zone, batch.len());
@@ -85,38 +89,62 @@ fn late_refusal(s: Setting, x: Upcoming, batch: &[u8], insert: &[u8], ocf: &[u8]
     0
 }
 
-// 14 and those after it, or 0, of a lane that is there.
-fn batch_refusal(w: Writer, l: usize, batch: &[u8], insert: &[u8], ocf: &[u8]) -> u8
+// What the checks of a write say: a refusal's number, or 0; and then where the first packet from the frame's zone on starts.
+struct Judged {
+    start: usize,
+    number: u8,
+}
+
+// 14 and those after it, of a lane that is there.
+fn batch_refusal(w: Writer, l: usize, batch: &[u8], insert: &[u8], ocf: &[u8]) -> Judged
     requires { ⌜ (writerOk w ≡ true) × (l < w .setting .numbered) ⌝ }
-    ensures { λ r. ⌜ r ≡ given (batchRefusals w l (now (batch .entry)) (now (insert .entry)) (now (ocf .entry))) ⌝ }
+    ensures { λ r. ⌜ Judges w l (now (batch .entry)) (batchRefusals w l (now (batch .entry)) (now (insert .entry)) (now (ocf .entry))) r ⌝ }
 {
     let x = upcoming_of(w, l);
     let a = x.lane;
     let kind = a.kind;
-    let keeps = batches::batch_ok(kind, a.longest, batch);
-    if keeps {
-        let s = w.setting;
-        return late_refusal(s, x, batch, insert, ocf);
+    let p = batches::batch_start(kind, a.longest, batch, x.number * x.zone);
+    match p {
+        Place::At(start) => {
+            let s = w.setting;
+            let n = late_refusal(s, x, batch, insert, ocf);
+            return Judged {
+                start: start,
+                number: n,
+            };
+        }
+        Place::Nowhere => {
+            return refused(14);
+        }
     }
-    14
 }
 
-// The first refusal that applies to a write, or 0.
-fn refusal(w: Writer, l: usize, batch: &[u8], insert: &[u8], ocf: &[u8], area: &[u8]) -> u8
-    ensures { λ r. ⌜ r ≡ given (writeRefusals w l (now (batch .entry)) (now (insert .entry)) (now (ocf .entry)) (now (area .entry))) ⌝ }
+// Refused by a number.
+fn refused(number: u8) -> Judged
+    ensures { λ r. ⌜ r ≡ record { start = 0; number = number } ⌝ }
+{
+    Judged {
+        start: 0,
+        number: number,
+    }
+}
+
+// The first refusal that applies to a write.
+fn refusal(w: Writer, l: usize, batch: &[u8], insert: &[u8], ocf: &[u8], area: &[u8]) -> Judged
+    ensures { λ r. ⌜ Judges w l (now (batch .entry)) (writeRefusals w l (now (batch .entry)) (now (insert .entry)) (now (ocf .entry)) (now (area .entry))) r ⌝ }
 {
     let valid = setting::writer_ok(w);
     if valid {
         let s = w.setting;
         if area.len() < s.length {
-            return 2;
+            return refused(2);
         }
         if s.numbered <= l {
-            return 13;
+            return refused(13);
         }
         return batch_refusal(w, l, batch, insert, ocf);
     }
-    1
+    refused(1)
 }
 
 // ---- the calls
@@ -151,12 +179,13 @@ pub fn write(
 ) -> Sender
     ensures { λ r. ⌜ WriteGives w l (now (batch .entry)) (now (insert .entry)) (now (ocf .entry)) (now (area .entry)) r (now (area .exit)) ⌝ }
 {
-    let n = refusal(w, l, batch, insert, ocf, area);
+    let j = refusal(w, l, batch, insert, ocf, area);
+    let n = j.number;
     if n == 0 {
         let x = upcoming_of(w, l);
         let s = w.setting;
-        frames::put_frame(s, x, batch, insert, ocf, area);
-        let t = after(w, l, batch);
+        frames::put_frame(s, x, j.start, batch, insert, ocf, area);
+        let t = after(w, l, x, batch);
         return Sender {
             outcome: Outcome::Done,
             state: t,

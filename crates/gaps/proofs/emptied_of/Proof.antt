@@ -44,7 +44,7 @@ loop-again c =
     let l = c .before .before .before .before in
     let n = l .before .before in
     let a = n .before in
-    let g : length (a .args .s .lanes) ≡ 8 = (simp length-map at (a .good .0 .1 .1 .1 .1 .1 .1 .1 .1 .1 .1 .0 .1 .0 .1)) in
+    let g : length (a .args .s .lanes) ≡ 8 = (simp length-map at (a .good .0 .1 .1 .1 .1 .1 .1 .1 .0 .1 .0 .1)) in
     let j : length (a .args .slots) ≡ 8 = search needs in
     let at = c .before .before .before .loop-test .taken in
     ⊎-elim
@@ -56,7 +56,7 @@ loop-again c =
 returns : tie.Need-returns Inv-loop μ-loop
 returns c =
     let a = c .before .before .before .before in
-    let g : length (a .args .s .lanes) ≡ 8 = (simp length-map at (a .good .0 .1 .1 .1 .1 .1 .1 .1 .1 .1 .1 .0 .1 .0 .1)) in
+    let g : length (a .args .s .lanes) ≡ 8 = (simp length-map at (a .good .0 .1 .1 .1 .1 .1 .1 .1 .0 .1 .0 .1)) in
     emptied-now (a .args .s) (a .args .c) (a .pre) g _ _ _ (c .loop-test .left) (c .before .loop .inv)
 
 pub emptied-of-spec : {M : Type 1} → statement M

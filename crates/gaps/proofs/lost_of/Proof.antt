@@ -47,7 +47,7 @@ loop-again : tie.Need-loop-again Inv-loop μ-loop
 loop-again c =
     let l = c .before .before .before .before in
     let a = l .before .before in
-    let g : length (a .args .s .lanes) ≡ 8 = (simp length-map at (a .good .0 .1 .1 .1 .1 .1 .1 .1 .1 .1 .1 .0 .1 .0 .1)) in
+    let g : length (a .args .s .lanes) ≡ 8 = (simp length-map at (a .good .0 .1 .1 .1 .1 .1 .1 .1 .0 .1 .0 .1)) in
     let j : length (a .args .t3) ≡ 8 = search needs in
     let at = c .before .before .before .loop-test .taken in
     ⊎-elim (λ w. loses (a .args .s) (a .args .c) (a .pre .0) g _ _ _ _ j at (a .pre .1 _ at) (w .0 .taken) (w .3) (l .loop .inv))
@@ -56,7 +56,7 @@ loop-again c =
 returns : tie.Need-returns Inv-loop μ-loop
 returns c =
     let a = c .before .before .before in
-    let g : length (a .args .s .lanes) ≡ 8 = (simp length-map at (a .good .0 .1 .1 .1 .1 .1 .1 .1 .1 .1 .1 .0 .1 .0 .1)) in
+    let g : length (a .args .s .lanes) ≡ 8 = (simp length-map at (a .good .0 .1 .1 .1 .1 .1 .1 .1 .0 .1 .0 .1)) in
     lost-now (a .args .s) (a .args .c) (a .pre .0) g _ _ _ (c .loop-test .left) (c .before .loop .inv)
 
 pub lost-of-spec : {M : Type 1} → statement M

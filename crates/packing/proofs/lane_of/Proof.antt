@@ -22,7 +22,7 @@ no-lane-requires c κs = search needs
 returns-2 : tie.Need-returns-2
 returns-2 c =
     let a = c .before .before in
-    let g : length (a .args .t1 .lanes) ≡ 8 = simp length-map at (a .good .0 .1 .1 .1 .1 .1 .1 .1 .1 .1 .1 .0 .1 .0 .1) in
+    let g : length (a .args .t1 .lanes) ≡ 8 = simp length-map at (a .good .0 .1 .1 .1 .1 .1 .1 .1 .0 .1 .0 .1) in
     c .no-lane .ensures ∙ sym (List·getD-eq-default (a .args .t1 .lanes) noLane (omega (arith, g, c .before .if1 .left)))
 
 pub lane-of-spec : {M : Type 1} → statement M

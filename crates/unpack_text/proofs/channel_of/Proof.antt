@@ -19,7 +19,7 @@ returns c = search needs
 returns-2 : tie.Need-returns-2
 returns-2 c =
     let a = c .before in
-    let g : length (a .args .t1 .lanes) ≡ 8 = (simp length-map at (a .good .0 .1 .1 .1 .1 .1 .1 .1 .1 .1 .1 .0 .1 .0 .1)) in
+    let g : length (a .args .t1 .lanes) ≡ 8 = (simp length-map at (a .good .0 .1 .1 .1 .1 .1 .1 .1 .0 .1 .0 .1)) in
     lane-out (a .args .t1) (a .args .l) (omega (arith, g, c .if1 .left))
 
 pub channel-of-spec : {M : Type 1} → statement M

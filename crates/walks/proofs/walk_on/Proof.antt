@@ -6,7 +6,7 @@ use Prim.Native.Nat.{_-_}
 use native.Mathlib.Omega.{arith}
 use lib.ListN.{length}
 use borrow.Author.Needs.{needs}
-use Rattle.walks.proofs.Walks.{Walking, starts, finished, given, skipped, kept, lost, turn-room, turn-on}
+use Rattle.walks.proofs.Walks.{Walking, starts, finished, given, some-left-out, skipped, kept, lost, turn-room, turn-on, turn-to}
 use Rattle.units.proofs.Laws.{begun-units, begun-records, only-counted}
 use Rattle.walks.proofs.walk_on.Statement.{statement}
 use Rattle.walks.proofs.walk_on.Tie as tie
@@ -76,29 +76,39 @@ loop-again c =
 enum-known-next-2 : tie.Need-enum-known-next-2 Inv-loop μ-loop
 enum-known-next-2 c = search needs
 
+add-run-end : tie.Need-add-run-end Inv-loop μ-loop
+add-run-end c = let left-out = some-left-out (c .before .before .before .before .before .before .loop .inv) (c .before .before .before .next-at .ensures)
+    (c .before .next2 .given .1) in search needs
+
+run-end-requires : tie.Need-run-end-requires Inv-loop μ-loop
+run-end-requires c κs = some-left-out (c .before .before .before .before .before .before .loop .inv) (c .before .before .before .next-at .ensures)
+    (c .before .next2 .given .1) .1
+
+sub-t : tie.Need-sub-t Inv-loop μ-loop
+sub-t c = let run = c .run-end .ensures in omega (arith, run .begins)
+
 add-t : tie.Need-add-t Inv-loop μ-loop
 add-t c =
     let c₈ = c .before .before .before .before .before .before .before .before in
-    let room = turn-room (c .before .before .before .before .before .before .before .loop .inv) (c₈ .before .before .before .before .pre .1)
-    (skipped (c .before .before .before .before .before .before .before .loop .inv) (c .before .before .before .before .next-at .ensures)
-    (c .before .before .next2 .given .1)) in
+    let room = turn-room (c₈ .loop .inv) (c₈ .before .before .before .before .before .pre .1)
+    (skipped (c₈ .loop .inv) (c .before .before .before .before .before .next-at .ensures) (c .before .before .before .next2 .given .1)
+    (c .before .run-end .ensures)) in
     search needs
 
-add-at : tie.Need-add-at Inv-loop μ-loop
-add-at c = let turn = skipped (c .before .before .before .before .before .before .before .loop .inv) (c .before .before .before .before .next-at .ensures)
-    (c .before .before .next2 .given .1) in search needs
-
 loop-less-2 : tie.Need-loop-less-2 Inv-loop μ-loop
-loop-less-2 c = let turn = skipped (c .before .before .before .before .before .before .before .loop .inv)
-    (c .before .before .before .before .next-at .ensures) (c .before .before .next2 .given .1) in omega arith
+loop-less-2 c =
+    let c₈ = c .before .before .before .before .before .before .before .before in
+    let turn = skipped (c₈ .loop .inv) (c .before .before .before .before .before .next-at .ensures) (c .before .before .before .next2 .given .1)
+    (c .before .run-end .ensures) in
+    omega (arith, turn .some, turn .inside)
 
 loop-again-2 : tie.Need-loop-again-2 Inv-loop μ-loop
 loop-again-2 c =
     let c₈ = c .before .before .before .before .before .before .before .before in
-    turn-on (c .before .before .before .before .before .before .before .loop .inv) (c₈ .before .before .before .before .pre .1)
-    (skipped (c .before .before .before .before .before .before .before .loop .inv) (c .before .before .before .before .next-at .ensures)
-    (c .before .before .next2 .given .1))
-    (only-counted refl refl refl (omega arith) (omega arith) (omega arith))
+    let run = c .before .run-end .ensures in
+    turn-to (c₈ .loop .inv) (c₈ .before .before .before .before .before .pre .1)
+    (skipped (c₈ .loop .inv) (c .before .before .before .before .before .next-at .ensures) (c .before .before .before .next2 .given .1) run)
+    (omega (arith, run .begins)) (only-counted refl refl refl (omega arith) (omega arith) (omega arith))
 
 enum-told : tie.Need-enum-told Inv-loop μ-loop
 enum-told c = search needs
@@ -170,8 +180,10 @@ walk-on-spec =
     loop-less
     loop-again
     enum-known-next-2
+    add-run-end
+    run-end-requires
+    sub-t
     add-t
-    add-at
     loop-less-2
     loop-again-2
     enum-told

@@ -7,31 +7,31 @@ use Rattle.writer.proofs.upcoming_of.Statement.{statement}
 use Rattle.writer.proofs.upcoming_of.Tie as tie
 
 mul-a : tie.Need-mul-a
-mul-a c = let q = slots _ _ (c .before .pre .0) (c .before .pre .1) in omega (arith, q .eight)
+mul-a c = let q = slots _ _ (c .before .before .pre .0) (c .before .before .pre .1) in omega (arith, q .eight)
 
-element-copy-out-a : tie.Need-element-copy-out-a
-element-copy-out-a c = slots _ _ (c .before .pre .0) (c .before .pre .1) .eight
+array-copy-out-a : tie.Need-array-copy-out-a
+array-copy-out-a c = slots _ _ (c .before .before .pre .0) (c .before .before .pre .1) .eight
 
 mul-c : tie.Need-mul-c
-mul-c c = let q = slots _ _ (c .before .before .pre .0) (c .before .before .pre .1) in omega (arith, q .place)
+mul-c c = let q = slots _ _ (c .before .before .before .before .pre .0) (c .before .before .before .before .pre .1) in omega (arith, q .place)
 
-element-copy-out-c : tie.Need-element-copy-out-c
-element-copy-out-c c = slots _ _ (c .before .before .pre .0) (c .before .before .pre .1) .place
+array-copy-out-c : tie.Need-array-copy-out-c
+array-copy-out-c c = slots _ _ (c .before .before .before .before .pre .0) (c .before .before .before .before .pre .1) .place
 
 zone-of-requires : tie.Need-zone-of-requires
 zone-of-requires c κs = search needs
 
-mul-t10 : tie.Need-mul-t10
-mul-t10 c = let q = slots _ _ (c .before .before .before .before .pre .0) (c .before .before .before .before .pre .1) in omega (arith, q .place)
+mul-t12 : tie.Need-mul-t12
+mul-t12 c = let q = slots _ _ (c .before .before .before .before .before .before .before .before .pre .0) (c .before .before .before .before .before .before .before .before .pre .1) in omega (arith, q .place)
 
-element-copy-out-t19 : tie.Need-element-copy-out-t19
-element-copy-out-t19 c = slots _ _ (c .before .before .before .before .pre .0) (c .before .before .before .before .pre .1) .place
+array-read-t21 : tie.Need-array-read-t21
+array-read-t21 c = slots _ _ (c .before .before .before .before .before .before .before .before .pre .0) (c .before .before .before .before .before .before .before .before .pre .1) .place
 
-mul-t20 : tie.Need-mul-t20
-mul-t20 c = let q = slots _ _ (c .before .before .before .before .before .pre .0) (c .before .before .before .before .before .pre .1) in omega (arith, q .eight)
+mul-t22 : tie.Need-mul-t22
+mul-t22 c = let q = slots _ _ (c .before .before .before .before .before .before .before .before .pre .0) (c .before .before .before .before .before .before .before .before .pre .1) in omega (arith, q .eight)
 
-element-copy-out-t23 : tie.Need-element-copy-out-t23
-element-copy-out-t23 c = slots _ _ (c .before .before .before .before .before .pre .0) (c .before .before .before .before .before .pre .1) .eight
+array-read-t25 : tie.Need-array-read-t25
+array-read-t25 c = slots _ _ (c .before .before .before .before .before .before .before .before .pre .0) (c .before .before .before .before .before .before .before .before .pre .1) .eight
 
 returns : tie.Need-returns
 unfolding upcomingOf
@@ -42,12 +42,12 @@ upcoming-of-spec =
     tie.close
     (tie.spec
     mul-a
-    element-copy-out-a
+    array-copy-out-a
     mul-c
-    element-copy-out-c
+    array-copy-out-c
     zone-of-requires
-    mul-t10
-    element-copy-out-t19
-    mul-t20
-    element-copy-out-t23
+    mul-t12
+    array-read-t21
+    mul-t22
+    array-read-t25
     returns)
