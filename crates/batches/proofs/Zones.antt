@@ -4,7 +4,6 @@ use mathlib.Core.List.{List}
 use Prim.Native.Nat.{ℕ, _+_, _-_, _*_, _/_, _%_, _<_}
 use native.Mathlib.Nat.{add-mul, one-mul, mul-one, mod-lt, div-add-mod', div-lt-self, div-eq-of-lt-le}
 use native.Mathlib.Omega.{arith}
-use lib.ListN.{length}
 use Rattle.rules.specs.declared.Kind.{Kind}
 use Rattle.rules.specs.declared.Kind.the-variants.{Packets, Access}
 use Rattle.rules.specs.Writing.{offsetOf}

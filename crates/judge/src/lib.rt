@@ -139,8 +139,10 @@ fn judge_data(s: Setting, c: usize, l: usize, k: u64, frame: &[u8]) -> Sighting
     requires { ⌜ OnChannel s c (now frame) × (l < s .numbered) × (lane s l .channel ≡ c) × (k ≡ countIn (channel s c) (now frame)) ⌝ }
     ensures { λ r. ⌜ r ≡ sightOf s (now (frame .entry)) (judgeData s c l (now (frame .entry))) ⌝ }
 {
-    let a = s.lanes[l];
-    let ch = s.channels[c];
+    let lanes = s.lanes;
+    let a = lanes[l];
+    let channels = s.channels;
+    let ch = channels[c];
     let z = setting::zone_for(s, ch, frame.len());
     let at = 7 + ch.octets + s.insert;
     let d = header::data_of(&frame[at..]);
@@ -210,7 +212,8 @@ fn judge_listed(s: Setting, c: usize, h: Head, frame: &[u8]) -> Sighting
     requires { ⌜ OnChannel s c (now frame) × (h ≡ headOf (now frame)) ⌝ }
     ensures { λ r. ⌜ (r ≡ sightOf s (now (frame .entry)) (judgeListed s c (now (frame .entry)))) × Fitting s r ⌝ }
 {
-    let ch = s.channels[c];
+    let channels = s.channels;
+    let ch = channels[c];
     if h.octets != ch.octets {
         return Sighting::Refused(10);
     }

@@ -338,7 +338,8 @@ fn count_ok(s: Setting, i: usize, x: u64) -> bool
     requires { ⌜ (settingOk s ≡ true) × (i < s .listed) ⌝ }
     ensures { λ r. ⌜ r ≡ (x <? 256 ^ (channel s i) .octets) ⌝ }
 {
-    let c = s.channels[i];
+    let channels = s.channels;
+    let c = channels[i];
     let m = octets::modulus(c.octets);
     x < m
 }
@@ -463,10 +464,11 @@ pub fn channel_at(s: Setting, vc: u8, service: u8) -> Place
     requires { ⌜ s .listed ≤ 8 ⌝ }
     ensures { λ r. ⌜ r ≡ channelAt s vc service ⌝ }
 {
+    let channels = s.channels;
     let n = s.listed;
     let mut i: usize = 0;
     while i < n {
-        let c = s.channels[i];
+        let c = channels[i];
         let found = channel_is(c, vc, service);
         if found {
             return Place::At(i);

@@ -54,7 +54,8 @@ returns c =
     c .before .before .put-end .ensures
     ∙ ap (λ (y : List ℕ). laid y (from + 3 + x .zone) (q .ocf .now ++ cond (q .s .check) (be 2 (checkOf (take (from + 3 + x .zone) y ++ q .ocf .now))) []))
     (c .before .before .before .before .before .before .put-data .ensures ∙ ap (λ (y : List ℕ). laid y from d) (c₈ .before .before .before .put-front .ensures))
-    ∙ frame-laid (q .area .now) a d (q .ocf .now) (q .s .check) from (x .zone) (sym la) (sym ld) (omega (arith, c₁₆ .before .before .before .pre .0 .room, la, ld))
+    ∙ frame-laid (q .area .now) a d (q .ocf .now) (q .s .check) from (x .zone) (sym la) (sym ld)
+    (omega (arith, c₁₆ .before .before .before .pre .0 .room, la, ld))
     ∙ ap (laid (q .area .now) 0) (sym (frame-is (q .s) x (q .batch .now) (q .insert .now) (q .ocf .now)))
 
 pub put-frame-spec : {M : Type 1} → statement M

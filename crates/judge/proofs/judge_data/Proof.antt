@@ -9,35 +9,43 @@ use Rattle.judge.proofs.judge_data.Statement.{statement}
 use Rattle.judge.proofs.judge_data.Tie as tie
 
 mul-a : tie.Need-mul-a
-mul-a c = omega (arith, lane-eight _ _ (c .before .pre .0 .ok) (c .before .pre .1))
+mul-a c = omega (arith, lane-eight _ _ (c .before .before .pre .0 .ok) (c .before .before .pre .1))
 
-element-copy-out-a : tie.Need-element-copy-out-a
-element-copy-out-a c = lane-eight _ _ (c .before .pre .0 .ok) (c .before .pre .1)
+array-copy-out-a : tie.Need-array-copy-out-a
+array-copy-out-a c = lane-eight _ _ (c .before .before .pre .0 .ok) (c .before .before .pre .1)
 
 mul-ch : tie.Need-mul-ch
-mul-ch c = omega (arith, fits _ _ (c .before .before .pre .0 .ok) (c .before .before .pre .0 .listed) .eight)
+mul-ch c = omega (arith, fits _ _ (c .before .before .before .before .pre .0 .ok) (c .before .before .before .before .pre .0 .listed) .eight)
 
-element-copy-out-ch : tie.Need-element-copy-out-ch
-element-copy-out-ch c = fits _ _ (c .before .before .pre .0 .ok) (c .before .before .pre .0 .listed) .eight
+array-copy-out-ch : tie.Need-array-copy-out-ch
+array-copy-out-ch c = fits _ _ (c .before .before .before .before .pre .0 .ok) (c .before .before .before .before .pre .0 .listed) .eight
 
 zone-for-requires : tie.Need-zone-for-requires
 zone-for-requires c κs = search needs
 
 add-at : tie.Need-add-at
-add-at c = let q = fits _ _ (c .before .before .before .before .before .pre .0 .ok) (c .before .before .before .before .before .pre .0 .listed) in omega
-    (arith, q .seven)
+add-at c =
+    let p = c .before .before .before .before .before .before .before .pre .0 in
+    let q = fits _ _ (p .ok) (p .listed) in
+    omega (arith, q .seven)
 
 add-at-2 : tie.Need-add-at-2
-add-at-2 c = let q = fits _ _ (c .before .before .before .before .before .pre .0 .ok) (c .before .before .before .before .before .pre .0 .listed) in omega
-    (arith, q .seven, q .insert)
+add-at-2 c =
+    let p = c .before .before .before .before .before .before .before .before .pre .0 in
+    let q = fits _ _ (p .ok) (p .listed) in
+    omega (arith, q .seven, q .insert)
 
 sub-data-of : tie.Need-sub-data-of
-sub-data-of c = let q = fits _ _ (c .before .before .before .before .before .pre .0 .ok) (c .before .before .before .before .before .pre .0 .listed) in omega
-    (arith, q .inside, c .before .before .before .before .before .pre .0 .whole)
+sub-data-of c =
+    let p = c .before .before .before .before .before .before .before .before .pre .0 in
+    let q = fits _ _ (p .ok) (p .listed) in
+    omega (arith, q .inside, p .whole)
 
 part-data-of-start : tie.Need-part-data-of-start
-part-data-of-start c = let q = fits _ _ (c .before .before .before .before .before .pre .0 .ok) (c .before .before .before .before .before .pre .0 .listed)
-    in omega (arith, q .inside, c .before .before .before .before .before .pre .0 .whole)
+part-data-of-start c =
+    let p = c .before .before .before .before .before .before .before .before .pre .0 in
+    let q = fits _ _ (p .ok) (p .listed) in
+    omega (arith, q .inside, p .whole)
 
 part-data-of-end : tie.Need-part-data-of-end
 part-data-of-end c = search needs
@@ -52,25 +60,26 @@ returns : tie.Need-returns
 unfolding sightOf
 returns c =
     let c₈ = c .before .before .before .before .before .before .before .before in
-    let a = c₈ .before .args in
-    let e = refused-12 (a .t1) (a .frame .now) (a .c) (a .l) _ _ (c .before .before .before .before .before .zone-for .ensures)
+    let a = c₈ .before .before .before .before .args in
+    let e = refused-12 (a .s) (a .frame .now) (a .c) (a .l) _ _ (c .before .before .before .before .before .before .zone-for .ensures)
     (c .before .before .data-of .ensures) _ (c .before .data-wrong .ensures) (c .if1 .taken) in
-    ap (sightOf (a .t1) (a .frame .now)) (sym e)
+    ap (sightOf (a .s) (a .frame .now)) (sym e)
 
 points-to-requires : tie.Need-points-to-requires
 points-to-requires c κs = search needs
 
-add-t23 : tie.Need-add-t23
-add-t23 c =
+add-t16 : tie.Need-add-t16
+add-t16 c =
     let c₈ = c .before .before .before .before .before .before .before .before in
-    let q = fits _ _ (c₈ .before .before .pre .0 .ok) (c₈ .before .before .pre .0 .listed) in omega (arith, q .seven, q .insert)
+    let p = c₈ .before .before .before .before .before .pre .0 in
+    let q = fits _ _ (p .ok) (p .listed) in omega (arith, q .seven, q .insert)
 
 returns-2 : tie.Need-returns-2
 returns-2 c =
     let c₈ = c .before .before .before .before .before .before .before .before in
-    let a = c₈ .before .before .args in
-    let p = c₈ .before .before .pre in
-    seen-is (a .t1) (a .frame .now) (a .c) (a .l) _ _ (c .before .before .before .before .before .before .zone-for .ensures)
+    let a = c₈ .before .before .before .before .before .args in
+    let p = c₈ .before .before .before .before .before .pre in
+    seen-is (a .s) (a .frame .now) (a .c) (a .l) _ _ (c .before .before .before .before .before .before .before .zone-for .ensures)
     (c .before .before .before .data-of .ensures) _ (c .before .before .data-wrong .ensures) (c .before .if1 .left)
     (p .2) (a .k) (p .3) _ (c .points-to .ensures)
 
@@ -79,9 +88,9 @@ judge-data-spec =
     tie.close
     (tie.spec
     mul-a
-    element-copy-out-a
+    array-copy-out-a
     mul-ch
-    element-copy-out-ch
+    array-copy-out-ch
     zone-for-requires
     add-at
     add-at-2
@@ -92,5 +101,5 @@ judge-data-spec =
     data-wrong-requires
     returns
     points-to-requires
-    add-t23
+    add-t16
     returns-2)

@@ -2,20 +2,22 @@
 use Prim.Native.Nat.{ℕ, _-_, _<_}
 use mathlib.Core.Bool.{false, _&&_}
 use mathlib.Core.Path.{_≡_, sym, _∙_}
+use lib.ListN.{getD}
 use borrow.Author.Needs.{needs}
 use borrow.Author.Count.{below-none, below-more}
 use Rattle.rules.specs.Tests.{_=?_}
-use Rattle.rules.specs.Settings.{channel}
+use Rattle.rules.specs.Settings.{noChannel}
 use Rattle.rules.specs.Refusals.{channelAt}
 use Rattle.setting.proofs.Loops.{finds, misses}
 use Rattle.setting.proofs.channel_at.Statement.{statement}
 use Rattle.setting.proofs.channel_at.Tie as tie
 
 abbrev Inv-loop : tie.InvT-loop
-Inv-loop vc service s n i₀ i = (k : ℕ) → k < i → ((channel s k) .vc =? vc && (channel s k) .service =? service) ≡ false
+Inv-loop vc service channels n i₀ i =
+    (k : ℕ) → k < i → ((getD channels k noChannel) .vc =? vc && (getD channels k noChannel) .service =? service) ≡ false
 
 abbrev μ-loop : tie.MeasureT-loop
-μ-loop vc service s n i₀ i = n - i
+μ-loop vc service channels n i₀ i = n - i
 
 loop-holds : tie.Need-loop-holds Inv-loop μ-loop
 loop-holds c = below-none _
@@ -23,8 +25,8 @@ loop-holds c = below-none _
 mul-c : tie.Need-mul-c Inv-loop μ-loop
 mul-c c = search needs
 
-element-copy-out-c : tie.Need-element-copy-out-c Inv-loop μ-loop
-element-copy-out-c c = search needs
+array-copy-out-c : tie.Need-array-copy-out-c Inv-loop μ-loop
+array-copy-out-c c = search needs
 
 channel-is-requires : tie.Need-channel-is-requires Inv-loop μ-loop
 channel-is-requires c κs = search needs
@@ -57,7 +59,7 @@ channel-at-spec =
     μ-loop
     loop-holds
     mul-c
-    element-copy-out-c
+    array-copy-out-c
     channel-is-requires
     returns
     add-i

@@ -1,6 +1,5 @@
 -- The invariant: up to octet i there are E0 octets only.
 use Prim.Native.Nat.{_-_}
-use native.Mathlib.Omega.{arith}
 use lib.ListN.{length}
 use borrow.Author.Needs.{needs}
 use Rattle.walks.specs.Ends.{Run}

@@ -22,16 +22,16 @@ zone-of-requires : tie.Need-zone-of-requires
 zone-of-requires c κs = search needs
 
 mul-t12 : tie.Need-mul-t12
-mul-t12 c = let q = slots _ _ (c .before .before .before .before .before .before .before .before .pre .0) (c .before .before .before .before .before .before .before .before .pre .1) in omega (arith, q .place)
+mul-t12 c = let p = c .before .before .before .before .before .before .before .before .pre in let q = slots _ _ (p .0) (p .1) in omega (arith, q .place)
 
 array-read-t21 : tie.Need-array-read-t21
-array-read-t21 c = slots _ _ (c .before .before .before .before .before .before .before .before .pre .0) (c .before .before .before .before .before .before .before .before .pre .1) .place
+array-read-t21 c = let p = c .before .before .before .before .before .before .before .before .pre in slots _ _ (p .0) (p .1) .place
 
 mul-t22 : tie.Need-mul-t22
-mul-t22 c = let q = slots _ _ (c .before .before .before .before .before .before .before .before .pre .0) (c .before .before .before .before .before .before .before .before .pre .1) in omega (arith, q .eight)
+mul-t22 c = let p = c .before .before .before .before .before .before .before .before .pre in let q = slots _ _ (p .0) (p .1) in omega (arith, q .eight)
 
 array-read-t25 : tie.Need-array-read-t25
-array-read-t25 c = slots _ _ (c .before .before .before .before .before .before .before .before .pre .0) (c .before .before .before .before .before .before .before .before .pre .1) .eight
+array-read-t25 c = let p = c .before .before .before .before .before .before .before .before .pre in slots _ _ (p .0) (p .1) .eight
 
 returns : tie.Need-returns
 unfolding upcomingOf
