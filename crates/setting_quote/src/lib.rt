@@ -154,7 +154,7 @@ pub fn quote_of(octets: &[u8], n: usize, word: usize) -> Span
 }
 
 // Whether line n of a text has a carriage return with a word after it.
-fn is_lone_line(octets: &[u8], n: usize) -> bool
+pub fn is_lone_line(octets: &[u8], n: usize) -> bool
     ensures { λ r. ⌜ r ≡ lone (lineOf n (now (octets .entry))) ⌝ }
 {
     let l = line_at(octets, n);
