@@ -1,8 +1,8 @@
--- `outputs::put_part`: what its callees promise is enough.
+-- `outputs::put_marked`: what its callees promise is enough.
 use Rattle.unpack_text.proofs.Writes.{wrote-then}
 use borrow.Author.Needs.{needs}
-use Rattle.outputs.proofs.put_part.Statement.{statement}
-use Rattle.outputs.proofs.put_part.Tie as tie
+use Rattle.outputs.proofs.put_marked.Statement.{statement}
+use Rattle.outputs.proofs.put_marked.Tie as tie
 
 put-ending-requires : tie.Need-put-ending-requires
 put-ending-requires c κs = search needs
@@ -16,5 +16,5 @@ same-length c = search needs
 returns : tie.Need-returns
 returns c = wrote-then (c .before .before .before .before .before .before .put-ending .ensures) (c .before .before .put-mark .ensures) (search needs)
 
-pub put-part-spec : {M : Type 1} → statement M
-put-part-spec = tie.close (tie.spec put-ending-requires put-mark-requires same-length returns)
+pub put-marked-spec : {M : Type 1} → statement M
+put-marked-spec = tie.close (tie.spec put-ending-requires put-mark-requires same-length returns)
