@@ -12,7 +12,7 @@ extern "C" {
 }
 
 /// The system's bits, and the word that is printed for each.
-const EVENTS: [(u32, &str); 4] = [(0x40, "left"), (0x80, "taken"), (0x100, "made"), (0x200, "removed")];
+const EVENTS: [(u32, &str); 5] = [(0x8, "closed"), (0x40, "left"), (0x80, "taken"), (0x100, "made"), (0x200, "removed")];
 
 /// An event's octets before its name: watch, bits, cookie, and how long the name is with its zeros.
 const HEAD: usize = 16;
@@ -34,7 +34,7 @@ fn open(folder: &str) -> io::Result<File> {
     }
 }
 
-/// Prints a line `watching` once all that follows is seen, then one for each event, until a file of the name `last` is made.
+/// Prints a line `watching` once all that follows is seen, then one for each event (`closed` after writing), until a file of the name `last` is made.
 pub fn run(folder: &str, last: &str, out: &mut impl Write) -> Result<(), String> {
     let wrong = |error: io::Error| format!("{folder}: {error}");
     let mut events = open(folder).map_err(wrong)?;
