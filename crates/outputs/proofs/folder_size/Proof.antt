@@ -28,15 +28,21 @@ loop-less : tie.Need-loop-less Inv-loop μ-loop
 loop-less c = search needs
 
 loop-again : tie.Need-loop-again Inv-loop μ-loop
-loop-again c = (search needs, search needs,
-    c .before .before .before .loop .inv .2 ∙ rw add-one (slash-here _ _ _ (c .before .before .loop-test .taken) (c .if1 .taken)))
+loop-again c = (
+  search needs,
+  search needs,
+  c .before .before .before .loop .inv .2 ∙ rw add-one (slash-here _ _ _ (c .before .before .loop-test .taken) (c .if1 .taken)),
+)
 
 loop-less-2 : tie.Need-loop-less-2 Inv-loop μ-loop
 loop-less-2 c = search needs
 
 loop-again-2 : tie.Need-loop-again-2 Inv-loop μ-loop
-loop-again-2 c = (search needs, search needs,
-    c .before .before .before .loop .inv .2 ∙ rw add-one (slash-not _ _ _ (c .before .before .loop-test .taken) (c .if1 .left)))
+loop-again-2 c = (
+  search needs,
+  search needs,
+  c .before .before .before .loop .inv .2 ∙ rw add-one (slash-not _ _ _ (c .before .before .loop-test .taken) (c .if1 .left)),
+)
 
 returns : tie.Need-returns Inv-loop μ-loop
 returns c = (sym (c .before .loop .inv .2 ∙ slash-end _ _ _ (c .loop-test .left)), search needs)

@@ -1,7 +1,6 @@
 -- `setting_quote::end_of` meets its contract. Of the first i octets, the last that is no blank ends at `end`.
 use Prim.Native.Nat.{_-_, _≤_}
 use mathlib.Core.Path.{_≡_, refl, sym, _∙_}
-use native.Mathlib.Omega.{arith}
 use native.Mathlib.Numerals.{add-one}
 use borrow.Author.Needs.{needs}
 use lib.ListN.{length, drop}
@@ -33,18 +32,22 @@ loop-less c = search needs
 
 loop-again : tie.Need-loop-again Inv-loop μ-loop
 loop-again c =
-    let l = c .before .before .before .before in
-    (search needs, search needs,
-    l .loop .inv .2 ∙ rw add-one (end-gap _ _ _ (c .before .before .before .loop-test .taken) (sym (c .before .is-blank .ensures) ∙ c .if1 .taken)))
+    let l = c .before .before .before .before in (
+      search needs,
+      search needs,
+      l .loop .inv .2 ∙ rw add-one (end-gap _ _ _ (c .before .before .before .loop-test .taken) (sym (c .before .is-blank .ensures) ∙ c .if1 .taken)),
+    )
 
 loop-less-2 : tie.Need-loop-less-2 Inv-loop μ-loop
 loop-less-2 c = search needs
 
 loop-again-2 : tie.Need-loop-again-2 Inv-loop μ-loop
 loop-again-2 c =
-    let l = c .before .before .before .before in
-    (search needs, search needs,
-    l .loop .inv .2 ∙ rw add-one (end-word _ _ _ (c .before .before .before .loop-test .taken) (sym (c .before .is-blank .ensures) ∙ c .if1 .left)))
+    let l = c .before .before .before .before in (
+      search needs,
+      search needs,
+      l .loop .inv .2 ∙ rw add-one (end-word _ _ _ (c .before .before .before .loop-test .taken) (sym (c .before .is-blank .ensures) ∙ c .if1 .left)),
+    )
 
 returns : tie.Need-returns Inv-loop μ-loop
 returns c = (sym (c .before .loop .inv .2 ∙ end-none _ _ _ (c .loop-test .left)), search needs)

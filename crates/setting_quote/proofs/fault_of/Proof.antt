@@ -25,11 +25,23 @@ quote-of-requires c κs = search needs
 
 returns-3 : tie.Need-returns-3
 unfolding faultOf
-returns-3 c = rw (sym (c .before .before .before .before .before .before .is-marked .ensures) ∙ c .before .before .before .before .before .if1 .left, sym (c .before .before .before .before .is-returned .ensures) ∙ c .before .before .before .if2 .left, part-none _ _ _ _ (c .before .before .quote-of .ensures) (c .if3 .taken))
+returns-3 c =
+    let d = c .before .before .before in
+    rw (
+      sym (d .before .before .before .is-marked .ensures) ∙ d .before .before .if1 .left,
+      sym (d .before .is-returned .ensures) ∙ d .if2 .left,
+      part-none _ _ _ _ (c .before .before .quote-of .ensures) (c .if3 .taken),
+    )
 
 returns-4 : tie.Need-returns-4
 unfolding faultOf
-returns-4 c = rw (sym (c .before .before .before .before .before .before .is-marked .ensures) ∙ c .before .before .before .before .before .if1 .left, sym (c .before .before .before .before .is-returned .ensures) ∙ c .before .before .before .if2 .left, part-some _ _ _ _ (c .before .before .quote-of .ensures) (c .if3 .left))
+returns-4 c =
+    let d = c .before .before .before in
+    rw (
+      sym (d .before .before .before .is-marked .ensures) ∙ d .before .before .if1 .left,
+      sym (d .before .is-returned .ensures) ∙ d .if2 .left,
+      part-some _ _ _ _ (c .before .before .quote-of .ensures) (c .if3 .left),
+    )
 
 pub fault-of-spec : {M : Type 1} → statement M
 fault-of-spec =

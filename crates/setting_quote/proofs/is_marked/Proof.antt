@@ -1,5 +1,4 @@
 -- `setting_quote::is_marked` meets its contract. Three octets decide, where there are three.
-use mathlib.Core.Path.{sym}
 use borrow.Author.Needs.{needs}
 use borrow.Author.Tests.{lt-ltb, le-ltb, eq-eqb, ne-eqb}
 use Rattle.setting_quote.specs.Quotes.{marked}
@@ -21,7 +20,9 @@ shared-slice-read-result c = search needs
 
 returns-2 : tie.Need-returns-2
 unfolding marked
-returns-2 c = rw (le-ltb _ _ (c .before .before .before .before .before .if1 .left), eq-eqb _ _ (c .before .before .before .if2 .taken), eq-eqb _ _ (c .before .if3 .taken))
+returns-2 c =
+    let d = c .before .before .before in
+    rw (le-ltb _ _ (d .before .before .if1 .left), eq-eqb _ _ (d .if2 .taken), eq-eqb _ _ (c .before .if3 .taken))
 
 returns-3 : tie.Need-returns-3
 unfolding marked

@@ -34,9 +34,11 @@ loop-less : tie.Need-loop-less Inv-loop μ-loop
 loop-less c = search needs
 
 loop-again : tie.Need-loop-again Inv-loop μ-loop
-loop-again c =
-    (omega arith, c .before .before .before .loop .inv .1
-    ∙ line-further _ _ _ _ (c .before .next-line .ensures) _ _ (c .before .before .loop-test .taken))
+loop-again c = (
+  omega arith,
+  c .before .before .before .loop .inv .1
+      ∙ line-further _ _ _ _ (c .before .next-line .ensures) _ _ (c .before .before .loop-test .taken),
+)
 
 next-line-requires-2 : tie.Need-next-line-requires-2 Inv-loop μ-loop
 next-line-requires-2 c κs = search needs

@@ -1,6 +1,5 @@
 -- `setting_quote::next_line` meets its contract. A line goes to the next line feed, or to the text's end.
 use lib.ListN.{length-take, length-drop}
-use native.Mathlib.Omega.{arith}
 use borrow.Author.Needs.{needs}
 use Rattle.setting_quote.proofs.Quotes.{line-none, line-next}
 use Rattle.setting_quote.proofs.next_line.Statement.{statement}

@@ -1,5 +1,4 @@
 -- `setting_quote::quote_of` meets its contract. A part of the line is one of the text.
-use lib.ListN.{length-take, length-drop}
 use Rattle.setting_quote.specs.Quotes.{quoted}
 use Rattle.setting_quote.proofs.Quotes.{part-in}
 use borrow.Author.Needs.{needs}
@@ -29,7 +28,9 @@ add-t12 c = search needs
 
 returns : tie.Need-returns
 unfolding quoted
-returns c = let l = c .before .before .before .before .line-at .ensures in rw (l .octets) (part-in _ _ _ _ _ _ (c .before .before .quote-at .ensures) (l .forward) (l .within))
+returns c =
+    let l = c .before .before .before .before .line-at .ensures in
+    rw (l .octets) (part-in _ _ _ _ _ _ (c .before .before .quote-at .ensures) (l .forward) (l .within))
 
 pub quote-of-spec : {M : Type 1} → statement M
 quote-of-spec =
