@@ -12,6 +12,7 @@ mod samples;
 mod setting;
 mod stream;
 mod text;
+mod watch;
 mod writer;
 
 #[cfg(test)]
@@ -30,7 +31,8 @@ const USAGE: &str = "usage: second unpack SETTING RECORDING PREFIX
        second random SEED COUNT
        second demand3 SEED COUNT
        second demand3-check SEED COUNT
-       second measure ..";
+       second measure ..
+       second watch FOLDER LAST";
 
 fn main() -> ExitCode {
     let arguments: Vec<String> = std::env::args().skip(1).collect();
@@ -55,6 +57,7 @@ fn run(arguments: &[String]) -> Result<(), String> {
             stream::answers(BufReader::new(script), io::stdin().lock(), &mut BufWriter::new(io::stdout().lock()))
         }
         ("measure", _) => figures::run(rest),
+        ("watch", [folder, last]) => watch::run(folder, last, &mut io::stdout().lock()),
         ("sample", [seed, folder]) => samples::write_sample(text::decimal(seed)?, folder),
         ("random", [seed, count]) => print(&random::script(text::decimal(seed)?, text::decimal(count)?)),
         ("demand3", [seed, count]) => print(&demand3::script(text::decimal(seed)?, text::decimal(count)?)),

@@ -55,11 +55,18 @@ fn setting_text(random: &mut Random, setting: &Setting) -> String {
         if random.one_in(6) {
             text += random.pick(&["\n", "# a comment\n", " \t \r\n", "#\n", "  # frame length 9\n"]);
         }
-        text += &line.replace(' ', random.pick(&[" ", " ", "  ", "\t", " \t "]));
+        text += &line.replace(' ', random.pick(&[" ", " ", "  ", "\t", " \t ", "\r"]));
         text += random.pick(&["\n", "\n", "\r\n", " \n", " # said\n", "#\n"]);
     }
     if random.one_in(5) {
         text.pop();
+    }
+    // Carriage returns in the place of line feeds, and a byte order mark: a text with them is judged like any other.
+    if random.one_in(32) {
+        text = text.replace('\n', "\r");
+    }
+    if random.one_in(32) {
+        text.insert(0, '\u{feff}');
     }
     text
 }

@@ -1,12 +1,15 @@
-// What the archive's programs say to the people who run them, and the words of their command lines. No contract can speak of
-// what is written to a descriptor; each function is proved safe and ending.
+// What the archive's programs say to the people who run them. How names and words of others are printed is promised; no contract can speak of
+// what is written to a descriptor.
 ghost use mathlib.Core.Path.{_≡_};
 ghost use Prim.Native.Nat.{_≤_};
-ghost use lib.ListN.{length};
+ghost use lib.ListN.{length, take};
+ghost use mathlib.Core.Bool.{cond};
+ghost use Rattle.rules.specs.Tests.{_<?_};
+ghost use Rattle.console.specs.Shown.{plainOf, shown};
 
 // The octet that stands for one of a name: a question mark for those that would end the line or do something to a terminal.
 fn plain(x: u8) -> u8
-    ensures { λ r. ⌜ 32 ≤ r ⌝ }
+    ensures { λ r. ⌜ r ≡ plainOf x ⌝ }
 {
     if x < 32 {
         return b'?';
@@ -19,7 +22,7 @@ fn plain(x: u8) -> u8
 
 // How many of n octets a name's area of 4,096 takes.
 fn within(n: usize) -> usize
-    ensures { λ r. ⌜ (r ≤ n) × (r ≤ 4096) ⌝ }
+    ensures { λ r. ⌜ (r ≤ n) × (r ≤ 4096) × (r ≡ cond (n <? 4096) n 4096) ⌝ }
 {
     if n < 4096 {
         return n;
@@ -30,7 +33,7 @@ fn within(n: usize) -> usize
 // Puts a name to the front of an area so that it stays on one line; how many octets it has there.
 fn put_name(area: &mut [u8], name: &[u8]) -> usize
     requires { ⌜ length (now area) ≡ 4096 ⌝ }
-    ensures { λ r. ⌜ r ≤ 4096 ⌝ }
+    ensures { λ r. ⌜ (r ≤ 4096) × (r ≡ cond (length (now (name .entry)) <? 4096) (length (now (name .entry))) 4096) × (take r (now (area .exit)) ≡ shown (take r (now (name .entry)))) ⌝ }
 {
     let n = within(name.len());
     let mut i: usize = 0;
@@ -48,6 +51,29 @@ pub fn say_front(program: &[u8], about: &[u8]) {
     io::write_all(2, program);
     io::write_all(2, b": ");
     io::write_all(2, &area[..n]);
+}
+
+// How many of a word's n octets are quoted.
+fn quote_size(n: usize) -> usize
+    ensures { λ r. ⌜ (r ≤ n) × (r ≡ cond (60 <? n) 60 n) ⌝ }
+{
+    if 60 < n {
+        return 60;
+    }
+    n
+}
+
+// Quotes a word that was found, its first 60 octets where it is longer.
+pub fn say_quote(word: &[u8]) {
+    let n = quote_size(word.len());
+    let mut area = io::buffer();
+    let k = put_name(&mut area, &word[..n]);
+    io::write_all(2, b"\"");
+    io::write_all(2, &area[..k]);
+    if n < word.len() {
+        io::write_all(2, b"..");
+    }
+    io::write_all(2, b"\"");
 }
 
 // A line to standard error: which program, about what, and what is wrong there.

@@ -1,10 +1,16 @@
 -- Which file a file is.
 use Prim.Native.Nat.{ℕ, _/_, _%_}
 use mathlib.Core.Bool.{Bool, false, cond, not}
+use lib.IntN.{ℤ, pos, negsuc}
 use Rattle.rules.specs.Tests.{_=?_}
 use Rattle.files.specs.declared.Known.{Known}
 
--- Of the system's answer: device, inode and mode. No file has mode 0.
+-- A size, which the system gives with a sign: one below 0 counts as 0.
+unfoldable pub wholeOf : ℤ → ℕ
+wholeOf (pos n) = n
+wholeOf (negsuc n) = 0
+
+-- Of the system's answer: device, inode, mode and size. No file has mode 0.
 unfoldable pub knownOf : ℕ → ℕ → ℕ → ℕ → Known
 knownOf device inode mode size = record { device = device; inode = inode; size = size; mode = mode; there = not (mode =? 0) }
 

@@ -2,7 +2,7 @@
 // is decided by it has a definition. Two functions ask the system, and their proofs are by hand: the struct that it fills is lent to it.
 ghost use mathlib.Core.Path.{_≡_};
 ghost use Rattle.libc.specs.Io.{Ended};
-ghost use Rattle.files.specs.Known.{knownOf, sameFile, isRegular, isFolder};
+ghost use Rattle.files.specs.Known.{wholeOf, knownOf, sameFile, isRegular, isFolder};
 use libc::types;
 
 // A file as the system knows it: whether there is one, its device and inode, its mode, and its size.
@@ -53,8 +53,10 @@ fn look_at(path: &[u8; 4096], mut s: types::stat) -> types::stat
     s
 }
 
-// A size, which the system gives as a number with a sign.
-fn whole(size: i64) -> u64 {
+// A size, which the system gives as a number with a sign; none has less than 0.
+fn whole(size: i64) -> u64
+    ensures { λ r. ⌜ r ≡ wholeOf size ⌝ }
+{
     if size < 0 {
         return 0;
     }
@@ -63,7 +65,7 @@ fn whole(size: i64) -> u64 {
 
 // What is kept of the system's answer.
 fn known_of(s: types::stat) -> Known
-    ensures { λ r. ⌜ r ≡ knownOf (s .«st_dev») (s .«st_ino») (s .«st_mode») (r .size) ⌝ }
+    ensures { λ r. ⌜ r ≡ knownOf (s .«st_dev») (s .«st_ino») (s .«st_mode») (wholeOf (s .«st_size»)) ⌝ }
 {
     let size = whole(s.st_size);
     Known {

@@ -1,12 +1,16 @@
 -- The files that unpack writes: which, and what they are called.
-use Prim.Native.Nat.{ℕ}
-use mathlib.Core.Bool.{Bool, cond}
-use mathlib.Core.List.{List, _++_}
+use Prim.Native.Nat.{ℕ, suc, _-_}
+use mathlib.Core.Bool.{Bool, true, false, cond}
+use mathlib.Core.List.{List, [], _∷_, _++_}
+use lib.ListN.{set, replicate}
 use Rattle.rules.specs.Tests.{_<?_, _=?_}
 use Rattle.rules.specs.Listing.{text, decimal}
 use Rattle.files.specs.declared.Known.{Known}
 use Rattle.files.specs.Known.{sameFile, isRegular}
 use Rattle.outputs.specs.declared.Plan.{Plan}
+use Rattle.outputs.specs.declared.Moved.{Moved}
+use Rattle.outputs.specs.declared.Moved.the-variants.{Done, Nothing, Failed}
+use Rattle.outputs.specs.declared.Stage.{Stage}
 use Rattle.outputs.specs.declared.Fit.{Fit}
 use Rattle.outputs.specs.declared.Fit.the-variants.{Free, Setting, Recording, Strange}
 
@@ -18,9 +22,9 @@ hasOutput p i = cond (i <? 8) (i <? p .lanes) (cond (i =? 8) (p .table) (i =? 9)
 unfoldable pub ending : ℕ → List ℕ
 ending i = cond (i <? 8) (text ".lane" ++ decimal i) (cond (i =? 8) (text ".units.csv") (text ".records"))
 
--- What follows that in the name of an unfinished file.
-unfoldable pub mark : ℕ → List ℕ
-mark number = text "." ++ decimal number ++ text ".part"
+-- What follows that in the name of an unfinished file, and of an earlier one that is put aside.
+unfoldable pub mark : Bool → ℕ → List ℕ
+mark old number = text "." ++ decimal number ++ cond old (text ".old") (text ".part")
 
 -- "No output may be one of the inputs", and what an output replaces is a regular file.
 unfoldable pub fitOf : Known → Known → Known → Fit
@@ -28,3 +32,30 @@ fitOf k setting recording =
     cond (sameFile k setting) Setting
     (cond (sameFile k recording) Recording
     (cond (k .there) (cond (isRegular k) Free Strange) Free))
+
+-- ---- giving the names
+
+-- Earlier files are put aside in this order: the records, then lane by lane, then the table.
+unfoldable pub asideTurn : ℕ → ℕ
+asideTurn k = cond (k =? 0) 9 (k - 1)
+
+-- Nothing is put aside, and no name is given.
+unfoldable pub noStage : Stage
+noStage = record { aside = replicate 10 false; given = replicate 10 false; well = true }
+
+-- What had the name of output i is put aside, or there was none, or it could not be done.
+unfoldable pub putAside : Stage → ℕ → Moved → Stage
+putAside s i Done = record { aside = set (s .aside) i true; given = s .given; well = s .well }
+putAside s i Nothing = s
+putAside s i Failed = record { aside = s .aside; given = s .given; well = false }
+
+-- Output i has its name, or it could not be given.
+unfoldable pub gave : Stage → ℕ → Bool → Stage
+gave s i good =
+    cond good (record { aside = s .aside; given = set (s .given) i true; well = s .well })
+    (record { aside = s .aside; given = s .given; well = false })
+
+-- How many octets a prefix has up to its last `/`, after n octets of which e are up to it.
+unfoldable pub lastSlash : ℕ → ℕ → List ℕ → ℕ
+lastSlash n e [] = e
+lastSlash n e (x ∷ xs) = lastSlash (suc n) (cond (x =? 47) (suc n) e) xs

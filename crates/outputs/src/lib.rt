@@ -1,12 +1,13 @@
 // The files that unpack writes: made new under names that no other run has, put on the device and closed, given their names when all of them are
-// whole, and removed where a run fails. This is the one place that does so. Outputs have numbers: 0 to 7 are the lanes', 8 is the table of
-// units, 9 the records. Which of them there are, and what each is called, is promised; what the system then does with a name is shown by runs.
+// whole, and removed where a run fails. What had the names is put aside until then, and gets them again where a run fails. This is the one
+// place that does so. Outputs have numbers: 0 to 7 are the lanes', 8 is the table of units, 9 the records. Which of them there are, what each
+// is called, and in which order they are taken is promised; what the system then does with a name is shown by runs.
 ghost use mathlib.Core.Path.{_≡_};
 ghost use mathlib.Core.List.{_++_};
 ghost use Prim.Native.Nat.{_+_, _≤_, _<_};
 ghost use lib.ListN.{length, drop};
 ghost use Rattle.unpack_text.specs.Lines.{Wrote};
-ghost use Rattle.outputs.specs.Names.{hasOutput, ending, mark, fitOf};
+ghost use Rattle.outputs.specs.Names.{hasOutput, ending, mark, fitOf, asideTurn, noStage, putAside, gave, lastSlash};
 use files::Known;
 
 // How many lanes a run has, whether it writes a table of units, and the number that its unfinished files have in their names.
@@ -53,29 +54,32 @@ fn put_ending(name: &mut [u8], n: usize, i: usize) -> usize
     listing_text::put_text(name, n, b".records")
 }
 
-// Puts what the name of an unfinished file has after that.
-fn put_mark(name: &mut [u8], n: usize, number: u64) -> usize
+// Puts what the name of an unfinished file, or of an earlier one that is put aside, has after that.
+fn put_mark(name: &mut [u8], n: usize, number: u64, old: bool) -> usize
     requires { ⌜ n + 26 ≤ length (now name) ⌝ }
-    ensures { λ r. ⌜ Wrote 26 (mark number) (now (name .entry)) n (now (name .exit)) r ⌝ }
+    ensures { λ r. ⌜ Wrote 26 (mark old number) (now (name .entry)) n (now (name .exit)) r ⌝ }
 {
     let at = unpack_text::put_named(name, n, b".", number);
+    if old {
+        return listing_text::put_text(name, at, b".old");
+    }
     listing_text::put_text(name, at, b".part")
 }
 
-// Puts what follows the prefix in the name of output i's unfinished file.
-fn put_part(name: &mut [u8], n: usize, number: u64, i: usize) -> usize
+// Puts what follows the prefix in the name of output i's unfinished file, or of the earlier one that is put aside.
+fn put_marked(name: &mut [u8], n: usize, number: u64, i: usize, old: bool) -> usize
     requires { ⌜ n + 51 ≤ length (now name) ⌝ }
-    ensures { λ r. ⌜ Wrote 51 (ending i ++ mark number) (now (name .entry)) n (now (name .exit)) r ⌝ }
+    ensures { λ r. ⌜ Wrote 51 (ending i ++ mark old number) (now (name .entry)) n (now (name .exit)) r ⌝ }
 {
     let at = put_ending(name, n, i);
-    put_mark(name, at, number)
+    put_mark(name, at, number, old)
 }
 
 // Says that the last call of the system failed on output i's unfinished file.
 pub fn say_part(p: Plan, name: &mut [u8], n: usize, i: usize)
     requires { ⌜ n + 51 ≤ length (now name) ⌝ }
 {
-    let end = put_part(name, n, p.number, i);
+    let end = put_marked(name, n, p.number, i, false);
     console::say_failed(b"unpack", &name[..end]);
 }
 
@@ -165,7 +169,7 @@ pub fn may_take_all(p: Plan, name: &mut [u8], n: usize, setting: Known, recordin
 fn make_new(p: Plan, name: &mut [u8], n: usize, i: usize) -> i32
     requires { ⌜ n + 51 ≤ length (now name) ⌝ }
 {
-    let end = put_part(name, n, p.number, i);
+    let end = put_marked(name, n, p.number, i, false);
     let fd = os::create(&name[..end]);
     if fd < 0 {
         console::say_failed(b"unpack", &name[..end]);
@@ -233,69 +237,295 @@ pub fn keep_all(p: Plan, fds: [i32; 10], name: &mut [u8], n: usize) -> bool
 
 // ---- finished names
 
-// Takes the name of earlier records away, so that none stands beside lanes of another run.
-fn clear_records(name: &mut [u8], n: usize) -> bool
-    requires { ⌜ n + 51 ≤ length (now name) ⌝ }
-{
-    let end = put_ending(name, n, 9);
-    let gone = os::unlink(&name[..end]);
-    if gone < 0 {
-        if os::errno() != libc::ENOENT {
-            console::say_failed(b"unpack", &name[..end]);
-            return false;
-        }
-    }
-    true
+// How a file went from one name to another: well; there was none; or the system failed.
+enum Moved {
+    Done,
+    Nothing,
+    Failed,
 }
 
-// Gives an unfinished file its name: the front of the one that it has, up to the mark.
-fn rename_part(number: u64, part: &[u8], at: usize) -> bool
-    requires { ⌜ (at ≤ length (now part)) × (drop at (now part) ≡ mark number) ⌝ }
+// How far the names are: which earlier files are put aside, which outputs have their names, and whether nothing failed.
+struct Stage {
+    aside: [bool; 10],
+    given: [bool; 10],
+    well: bool,
+}
+
+// A file leaves its finished name, the front of the other up to the mark, for that other.
+fn move_off(number: u64, old: bool, long: &[u8], at: usize) -> Moved
+    requires { ⌜ (at ≤ length (now long)) × (drop at (now long) ≡ mark old number) ⌝ }
 {
-    let given = os::rename(part, &part[..at]);
+    let gone = os::rename(&long[..at], long);
+    if gone < 0 {
+        if os::errno() == libc::ENOENT {
+            return Moved::Nothing;
+        }
+        console::say_failed(b"unpack", &long[..at]);
+        return Moved::Failed;
+    }
+    Moved::Done
+}
+
+// A file takes its finished name, the front of the one that it has, up to the mark.
+fn move_on(number: u64, old: bool, long: &[u8], at: usize) -> bool
+    requires { ⌜ (at ≤ length (now long)) × (drop at (now long) ≡ mark old number) ⌝ }
+{
+    let given = os::rename(long, &long[..at]);
     if given < 0 {
-        console::say_failed(b"unpack", &part[..at]);
+        console::say_failed(b"unpack", long);
         return false;
     }
     true
 }
 
-// Gives output i its name, if there is such an output.
-fn give_name(p: Plan, name: &mut [u8], n: usize, i: usize) -> bool
+// What has the name of output i leaves it: for the name of one put aside, or of an unfinished one.
+fn leave_name(p: Plan, name: &mut [u8], n: usize, i: usize, old: bool) -> Moved
     requires { ⌜ n + 51 ≤ length (now name) ⌝ }
+{
+    let at = put_ending(name, n, i);
+    let end = put_mark(name, at, p.number, old);
+    move_off(p.number, old, &name[..end], at)
+}
+
+// The unfinished file of output i, or the one that was put aside, takes its name.
+fn take_name(p: Plan, name: &mut [u8], n: usize, i: usize, old: bool) -> bool
+    requires { ⌜ n + 51 ≤ length (now name) ⌝ }
+{
+    let at = put_ending(name, n, i);
+    let end = put_mark(name, at, p.number, old);
+    move_on(p.number, old, &name[..end], at)
+}
+
+// The output that is put aside in turn k: the records first, so that none stand beside lanes of another run.
+fn aside_turn(k: usize) -> usize
+    requires { ⌜ k < 10 ⌝ }
+    ensures { λ r. ⌜ (r ≡ asideTurn k) × (r < 10) ⌝ }
+{
+    if k == 0 {
+        return 9;
+    }
+    k - 1
+}
+
+// Before the first name.
+fn no_stage() -> Stage
+    ensures { λ r. ⌜ r ≡ noStage ⌝ }
+{
+    Stage {
+        aside: [false; 10],
+        given: [false; 10],
+        well: true,
+    }
+}
+
+// How far the names are after output i was to be put aside.
+fn after_aside(s: Stage, i: usize, m: Moved) -> Stage
+    requires { ⌜ i < 10 ⌝ }
+    ensures { λ r. ⌜ r ≡ putAside s i m ⌝ }
+{
+    let mut t = s;
+    match m {
+        Moved::Done => {
+            t.aside[i] = true;
+            return t;
+        }
+        Moved::Nothing => {
+            return t;
+        }
+        Moved::Failed => {
+            t.well = false;
+            return t;
+        }
+    }
+}
+
+// How far the names are after output i was to get its own.
+fn after_given(s: Stage, i: usize, good: bool) -> Stage
+    requires { ⌜ i < 10 ⌝ }
+    ensures { λ r. ⌜ r ≡ gave s i good ⌝ }
+{
+    let mut t = s;
+    if good {
+        t.given[i] = true;
+        return t;
+    }
+    t.well = false;
+    t
+}
+
+// Puts what has the name of output i aside, if there is such an output.
+fn put_aside(p: Plan, name: &mut [u8], n: usize, i: usize, s: Stage) -> Stage
+    requires { ⌜ (n + 51 ≤ length (now name)) × (i < 10) ⌝ }
 {
     let wanted = has(p, i);
     if !wanted {
-        return true;
+        return s;
     }
-    let at = put_ending(name, n, i);
-    let end = put_mark(name, at, p.number);
-    rename_part(p.number, &name[..end], at)
+    let m = leave_name(p, name, n, i, true);
+    after_aside(s, i, m)
 }
 
-// Gives each output its name, the records last.
-fn give_each(p: Plan, name: &mut [u8], n: usize) -> bool
+// Puts what has the names of outputs aside, the records first, up to the first failure.
+fn put_all_aside(p: Plan, name: &mut [u8], n: usize) -> Stage
     requires { ⌜ n + 51 ≤ length (now name) ⌝ }
 {
-    let mut i: usize = 0;
-    while i < 10 {
-        let given = give_name(p, name, n, i);
-        if !given {
-            return false;
+    let mut s = no_stage();
+    let mut k: usize = 0;
+    while k < 10 {
+        let i = aside_turn(k);
+        s = put_aside(p, name, n, i, s);
+        if s.well {} else {
+            return s;
         }
-        i += 1;
+        k += 1;
     }
-    true
+    s
 }
 
-// Gives each output its name. Records are there only where all are of one run: earlier ones go first, these come last.
+// Gives output i its name, if there is such an output.
+fn give_name(p: Plan, name: &mut [u8], n: usize, i: usize, s: Stage) -> Stage
+    requires { ⌜ (n + 51 ≤ length (now name)) × (i < 10) ⌝ }
+{
+    let wanted = has(p, i);
+    if !wanted {
+        return s;
+    }
+    let good = take_name(p, name, n, i, false);
+    after_given(s, i, good)
+}
+
+// Gives each output its name, the records last, up to the first failure.
+fn give_each(p: Plan, name: &mut [u8], n: usize, before: Stage) -> Stage
+    requires { ⌜ n + 51 ≤ length (now name) ⌝ }
+{
+    let mut s = before;
+    let mut i: usize = 0;
+    while i < 10 {
+        if s.well {} else {
+            return s;
+        }
+        s = give_name(p, name, n, i, s);
+        i += 1;
+    }
+    s
+}
+
+// How many octets of a prefix name its folder: those up to its last `/`.
+fn folder_size(prefix: &[u8]) -> usize
+    ensures { λ r. ⌜ (r ≡ lastSlash 0 0 (now (prefix .entry))) × (r ≤ length (now (prefix .entry))) ⌝ }
+{
+    let mut end: usize = 0;
+    let mut i: usize = 0;
+    while i < prefix.len() {
+        let x = prefix[i];
+        i += 1;
+        if x == 47 {
+            end = i;
+        }
+    }
+    end
+}
+
+// Puts the names of a folder on its device.
+fn keep_folder(folder: &[u8]) -> bool {
+    let fd = os::open_read(folder);
+    if 0 <= fd {
+        let kept = keep(fd);
+        if kept {
+            return true;
+        }
+    }
+    console::say_failed(b"unpack", folder);
+    false
+}
+
+// Puts the names that begin with a prefix on their device.
+fn keep_names(prefix: &[u8]) -> bool {
+    let k = folder_size(prefix);
+    if k == 0 {
+        return keep_folder(b".");
+    }
+    keep_folder(&prefix[..k])
+}
+
+// Removes the earlier file of output i, if it was put aside, where that can be done.
+fn remove_old(p: Plan, name: &mut [u8], n: usize, i: usize, aside: bool)
+    requires { ⌜ n + 51 ≤ length (now name) ⌝ }
+{
+    if !aside {
+        return;
+    }
+    let end = put_marked(name, n, p.number, i, true);
+    os::unlink(&name[..end]);
+}
+
+// Removes what was put aside.
+fn forget_all(p: Plan, name: &mut [u8], n: usize, s: Stage)
+    requires { ⌜ n + 51 ≤ length (now name) ⌝ }
+{
+    let aside = s.aside;
+    let mut i: usize = 0;
+    while i < 10 {
+        let a = aside[i];
+        remove_old(p, name, n, i, a);
+        i += 1;
+    }
+}
+
+// Takes the name of output i back, if it was given.
+fn take_back(p: Plan, name: &mut [u8], n: usize, i: usize, given: bool)
+    requires { ⌜ n + 51 ≤ length (now name) ⌝ }
+{
+    if given {
+        leave_name(p, name, n, i, false);
+    }
+}
+
+// Gives what was put aside the name of output i again, if it was.
+fn put_back(p: Plan, name: &mut [u8], n: usize, i: usize, aside: bool)
+    requires { ⌜ n + 51 ≤ length (now name) ⌝ }
+{
+    if aside {
+        take_name(p, name, n, i, true);
+    }
+}
+
+// Takes names back, and gives them to what had them, the records last.
+fn undo_all(p: Plan, name: &mut [u8], n: usize, s: Stage)
+    requires { ⌜ n + 51 ≤ length (now name) ⌝ }
+{
+    let given = s.given;
+    let aside = s.aside;
+    let mut i: usize = 0;
+    while i < 10 {
+        let g = given[i];
+        let a = aside[i];
+        take_back(p, name, n, i, g);
+        put_back(p, name, n, i, a);
+        i += 1;
+    }
+}
+
+// Whether all outputs have their names, and these are on their device.
+fn settled(s: Stage, prefix: &[u8]) -> bool {
+    if s.well {
+        return keep_names(prefix);
+    }
+    false
+}
+
+// Gives each output its name. What had the names is put aside first and removed at the end, or gets them again where something fails.
 pub fn give_names(p: Plan, name: &mut [u8], n: usize) -> bool
     requires { ⌜ n + 51 ≤ length (now name) ⌝ }
 {
-    let cleared = clear_records(name, n);
-    if cleared {
-        return give_each(p, name, n);
+    let first = put_all_aside(p, name, n);
+    let s = give_each(p, name, n, first);
+    let good = settled(s, &name[..n]);
+    if good {
+        forget_all(p, name, n, s);
+        return true;
     }
+    undo_all(p, name, n, s);
     false
 }
 
@@ -309,7 +539,7 @@ fn remove(p: Plan, fd: i32, name: &mut [u8], n: usize, i: usize)
         return;
     }
     libc::close(fd);
-    let end = put_part(name, n, p.number, i);
+    let end = put_marked(name, n, p.number, i, false);
     os::unlink(&name[..end]);
 }
 

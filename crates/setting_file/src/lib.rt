@@ -3,9 +3,11 @@
 ghost use mathlib.Core.Path.{_≡_};
 ghost use Prim.Native.Nat.{_≤_};
 ghost use lib.ListN.{length};
+ghost use Rattle.setting_quote.specs.Quotes.{quoted};
 ghost use Rattle.setting_file.specs.Files.{none, textFound, judged};
 use files::Known;
 use rules::Setting;
+use setting_quote::Fault;
 use setting_text::Finding;
 use setting_text::Missing;
 use setting_text::Wanted;
@@ -37,84 +39,102 @@ pub struct Loaded {
     pub file: Known,
 }
 
-// Says that a line has something else than a number from `low` to `high`.
-fn say_range(program: &[u8], path: &[u8], line: usize, low: usize, high: usize) {
+// Goes on with a message.
+fn put(text: &[u8]) {
+    io::write_all(2, text);
+}
+
+// Begins a message about a line.
+fn say_place(program: &[u8], path: &[u8], line: usize) {
     console::say_front(program, path);
-    io::write_all(2, b": line ");
+    put(b": line ");
     io::print_decimal(2, line as u64);
-    io::write_all(2, b": expected a number from ");
+    put(b": ");
+}
+
+// Says which range a number was expected in.
+fn put_range(low: usize, high: usize) {
+    put(b"expected a number from ");
     io::print_decimal(2, low as u64);
-    io::write_all(2, b" to ");
+    put(b" to ");
     io::print_decimal(2, high as u64);
-    io::write_all(2, b"\n");
 }
 
-// Says what was expected at a line.
-fn say_line(program: &[u8], path: &[u8], line: usize, what: &[u8]) {
-    console::say_at(program, path, b"line", line as u64, what);
-}
-
-// Says what word was expected at a line, or that the words fit no setting.
-fn say_word(program: &[u8], path: &[u8], line: usize, w: Wanted) {
+// Says what was expected in the place of a word.
+fn put_wanted(w: Wanted) {
     match w {
-        Wanted::Fact => say_line(
-            program,
-            path,
-            line,
+        Wanted::Fact => put(
             b"expected frame, spacecraft, source, destination, insert, check, channel or lane",
         ),
-        Wanted::Length => say_line(program, path, line, b"expected the word length"),
-        Wanted::Service => say_line(program, path, line, b"expected the word service"),
-        Wanted::Count => say_line(program, path, line, b"expected the word count"),
-        Wanted::Ocf => say_line(program, path, line, b"expected the word ocf"),
-        Wanted::Channel => say_line(program, path, line, b"expected the word channel"),
-        Wanted::Map => say_line(program, path, line, b"expected the word map"),
-        Wanted::Carries => say_line(program, path, line, b"expected the word packets or access"),
-        Wanted::Longest => say_line(program, path, line, b"expected the word longest"),
-        Wanted::YesOrNo => say_line(program, path, line, b"expected yes or no"),
-        Wanted::End => say_line(program, path, line, b"expected the line's end"),
-        Wanted::Number(low, high) => say_range(program, path, line, low, high),
-        _ => say_rule(program, path, line, w),
+        Wanted::Length => put(b"expected the word length"),
+        Wanted::Service => put(b"expected the word service"),
+        Wanted::Count => put(b"expected the word count"),
+        Wanted::Ocf => put(b"expected the word ocf"),
+        Wanted::Channel => put(b"expected the word channel"),
+        Wanted::Map => put(b"expected the word map"),
+        Wanted::Carries => put(b"expected the word packets or access"),
+        Wanted::Longest => put(b"expected the word longest"),
+        Wanted::YesOrNo => put(b"expected yes or no"),
+        Wanted::End => put(b"expected the line's end"),
+        Wanted::Number(low, high) => put_range(low, high),
+        _ => put_rule(w),
     }
 }
 
 // Says which rule the line breaks together with the lines before it.
-fn say_rule(program: &[u8], path: &[u8], line: usize, w: Wanted) {
+fn put_rule(w: Wanted) {
     match w {
-        Wanted::NewFact => say_line(
-            program,
-            path,
-            line,
-            b"expected a fact that was not said before",
-        ),
-        Wanted::NewChannel => say_line(
-            program,
-            path,
-            line,
+        Wanted::NewFact => put(b"expected a fact that was not said before"),
+        Wanted::NewChannel => put(
             b"expected a virtual channel and service that were not listed before",
         ),
-        Wanted::SameOcf => say_line(
-            program,
-            path,
-            line,
-            b"expected the ocf of the other channel of this virtual channel",
-        ),
-        Wanted::ListedChannel => say_line(
-            program,
-            path,
-            line,
-            b"expected a channel that was listed before",
-        ),
-        Wanted::NewMap => say_line(
-            program,
-            path,
-            line,
-            b"expected a map that has no lane of this channel yet",
-        ),
-        Wanted::FewerChannels => say_line(program, path, line, b"expected at most 8 channels"),
-        Wanted::FewerLanes => say_line(program, path, line, b"expected at most 8 lanes"),
-        _ => say_line(program, path, line, b"expected nothing else"),
+        Wanted::SameOcf => put(b"expected the ocf of the other channel of this virtual channel"),
+        Wanted::ListedChannel => put(b"expected a channel that was listed before"),
+        Wanted::NewMap => put(b"expected a map that has no lane of this channel yet"),
+        Wanted::FewerChannels => put(b"expected at most 8 channels"),
+        Wanted::FewerLanes => put(b"expected at most 8 lanes"),
+        _ => put(b"expected nothing else"),
     }
+}
+
+// Says which octets of line n were found, of which word k does not fit.
+fn hand_quote(octets: &[u8], n: usize, k: usize, word: &[u8])
+    requires { ⌜ now word ≡ quoted n k (now octets) ⌝ }
+{
+    put(b", found ");
+    console::say_quote(word);
+}
+
+// Finds those octets, and says them.
+fn put_quote(octets: &[u8], n: usize, k: usize) {
+    let q = setting_quote::quote_of(octets, n, k);
+    let from = q.from;
+    let to = q.to;
+    hand_quote(octets, n, k, &octets[from..to]);
+}
+
+// Says that a carriage return was meant to end a line.
+fn put_return() {
+    put(b"a carriage return alone does not end a line; lines end with a line feed");
+}
+
+// Says what is wrong with line n, of which word k does not fit: this was wanted.
+fn say_line(program: &[u8], path: &[u8], octets: &[u8], n: usize, k: usize, w: Wanted) {
+    say_place(program, path, n);
+    let f = setting_quote::fault_of(octets, n, k);
+    match f {
+        Fault::Mark => put(b"begins with a byte order mark; save it as plain text"),
+        Fault::Return => put_return(),
+        Fault::End => {
+            put_wanted(w);
+            put(b", found the line's end");
+        }
+        Fault::Quote => {
+            put_wanted(w);
+            put_quote(octets, n, k);
+        }
+    }
+    put(b"\n");
 }
 
 // Says what the file never says.
@@ -130,19 +150,35 @@ fn say_missing(program: &[u8], path: &[u8], m: Missing) {
     }
 }
 
-// Says what is wrong, if anything is.
-fn say_finding(program: &[u8], path: &[u8], f: Finding) {
+// Says what the file never says, or that its first line has a carriage return that ends no line: a file without line feeds is one line.
+fn say_lacking(program: &[u8], path: &[u8], octets: &[u8], m: Missing) {
+    let lone = setting_quote::is_lone_line(octets, 1);
+    if lone {
+        say_place(program, path, 1);
+        put_return();
+        put(b"\n");
+        return;
+    }
+    say_missing(program, path, m);
+}
+
+// Says whose zone has no octet.
+fn say_zone(program: &[u8], path: &[u8], vc: u8, service: u8) {
+    console::say_front(program, path);
+    put(b": channel ");
+    io::print_decimal(2, vc as u64);
+    put(b" service ");
+    io::print_decimal(2, service as u64);
+    put(b": the zone has no octet\n");
+}
+
+// Says what is wrong with a text, if anything is.
+fn say_finding(program: &[u8], path: &[u8], octets: &[u8], f: Finding) {
     match f {
         Finding::Good => {}
-        Finding::Line(n, w) => say_word(program, path, n, w),
-        Finding::Lacks(m) => say_missing(program, path, m),
-        Finding::Zone(i) => console::say_at(
-            program,
-            path,
-            b"channel",
-            i as u64,
-            b"the zone has no octet",
-        ),
+        Finding::Line(n, k, w) => say_line(program, path, octets, n, k, w),
+        Finding::Lacks(m) => say_lacking(program, path, octets, m),
+        Finding::Zone(v, b) => say_zone(program, path, v, b),
         Finding::Other => console::say(program, path, b"no valid setting"),
     }
 }
@@ -243,12 +279,12 @@ fn judge(filled: Filled, area: &[u8]) -> Judged
     no_setting(Found::Unread)
 }
 
-// Says what is wrong with a file, if anything is.
-fn say_found(program: &[u8], path: &[u8], found: Found) {
+// Says what is wrong with a file that has these octets, if anything is.
+fn say_found(program: &[u8], path: &[u8], octets: &[u8], found: Found) {
     match found {
         Found::Unread => console::say_failed(program, path),
         Found::TooLong => console::say(program, path, b"more than 65536 octets"),
-        Found::Text(f) => say_finding(program, path, f),
+        Found::Text(f) => say_finding(program, path, octets, f),
     }
 }
 
@@ -268,7 +304,8 @@ pub fn load_open(program: &[u8], name: &[u8], fd: i32, area: &mut [u8]) -> Loade
     let filled = fill_from(fd, area);
     let j = judge(filled, area);
     let found = j.found;
-    say_found(program, name, found);
+    let n = filled.size;
+    say_found(program, name, &area[..n], found);
     let file = files::of_descriptor(fd);
     Loaded {
         filled: filled,

@@ -21,7 +21,7 @@ answered-other finds.Good s o =
     (⊎-elim (λ (e : _≡_ {A = ℕ} 0 1). omega arith)
     (⊎-elim (λ (e : _≡_ {A = ℕ} 0 2). omega arith)
     (⊎-elim (λ (e : _≡_ {A = ℕ} 0 3). omega arith) (λ (e : _≡_ {A = ℕ} 0 4). omega arith))) o)
-answered-other (finds.Line n w) s o = refl
+answered-other (finds.Line n k w) s o = refl
 answered-other (finds.Lacks m) s o = refl
-answered-other (finds.Zone i) s o = refl
+answered-other (finds.Zone v b) s o = refl
 answered-other finds.Other s o = refl

@@ -28,7 +28,7 @@ use Rattle.setting_text.specs.declared.Draft.{Draft}
 use Rattle.setting_text.specs.declared.Gathered.{Gathered}
 use Rattle.setting_text.specs.Texts.{blank, stops, until, onto, cut, full, lines, said, words, first, others, same, isNumber, value, numberOf}
 use Rattle.setting_text.specs.Table.{item, word, one, from, end, frameLines, partLines, channelLine, laneHead, packetsEnd, accessEnd, table, place, worth, fresh, counted, noted, further, turned, step, follow, through, heard}
-use Rattle.setting_text.specs.Facts.{nothing, refuse, told, withFact, addFact, listing, withChannel, withLane, ocfUnlike, addChannel, addLane, addLaneOf, takeSaid, takeAsked, takeLine, gather}
+use Rattle.setting_text.specs.Facts.{nothing, refuse, forbid, told, withFact, addFact, listing, withChannel, withLane, ocfUnlike, addChannel, addLane, addLaneOf, takeSaid, takeAsked, takeLine, gather}
 use Rattle.setting_text.specs.Places.{Gathering}
 use Rattle.setting_text.proofs.Texts.{pieces, cut-until}
 
@@ -43,14 +43,18 @@ either-within true d d′ r q = r
 either-within false d d′ r q = q
 
 module _ (d : Draft) (r : Within d) where
-  refuse-within : (w : Wanted) → Within (refuse w d)
+  refuse-within : (k : ℕ) (w : Wanted) → Within (refuse k w d)
   unfolding refuse
-  refuse-within w = record { channels = r .channels; lanes = r .lanes }
+  refuse-within k w = record { channels = r .channels; lanes = r .lanes }
+
+  forbid-within : (w : Wanted) → Within (forbid w d)
+  unfolding forbid
+  forbid-within w = refuse-within 256 w
 
   fact-within : (k n : ℕ) → Within (addFact k n d)
   unfolding addFact told withFact
   fact-within k n =
-      either-within (getD (d .facts) k false) (refuse want.NewFact d) _ (refuse-within want.NewFact)
+      either-within (getD (d .facts) k false) (forbid want.NewFact d) _ (forbid-within want.NewFact)
       (record { channels = r .channels; lanes = r .lanes })
 
   more-channels : (c : Channel) → d .setting .listed < 8 → Within (withChannel c d)
@@ -64,27 +68,27 @@ module _ (d : Draft) (r : Within d) where
   add-channel-within : (c : Channel) → Within (addChannel c d)
   unfolding addChannel
   add-channel-within c =
-      either-within (none (channelAt (d .setting) (c .vc) (c .service))) _ (refuse want.NewChannel d)
-      (either-within (ocfUnlike (d .setting) c) (refuse want.SameOcf d) _ (refuse-within want.SameOcf) last)
-      (refuse-within want.NewChannel)
+      either-within (none (channelAt (d .setting) (c .vc) (c .service))) _ (forbid want.NewChannel d)
+      (either-within (ocfUnlike (d .setting) c) (forbid want.SameOcf d) _ (forbid-within want.SameOcf) last)
+      (forbid-within want.NewChannel)
     where
-      last : Within (cond (8 ≤? d .setting .listed) (refuse want.FewerChannels d) (withChannel c d))
+      last : Within (cond (8 ≤? d .setting .listed) (forbid want.FewerChannels d) (withChannel c d))
       last =
-          split 8 (d .setting .listed) (λ h. rw (le-leb _ _ h) (refuse-within want.FewerChannels)) (λ h. rw (lt-leb _ _ h) (more-channels c h))
+          split 8 (d .setting .listed) (λ h. rw (le-leb _ _ h) (forbid-within want.FewerChannels)) (λ h. rw (lt-leb _ _ h) (more-channels c h))
 
   add-lane-within : (l : Lane) → Within (addLane l d)
   unfolding addLane
   add-lane-within l =
-      either-within (none (laneAt (d .setting) (l .channel) (l .map))) _ (refuse want.NewMap d) last (refuse-within want.NewMap)
+      either-within (none (laneAt (d .setting) (l .channel) (l .map))) _ (forbid want.NewMap d) last (forbid-within want.NewMap)
     where
-      last : Within (cond (8 ≤? d .setting .numbered) (refuse want.FewerLanes d) (withLane l d))
+      last : Within (cond (8 ≤? d .setting .numbered) (forbid want.FewerLanes d) (withLane l d))
       last =
-          split 8 (d .setting .numbered) (λ h. rw (le-leb _ _ h) (refuse-within want.FewerLanes)) (λ h. rw (lt-leb _ _ h) (more-lanes l h))
+          split 8 (d .setting .numbered) (λ h. rw (le-leb _ _ h) (forbid-within want.FewerLanes)) (λ h. rw (lt-leb _ _ h) (more-lanes l h))
 
   lane-of-within : (p : Place) (ns : List ℕ) → Within (addLaneOf p ns d)
   unfolding addLaneOf
   lane-of-within (At c) ns = add-lane-within _
-  lane-of-within Nowhere ns = refuse-within want.ListedChannel
+  lane-of-within Nowhere ns = forbid-within want.ListedChannel
 
   said-within : (s : Says) (ns : List ℕ) → Within (takeSaid s ns d)
   unfolding takeSaid
@@ -95,9 +99,9 @@ module _ (d : Draft) (r : Within d) where
 
   asked-within : (a : Ask) (h : Heard) → Within (takeAsked a h d)
   unfolding takeAsked
-  asked-within (ask.Word w) h = refuse-within w
-  asked-within (ask.Number low high) h = refuse-within (want.Number low high)
-  asked-within (ask.End s) h = either-within (h .fits) _ (refuse want.End d) (said-within s (h .numbers)) (refuse-within want.End)
+  asked-within (ask.Word w) h = refuse-within (h .count) w
+  asked-within (ask.Number low high) h = refuse-within (h .count) (want.Number low high)
+  asked-within (ask.End s) h = either-within (h .fits) _ (refuse (h .count) want.End d) (said-within s (h .numbers)) (refuse-within (h .count) want.End)
 
   pub line-within : (l : List ℕ) → Within (takeLine d l)
   unfolding takeLine

@@ -47,9 +47,9 @@ answered-good : (f : Finding) (s : Setting) → (f ≡ finds.Good → settingOk 
     → settingOk ((answered f s) .setting) ≡ true
 unfolding answered
 answered-good finds.Good s h e = h refl
-answered-good (finds.Line n w) s h e = let z : _≡_ {A = ℕ} 0 1 = cc in absurd (omega arith)
+answered-good (finds.Line n k w) s h e = let z : _≡_ {A = ℕ} 0 1 = cc in absurd (omega arith)
 answered-good (finds.Lacks m) s h e = absurd (lacks-bad m e)
-answered-good (finds.Zone i) s h e = let z : _≡_ {A = ℕ} 0 1 = cc in absurd (omega arith)
+answered-good (finds.Zone v b) s h e = let z : _≡_ {A = ℕ} 0 1 = cc in absurd (omega arith)
 answered-good finds.Other s h e = let z : _≡_ {A = ℕ} 0 1 = cc in absurd (omega arith)
 
 pub good-valid : (t : List ℕ) → (parsed t) .finding ≡ finds.Good → settingOk ((parsed t) .setting) ≡ true

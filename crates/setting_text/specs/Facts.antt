@@ -34,15 +34,19 @@ use Rattle.setting_text.specs.declared.Gathered.{Gathered}
 
 -- Nothing was said.
 unfoldable pub nothing : Draft
-nothing = record { setting = noSetting; facts = replicate 7 false; fits = true; wanted = want.Nothing }
+nothing = record { setting = noSetting; facts = replicate 7 false; fits = true; word = 0; wanted = want.Nothing }
 
--- This was wanted.
-unfoldable pub refuse : Wanted → Draft → Draft
-refuse w d = record { setting = d .setting; facts = d .facts; fits = false; wanted = w }
+-- "What should stand in the place of the first word that does not fit": that word, from 0, and this was wanted.
+unfoldable pub refuse : ℕ → Wanted → Draft → Draft
+refuse k w d = record { setting = d .setting; facts = d .facts; fits = false; word = k; wanted = w }
+
+-- "Where all words fit, it is what the lines before forbid": 256 stands in the place of a word.
+unfoldable pub forbid : Wanted → Draft → Draft
+forbid w d = refuse 256 w d
 
 -- The setting becomes this one by a fact, 0 to 4, a channel, 5, or a lane, 6.
 unfoldable pub told : ℕ → Setting → Draft → Draft
-told k s d = record { setting = s; facts = set (d .facts) k true; fits = d .fits; wanted = d .wanted }
+told k s d = record { setting = s; facts = set (d .facts) k true; fits = d .fits; word = d .word; wanted = d .wanted }
 
 -- ---- single facts
 
@@ -63,7 +67,7 @@ withFact k n s =
 
 -- "A fact of the first five said twice."
 unfoldable pub addFact : ℕ → ℕ → Draft → Draft
-addFact k n d = cond (getD (d .facts) k false) (refuse want.NewFact d) (told k (withFact k n (d .setting)) d)
+addFact k n d = cond (getD (d .facts) k false) (forbid want.NewFact d) (told k (withFact k n (d .setting)) d)
 
 -- ---- channels and lanes, numbered by their lines
 
@@ -101,9 +105,9 @@ ocfUnlike s c = at (channelAt s (c .vc) (1 - c .service)) (λ (i : ℕ). not (Bo
 unfoldable pub addChannel : Channel → Draft → Draft
 addChannel c d =
     cond (none (channelAt (d .setting) (c .vc) (c .service)))
-    (cond (ocfUnlike (d .setting) c) (refuse want.SameOcf d)
-    (cond (8 ≤? d .setting .listed) (refuse want.FewerChannels d) (withChannel c d)))
-    (refuse want.NewChannel d)
+    (cond (ocfUnlike (d .setting) c) (forbid want.SameOcf d)
+    (cond (8 ≤? d .setting .listed) (forbid want.FewerChannels d) (withChannel c d)))
+    (forbid want.NewChannel d)
 
 -- The channel of a line's numbers.
 unfoldable pub channelOf : List ℕ → Channel
@@ -113,8 +117,8 @@ channelOf ns = record { vc = getD ns VC 0; service = getD ns SERVICE 0; octets =
 unfoldable pub addLane : Lane → Draft → Draft
 addLane l d =
     cond (none (laneAt (d .setting) (l .channel) (l .map)))
-    (cond (8 ≤? d .setting .numbered) (refuse want.FewerLanes d) (withLane l d))
-    (refuse want.NewMap d)
+    (cond (8 ≤? d .setting .numbered) (forbid want.FewerLanes d) (withLane l d))
+    (forbid want.NewMap d)
 
 -- The lane of a line's numbers. "Packet lane: UPID 0. Access lane: UPID 1 to 30."
 unfoldable pub laneOf : ℕ → List ℕ → Lane
@@ -130,7 +134,7 @@ laneOf c ns =
 -- "A lane of a channel that is not listed."
 unfoldable pub addLaneOf : Place → List ℕ → Draft → Draft
 addLaneOf (At c) ns d = addLane (laneOf c ns) d
-addLaneOf Nowhere ns d = refuse want.ListedChannel d
+addLaneOf Nowhere ns d = forbid want.ListedChannel d
 
 -- ---- a line
 
@@ -140,11 +144,11 @@ takeSaid say.Channel ns d = addChannel (channelOf ns) d
 takeSaid say.Lane ns d = addLaneOf (channelAt (d .setting) (getD ns VC 0) (getD ns SERVICE 0)) ns d
 takeSaid say.Nothing ns d = d
 
--- The line's words fit up to its end, or this was asked for last.
+-- The line's words fit up to its end, or this was asked of the first word after those that fit.
 unfoldable pub takeAsked : Ask → Heard → Draft → Draft
-takeAsked (ask.Word w) h d = refuse w d
-takeAsked (ask.Number low high) h d = refuse (want.Number low high) d
-takeAsked (ask.End s) h d = cond (h .fits) (takeSaid s (h .numbers) d) (refuse want.End d)
+takeAsked (ask.Word w) h d = refuse (h .count) w d
+takeAsked (ask.Number low high) h d = refuse (h .count) (want.Number low high) d
+takeAsked (ask.End s) h d = cond (h .fits) (takeSaid s (h .numbers) d) (refuse (h .count) want.End d)
 
 unfoldable pub takeLine : Draft → List ℕ → Draft
 takeLine d l =
@@ -165,7 +169,7 @@ zoneless s = tests.first (s .listed) (λ (i : ℕ). zone s (channel s i) =? 0)
 
 -- A setting that has its zones is valid.
 unfoldable pub judged : Place → Setting → Finding
-judged (At i) s = finds.Zone i
+judged (At i) s = finds.Zone ((channel s i) .vc) ((channel s i) .service)
 judged Nowhere s = cond (settingOk s) finds.Good finds.Other
 
 -- "Something was never said, the first of: frame length, spacecraft, source or destination, insert, check, a channel, a lane."
@@ -181,14 +185,14 @@ allFound Nowhere s = judged (zoneless s) s
 
 -- The first bad line, or what all lines come to.
 unfoldable pub found : Gathered → Finding
-found g = cond (g .draft .fits) (allFound (lacking (g .draft)) (g .draft .setting)) (finds.Line (g .line) (g .draft .wanted))
+found g = cond (g .draft .fits) (allFound (lacking (g .draft)) (g .draft .setting)) (finds.Line (g .line) (g .draft .word) (g .draft .wanted))
 
 -- The setting where it is found good, and one of zeros otherwise.
 unfoldable pub answered : Finding → Setting → Parsed
 answered finds.Good s = record { finding = finds.Good; setting = s }
-answered (finds.Line n w) s = record { finding = finds.Line n w; setting = noSetting }
+answered (finds.Line n k w) s = record { finding = finds.Line n k w; setting = noSetting }
 answered (finds.Lacks m) s = record { finding = finds.Lacks m; setting = noSetting }
-answered (finds.Zone i) s = record { finding = finds.Zone i; setting = noSetting }
+answered (finds.Zone v b) s = record { finding = finds.Zone v b; setting = noSetting }
 answered finds.Other s = record { finding = finds.Other; setting = noSetting }
 
 unfoldable pub parsed : List ℕ → Parsed

@@ -13,12 +13,13 @@ use Rattle.setting_text.specs.declared.Stop.the-variants as stop
 unfoldable pub blank : ℕ → Bool
 blank x = x =? 32 || x =? 9 || x =? 13
 
--- Whether an octet is a line feed, a `#`, a blank, or something else than a blank.
+-- Whether an octet is a line feed, a `#`, a blank, something else than a blank, or a carriage return.
 unfoldable pub stops : Stop → ℕ → Bool
 stops stop.Feed x = x =? 10
 stops stop.Hash x = x =? 35
 stops stop.Blank x = blank x
 stops stop.Word x = not (blank x)
+stops stop.Return x = x =? 13
 
 -- How many octets stand before the first one of these; all, where there is none.
 unfoldable pub until : (ℕ → Bool) → List ℕ → ℕ

@@ -9,7 +9,7 @@ ghost use Rattle.rules.specs.declared.Kind.the-variants as kinds;
 ghost use Rattle.setting_text.specs.Texts.{blank, stops, same, words, numberOf};
 ghost use Rattle.setting_text.specs.Table.{VC, SERVICE, item, from, end, frameLines, partLines, channelLine, laneHead, packetsEnd, accessEnd, place, worth, fresh, counted, noted, step, follow, heard};
 ghost use Rattle.setting_text.specs.Places.{Until, Word, seen, moved, most, Bounded, Known, Sound, Gathering};
-ghost use Rattle.setting_text.specs.Facts.{nothing, refuse, told, withFact, addFact, withChannel, withLane, ocfUnlike, addChannel, channelOf, addLane, laneOf, addLaneOf, takeSaid, takeAsked, takeLine, zoneless, judged, lacking, allFound, found, answered, parsed};
+ghost use Rattle.setting_text.specs.Facts.{nothing, refuse, forbid, told, withFact, addFact, withChannel, withLane, ocfUnlike, addChannel, channelOf, addLane, laneOf, addLaneOf, takeSaid, takeAsked, takeLine, zoneless, judged, lacking, allFound, found, answered, parsed};
 use rules::Channel;
 use rules::Kind;
 use rules::Lane;
@@ -51,13 +51,13 @@ pub enum Missing {
     Lane,
 }
 
-// A valid setting; a bad line, from 1, and what was expected there; what the text lacks; a channel, from 0, whose zone has no
-// octet; another rule of document 01 that the setting breaks.
+// A valid setting; a bad line, from 1, the first of its words that does not fit, from 0 (256 where all do), and what was expected there; what the text lacks; virtual
+// channel and service of a channel whose zone has no octet; another rule of document 01 that the setting breaks.
 pub enum Finding {
     Good,
-    Line(usize, Wanted),
+    Line(usize, usize, Wanted),
     Lacks(Missing),
-    Zone(usize),
+    Zone(u8, u8),
     Other,
 }
 
@@ -67,12 +67,13 @@ pub struct Parsed {
     pub setting: Setting,
 }
 
-// Octets that end something: a line feed, a `#`, a blank, and what is no blank.
+// Octets that end something: a line feed, a `#`, a blank, what is no blank, a carriage return.
 pub enum Stop {
     Feed,
     Hash,
     Blank,
     Word,
+    Return,
 }
 
 // Where a word stands.
@@ -113,12 +114,13 @@ pub struct Trace {
     pub best: Heard,
 }
 
-// What the lines said so far, whether each single fact, a channel and a lane were said, whether all lines fit, and what was expected
-// otherwise.
+// What the lines said so far, whether each single fact, a channel and a lane were said, whether all lines fit, and otherwise which word of the
+// last does not (256 where the lines before forbid it) and what was expected.
 pub struct Draft {
     pub setting: Setting,
     pub facts: [bool; 7],
     pub fits: bool,
+    pub word: usize,
     pub wanted: Wanted,
 }
 
@@ -158,6 +160,9 @@ const ASIDE: usize = 12;
 
 const END: usize = 13;
 
+// In the place of a word, where all of a line fit: more than a line of the table has.
+pub const NO_WORD: usize = 256;
+
 // What is missing where it was never said.
 const MISSING: [Missing; 7] = [
     Missing::Length,
@@ -170,7 +175,7 @@ const MISSING: [Missing; 7] = [
 ];
 
 // Whether an octet is a blank.
-fn is_blank(x: u8) -> bool
+pub fn is_blank(x: u8) -> bool
     ensures { λ r. ⌜ r ≡ blank x ⌝ }
 {
     if x == 32 {
@@ -194,11 +199,12 @@ fn stops_at(s: Stop, x: u8) -> bool
             let b = is_blank(x);
             return !b;
         }
+        Stop::Return => x == 13,
     }
 }
 
 // How many octets stand before the first of these; all, where there is none.
-fn until_stop(octets: &[u8], s: Stop) -> usize
+pub fn until_stop(octets: &[u8], s: Stop) -> usize
     ensures { λ r. ⌜ Until s (now (octets .entry)) r ⌝ }
 {
     let mut i: usize = 0;
@@ -231,7 +237,7 @@ fn same_word(a: &[u8], b: &[u8]) -> bool
 }
 
 // Where the next word stands from octet `at` on; an empty place where there is none.
-fn next_word(line: &[u8], at: usize) -> Span
+pub fn next_word(line: &[u8], at: usize) -> Span
     ensures { λ r. ⌜ Word (now (line .entry)) at (r .from) (r .to) ⌝ }
 {
     let n = line.len();
@@ -539,9 +545,9 @@ fn hear_line(line: &[u8]) -> Heard
     t.best
 }
 
-// The draft, refused: this was wanted.
-fn refused(d: Draft, wanted: Wanted) -> Draft
-    ensures { λ r. ⌜ r ≡ refuse wanted d ⌝ }
+// The draft, refused: in the place of this word, that was wanted.
+fn refused(d: Draft, word: usize, wanted: Wanted) -> Draft
+    ensures { λ r. ⌜ r ≡ refuse word wanted d ⌝ }
 {
     let s = d.setting;
     let f = d.facts;
@@ -549,8 +555,16 @@ fn refused(d: Draft, wanted: Wanted) -> Draft
         setting: s,
         facts: f,
         fits: false,
+        word: word,
         wanted: wanted,
     }
+}
+
+// The draft, refused: the line fits, and the lines before forbid it.
+fn forbidden(d: Draft, wanted: Wanted) -> Draft
+    ensures { λ r. ⌜ r ≡ forbid wanted d ⌝ }
+{
+    refused(d, NO_WORD, wanted)
 }
 
 // Nothing was said.
@@ -563,6 +577,7 @@ fn no_draft() -> Draft
         setting: s,
         facts: [false; 7],
         fits: true,
+        word: 0,
         wanted: Wanted::Nothing,
     }
 }
@@ -615,7 +630,7 @@ fn add_fact(d: Draft, fact: usize, n: usize) -> Draft
 {
     let f = d.facts;
     if f[fact] {
-        return refused(d, Wanted::NewFact);
+        return forbidden(d, Wanted::NewFact);
     }
     let s = d.setting;
     let t = put_fact(s, fact, n);
@@ -659,14 +674,14 @@ fn add_channel(d: Draft, c: Channel) -> Draft
     let s = d.setting;
     let p = setting::channel_at(s, c.vc, c.service);
     let Place::Nowhere = p else {
-        return refused(d, Wanted::NewChannel);
+        return forbidden(d, Wanted::NewChannel);
     };
     let unlike = ocf_unlike(s, c);
     if unlike {
-        return refused(d, Wanted::SameOcf);
+        return forbidden(d, Wanted::SameOcf);
     }
     if 8 <= s.listed {
-        return refused(d, Wanted::FewerChannels);
+        return forbidden(d, Wanted::FewerChannels);
     }
     put_channel(d, c)
 }
@@ -707,10 +722,10 @@ fn add_lane(d: Draft, l: Lane) -> Draft
     let s = d.setting;
     let p = setting::lane_at(s, l.channel, l.map);
     let Place::Nowhere = p else {
-        return refused(d, Wanted::NewMap);
+        return forbidden(d, Wanted::NewMap);
     };
     if 8 <= s.numbered {
-        return refused(d, Wanted::FewerLanes);
+        return forbidden(d, Wanted::FewerLanes);
     }
     put_lane(d, l)
 }
@@ -761,7 +776,7 @@ fn add_lane_of(d: Draft, numbers: [usize; 14]) -> Draft
     let s = d.setting;
     let p = listed_at(s, numbers);
     let Place::At(c) = p else {
-        return refused(d, Wanted::ListedChannel);
+        return forbidden(d, Wanted::ListedChannel);
     };
     let l = lane_of(c, numbers);
     add_lane(d, l)
@@ -797,17 +812,17 @@ fn take_heard(d: Draft, h: Heard) -> Draft
     let ask = h.ask;
     match ask {
         Ask::Word(wanted) => {
-            return refused(d, wanted);
+            return refused(d, h.count, wanted);
         }
         Ask::Number(low, high) => {
-            return refused(d, Wanted::Number(low, high));
+            return refused(d, h.count, Wanted::Number(low, high));
         }
         Ask::End(says) => {
             let numbers = h.numbers;
             if h.fits {
                 return take_said(d, says, numbers);
             }
-            return refused(d, Wanted::End);
+            return refused(d, h.count, Wanted::End);
         }
     }
 }
@@ -872,7 +887,8 @@ fn judge(s: Setting) -> Finding
     let p = zoneless_at(s);
     match p {
         Place::At(i) => {
-            return Finding::Zone(i);
+            let c = s.channels[i];
+            return Finding::Zone(c.vc, c.service);
         }
         Place::Nowhere => {
             let ok = setting::setting_ok(s);
@@ -927,7 +943,7 @@ fn find(g: Gathered) -> Finding
         return find_all(d);
     }
     let w = d.wanted;
-    Finding::Line(g.line, w)
+    Finding::Line(g.line, d.word, w)
 }
 
 // What a text is, with its setting if it is good.

@@ -1,13 +1,17 @@
--- `console::put_name` meets its contract: the area keeps its length, and no octet is put past the name or the area.
-use mathlib.Core.Path.{_≡_}
-use Prim.Native.Nat.{_-_}
-use lib.ListN.{length}
+-- `console::put_name` meets its contract. The first i octets stand in the area.
+use mathlib.Core.Path.{_≡_, refl, sym}
+use Prim.Native.Nat.{_-_, _≤_}
+use lib.ListN.{length, take}
+use native.Mathlib.Omega.{arith}
+use native.Mathlib.Numerals.{add-one}
 use borrow.Author.Needs.{needs}
+use Rattle.console.specs.Shown.{shown}
+use Rattle.console.proofs.Shown.{turn}
 use Rattle.console.proofs.put_name.Statement.{statement}
 use Rattle.console.proofs.put_name.Tie as tie
 
 abbrev Inv-loop : tie.InvT-loop
-Inv-loop area₀ name n i₀ area i = length area ≡ length area₀
+Inv-loop area₀ name n i₀ area i = (i ≤ n) × (length area ≡ length area₀) × (take i area ≡ shown (take i name))
 
 abbrev μ-loop : tie.MeasureT-loop
 μ-loop area₀ name n i₀ area i = n - i
@@ -16,7 +20,8 @@ within-requires : tie.Need-within-requires Inv-loop μ-loop
 within-requires c κs = search needs
 
 loop-holds : tie.Need-loop-holds Inv-loop μ-loop
-loop-holds c = search needs
+unfolding shown
+loop-holds c = (search needs, refl, refl)
 
 shared-slice-read-plain : tie.Need-shared-slice-read-plain Inv-loop μ-loop
 shared-slice-read-plain c = search needs
@@ -34,13 +39,20 @@ loop-less : tie.Need-loop-less Inv-loop μ-loop
 loop-less c = search needs
 
 loop-again : tie.Need-loop-again Inv-loop μ-loop
-loop-again c = search needs
+loop-again c =
+    let l = c .before .before .before .loop in
+    let a = c .before .before .before .before .before .before .before .args in
+    (search needs, search needs, rw add-one (turn (l .area) (a .name .now) (l .i) _ (search needs) (search needs) (c .plain .ensures) (l .inv .2)))
 
 same-length : tie.Need-same-length Inv-loop μ-loop
 same-length c = search needs
 
 returns : tie.Need-returns Inv-loop μ-loop
-returns c = search needs
+returns c =
+    let w = c .before .before .within .ensures in
+    let i = c .before .loop .inv in
+    let e : c .before .loop .i ≡ c .before .before .within .result = omega (arith, i .0, c .loop-test .left) in
+    (search needs, w .2, rw (sym e) (i .2))
 
 pub put-name-spec : {M : Type 1} → statement M
 put-name-spec =

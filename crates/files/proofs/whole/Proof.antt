@@ -1,19 +1,21 @@
--- `files::whole`: a size that is not negative fits.
-use mathlib.Core.Path.{sym, subst}
-use mathlib.Core.Bool.{Bool, not}
+-- `files::whole` meets its contract. A size that is not negative fits.
+use mathlib.Core.Path.{_≡_, sym, ap, subst, _∙_}
+use mathlib.Core.Bool.{Bool, true, false, not}
 use native.Mathlib.Nat.{lt-of-le-of-lt}
-use lib.IntN.{ℤ, natAbs}
+use lib.IntN.{ℤ, pos, natAbs}
 use lib.Dec.{T, lit<}
-use lib.Signed.{ltZ-no, yes-nonNeg, natAbs-le}
+use lib.Signed.{ltZ, ltZ-no, yes-nonNeg, natAbs-le}
 use mir.Syntax.{w64}
 use mir.Val.{Fits, toZ, ofZ}
 use mir.ValLaws.{toZ-ofZ}
-use borrow.Author.Needs.{needs}
+use Rattle.files.proofs.Sizes.{below, from-zero}
 use Rattle.files.proofs.whole.Statement.{statement}
 use Rattle.files.proofs.whole.Tie as tie
 
 returns : tie.Need-returns
-returns c = search needs
+returns c =
+    let z = c .before .args .size in
+    below z (subst (λ (x : ℤ). ltZ x (pos 0) ≡ true) (toZ-ofZ w64 z (c .before .fits .size)) (c .if1 .taken))
 
 cast-result : tie.Need-cast-result
 cast-result c =
@@ -24,7 +26,10 @@ cast-result c =
     )
 
 returns-2 : tie.Need-returns-2
-returns-2 c = search needs
+returns-2 c =
+    let z = c .before .args .size in
+    let e = toZ-ofZ w64 z (c .before .fits .size) in
+    ap natAbs e ∙ from-zero z (subst (λ (x : ℤ). ltZ x (pos 0) ≡ false) e (c .if1 .left))
 
 pub whole-spec : {M : Type 1} → statement M
 whole-spec = tie.close (tie.spec returns cast-result returns-2)

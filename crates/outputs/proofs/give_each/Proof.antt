@@ -1,28 +1,28 @@
 -- `outputs::give_each`: what its callees promise is enough.
-use borrow.Author.Needs.{needs}
-use lib.ListN.{length}
-use mathlib.Core.Path.{_≡_}
 use Prim.Native.Nat.{_-_, _≤_}
+use mathlib.Core.Path.{_≡_}
+use lib.ListN.{length}
+use borrow.Author.Needs.{needs}
 use Rattle.outputs.proofs.give_each.Statement.{statement}
 use Rattle.outputs.proofs.give_each.Tie as tie
 
 abbrev Inv-loop : tie.InvT-loop
-Inv-loop p name₀ n i₀ name i = (i ≤ 10) × (length name ≡ length name₀)
+Inv-loop p name₀ n s₀ i₀ name s i = (i ≤ 10) × (length name ≡ length name₀)
 
 abbrev μ-loop : tie.MeasureT-loop
-μ-loop p name₀ n i₀ name i = 10 - i
+μ-loop p name₀ n s₀ i₀ name s i = 10 - i
 
 loop-holds : tie.Need-loop-holds Inv-loop μ-loop
 loop-holds c = search needs
-
-give-name-requires : tie.Need-give-name-requires Inv-loop μ-loop
-give-name-requires c κs = search needs
 
 same-length : tie.Need-same-length Inv-loop μ-loop
 same-length c = search needs
 
 returns : tie.Need-returns Inv-loop μ-loop
 returns c = search needs
+
+give-name-requires : tie.Need-give-name-requires Inv-loop μ-loop
+give-name-requires c κs = search needs
 
 add-i : tie.Need-add-i Inv-loop μ-loop
 add-i c = search needs
@@ -46,9 +46,9 @@ give-each-spec =
     Inv-loop
     μ-loop
     loop-holds
-    give-name-requires
     same-length
     returns
+    give-name-requires
     add-i
     loop-less
     loop-again

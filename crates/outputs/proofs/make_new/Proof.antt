@@ -5,8 +5,8 @@ use borrow.Author.Needs.{needs}
 use Rattle.outputs.proofs.make_new.Statement.{statement}
 use Rattle.outputs.proofs.make_new.Tie as tie
 
-put-part-requires : tie.Need-put-part-requires
-put-part-requires c κs = search needs
+put-marked-requires : tie.Need-put-marked-requires
+put-marked-requires c κs = search needs
 
 slice-reshare-prefix-create : tie.Need-slice-reshare-prefix-create
 slice-reshare-prefix-create c = search needs
@@ -45,7 +45,7 @@ pub make-new-spec : {M : Type 1} → statement M
 make-new-spec =
     tie.close
     (tie.spec
-    put-part-requires
+    put-marked-requires
     slice-reshare-prefix-create
     slice-aggregate-create
     create-requires

@@ -1,5 +1,6 @@
 -- `outputs::put_mark`: what its callees promise is enough.
-use Rattle.unpack_text.proofs.Writes.{wrote-then, wrote-text}
+use Rattle.unpack_text.proofs.Writes.{wrote-then, wrote-text, wrote-more}
+use lib.Dec.{lit≤}
 use Rattle.outputs.specs.Names.{mark}
 use Rattle.rules.specs.Listing.{text}
 use borrow.Author.Needs.{needs}
@@ -23,8 +24,25 @@ same-length c = search needs
 
 returns : tie.Need-returns
 unfolding mark text
-returns c = wrote-then (c .before .before .before .before .before .before .before .put-named .ensures) (wrote-text (c .before .before .put-text .ensures))
-    (search needs)
+returns c =
+    let n = c .before .before .before .before .before in
+    rw (n .if1 .taken)
+    (wrote-more 26 (lit≤ tt) (wrote-then (n .before .before .before .put-named .ensures) (wrote-text (c .before .before .put-text .ensures)) (search needs)))
+
+slice-aggregate-put-text-2 : tie.Need-slice-aggregate-put-text-2
+slice-aggregate-put-text-2 c = search needs
+
+put-text-requires-2 : tie.Need-put-text-requires-2
+put-text-requires-2 c κs = search needs
+
+same-length-2 : tie.Need-same-length-2
+same-length-2 c = search needs
+
+returns-2 : tie.Need-returns-2
+unfolding mark text
+returns-2 c =
+    let n = c .before .before .before .before .before in
+    rw (n .if1 .left) (wrote-then (n .before .before .before .put-named .ensures) (wrote-text (c .before .before .put-text2 .ensures)) (search needs))
 
 pub put-mark-spec : {M : Type 1} → statement M
 put-mark-spec =
@@ -35,4 +53,8 @@ put-mark-spec =
     slice-aggregate-put-text
     put-text-requires
     same-length
-    returns)
+    returns
+    slice-aggregate-put-text-2
+    put-text-requires-2
+    same-length-2
+    returns-2)

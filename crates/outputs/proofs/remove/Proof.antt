@@ -11,8 +11,8 @@ returns c = search needs
 close-requires : tie.Need-close-requires
 close-requires c κs = search needs
 
-put-part-requires : tie.Need-put-part-requires
-put-part-requires c κs = search needs
+put-marked-requires : tie.Need-put-marked-requires
+put-marked-requires c κs = search needs
 
 slice-reshare-prefix-unlink : tie.Need-slice-reshare-prefix-unlink
 slice-reshare-prefix-unlink c = search needs
@@ -35,7 +35,7 @@ remove-spec =
     (tie.spec
     returns
     close-requires
-    put-part-requires
+    put-marked-requires
     slice-reshare-prefix-unlink
     slice-aggregate-unlink
     unlink-requires

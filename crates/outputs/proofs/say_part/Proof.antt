@@ -5,8 +5,8 @@ use borrow.Author.Needs.{needs}
 use Rattle.outputs.proofs.say_part.Statement.{statement}
 use Rattle.outputs.proofs.say_part.Tie as tie
 
-put-part-requires : tie.Need-put-part-requires
-put-part-requires c κs = search needs
+put-marked-requires : tie.Need-put-marked-requires
+put-marked-requires c κs = search needs
 
 slice-aggregate-say-failed : tie.Need-slice-aggregate-say-failed
 slice-aggregate-say-failed c = search needs
@@ -30,7 +30,7 @@ pub say-part-spec : {M : Type 1} → statement M
 say-part-spec =
     tie.close
     (tie.spec
-    put-part-requires
+    put-marked-requires
     slice-aggregate-say-failed
     slice-reshare-prefix-say-failed
     slice-aggregate-say-failed-2

@@ -15,18 +15,18 @@ enum-told c = search needs
 enum-told-2 : tie.Need-enum-told-2
 enum-told-2 c = search needs
 
-refused-requires : tie.Need-refused-requires
-refused-requires c κs = search needs
+forbidden-requires : tie.Need-forbidden-requires
+forbidden-requires c κs = search needs
 
 returns : tie.Need-returns
 unfolding addChannel
-returns c = rw (sym (c .before .before .before .channel-at .ensures) ∙ c .before .enum-told2 .given .1) (c .refused .ensures)
+returns c = rw (sym (c .before .before .before .channel-at .ensures) ∙ c .before .enum-told2 .given .1) (c .forbidden .ensures)
 
 ocf-unlike-requires : tie.Need-ocf-unlike-requires
 ocf-unlike-requires c κs = search needs
 
-refused-requires-2 : tie.Need-refused-requires-2
-refused-requires-2 c κs = search needs
+forbidden-requires-2 : tie.Need-forbidden-requires-2
+forbidden-requires-2 c κs = search needs
 
 returns-2 : tie.Need-returns-2
 unfolding addChannel
@@ -34,10 +34,10 @@ returns-2 c = rw (
   sym (c .before .before .before .before .before .channel-at .ensures) ∙ c .before .before .before .enum-told .given .1,
   sym
       (c .before .before .ocf-unlike .ensures) ∙ c .before .if1 .taken,
-) (c .refused2 .ensures)
+) (c .forbidden2 .ensures)
 
-refused-requires-3 : tie.Need-refused-requires-3
-refused-requires-3 c κs = search needs
+forbidden-requires-3 : tie.Need-forbidden-requires-3
+forbidden-requires-3 c κs = search needs
 
 returns-3 : tie.Need-returns-3
 unfolding addChannel
@@ -47,7 +47,7 @@ returns-3 c = rw (
   sym (c .before .before .before .before .ocf-unlike .ensures)
       ∙ c .before .before .before .if1 .left,
   le-leb _ _ (c .before .if2 .taken),
-) (c .refused3 .ensures)
+) (c .forbidden3 .ensures)
 
 put-channel-requires : tie.Need-put-channel-requires
 put-channel-requires c κs = search needs
@@ -69,12 +69,12 @@ add-channel-spec =
     channel-at-requires
     enum-told
     enum-told-2
-    refused-requires
+    forbidden-requires
     returns
     ocf-unlike-requires
-    refused-requires-2
+    forbidden-requires-2
     returns-2
-    refused-requires-3
+    forbidden-requires-3
     returns-3
     put-channel-requires
     returns-4)

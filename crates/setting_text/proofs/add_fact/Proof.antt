@@ -8,12 +8,12 @@ use Rattle.setting_text.proofs.add_fact.Tie as tie
 array-read-if1 : tie.Need-array-read-if1
 array-read-if1 c = search needs
 
-refused-requires : tie.Need-refused-requires
-refused-requires c κs = search needs
+forbidden-requires : tie.Need-forbidden-requires
+forbidden-requires c κs = search needs
 
 returns : tie.Need-returns
 unfolding addFact
-returns c = rw (c .before .if1 .taken) (c .refused .ensures)
+returns c = rw (c .before .if1 .taken) (c .forbidden .ensures)
 
 put-fact-requires : tie.Need-put-fact-requires
 put-fact-requires c κs = search needs
@@ -28,4 +28,4 @@ returns-2 c = rw (c .before .before .before .if1 .left, sym (c .before .put-fact
 pub add-fact-spec : {M : Type 1} → statement M
 add-fact-spec =
     tie.close
-    (tie.spec array-read-if1 refused-requires returns put-fact-requires tell-requires returns-2)
+    (tie.spec array-read-if1 forbidden-requires returns put-fact-requires tell-requires returns-2)

@@ -15,15 +15,15 @@ enum-told c = search needs
 enum-told-2 : tie.Need-enum-told-2
 enum-told-2 c = search needs
 
-refused-requires : tie.Need-refused-requires
-refused-requires c κs = search needs
+forbidden-requires : tie.Need-forbidden-requires
+forbidden-requires c κs = search needs
 
 returns : tie.Need-returns
 unfolding addLane
-returns c = rw (sym (c .before .before .before .lane-at .ensures) ∙ c .before .enum-told2 .given .1) (c .refused .ensures)
+returns c = rw (sym (c .before .before .before .lane-at .ensures) ∙ c .before .enum-told2 .given .1) (c .forbidden .ensures)
 
-refused-requires-2 : tie.Need-refused-requires-2
-refused-requires-2 c κs = search needs
+forbidden-requires-2 : tie.Need-forbidden-requires-2
+forbidden-requires-2 c κs = search needs
 
 returns-2 : tie.Need-returns-2
 unfolding addLane
@@ -31,7 +31,7 @@ returns-2 c = rw (
   sym (c .before .before .before .before .before .lane-at .ensures) ∙ c .before .before .before .enum-told .given .1,
   le-leb _ _
       (c .before .if1 .taken),
-) (c .refused2 .ensures)
+) (c .forbidden2 .ensures)
 
 put-lane-requires : tie.Need-put-lane-requires
 put-lane-requires c κs = search needs
@@ -51,9 +51,9 @@ add-lane-spec =
     lane-at-requires
     enum-told
     enum-told-2
-    refused-requires
+    forbidden-requires
     returns
-    refused-requires-2
+    forbidden-requires-2
     returns-2
     put-lane-requires
     returns-3)

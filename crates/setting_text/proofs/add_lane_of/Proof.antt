@@ -14,12 +14,12 @@ enum-known-p c = search needs
 enum-told : tie.Need-enum-told
 enum-told c = search needs
 
-refused-requires : tie.Need-refused-requires
-refused-requires c κs = search needs
+forbidden-requires : tie.Need-forbidden-requires
+forbidden-requires c κs = search needs
 
 returns : tie.Need-returns
 unfolding addLaneOf
-returns c = rw (sym (c .before .before .before .listed-at .ensures) ∙ c .before .enum-told .given .1) (c .refused .ensures)
+returns c = rw (sym (c .before .before .before .listed-at .ensures) ∙ c .before .enum-told .given .1) (c .forbidden .ensures)
 
 lane-of-requires : tie.Need-lane-of-requires
 lane-of-requires c κs = search needs
@@ -40,7 +40,7 @@ add-lane-of-spec =
     listed-at-requires
     enum-known-p
     enum-told
-    refused-requires
+    forbidden-requires
     returns
     lane-of-requires
     add-lane-requires

@@ -1,6 +1,7 @@
 -- `setting_text::judge` meets its contract. A channel without zone, or the whole setting decides.
 use mathlib.Core.Path.{sym, _∙_}
-use Rattle.setting_text.specs.Facts.{judged}
+use Rattle.rules.proofs.Tests.{found-at}
+use Rattle.setting_text.specs.Facts.{zoneless, judged}
 use borrow.Author.Needs.{needs}
 use Rattle.setting_text.proofs.judge.Statement.{statement}
 use Rattle.setting_text.proofs.judge.Tie as tie
@@ -11,9 +12,17 @@ zoneless-at-requires c κs = search needs
 enum-known-p : tie.Need-enum-known-p
 enum-known-p c = search needs
 
+mul-c : tie.Need-mul-c
+unfolding zoneless
+mul-c c = let h = found-at _ _ _ (sym (c .before .before .before .zoneless-at .ensures) ∙ c .before .p .given .1) in search needs
+
+element-copy-out-c : tie.Need-element-copy-out-c
+unfolding zoneless
+element-copy-out-c c = let h = found-at _ _ _ (sym (c .before .before .before .zoneless-at .ensures) ∙ c .before .p .given .1) in search needs
+
 returns : tie.Need-returns
 unfolding judged
-returns c = rw (sym (c .before .before .before .zoneless-at .ensures) ∙ c .before .p .given .1)
+returns c = rw (sym (c .before .before .before .before .zoneless-at .ensures) ∙ c .before .before .p .given .1)
 
 enum-told : tie.Need-enum-told
 enum-told c = search needs
@@ -43,6 +52,8 @@ judge-spec =
     (tie.spec
     zoneless-at-requires
     enum-known-p
+    mul-c
+    element-copy-out-c
     returns
     enum-told
     setting-ok-requires

@@ -1,4 +1,4 @@
--- `setting_text::refused` meets its contract. All but the last two fields are kept.
+-- `setting_text::refused` meets its contract. All but the last three fields are kept.
 use mathlib.Core.Path.{refl}
 use Rattle.setting_text.specs.Facts.{refuse}
 use Rattle.setting_text.proofs.refused.Statement.{statement}

@@ -28,6 +28,9 @@ returns : tie.Need-returns
 unfolding stops
 returns c = rw (c .before .enum-told4 .given .1) (ap not (c .is-blank2 .ensures))
 
+enum-told-5 : tie.Need-enum-told-5
+enum-told-5 c = search needs
+
 returns-2 : tie.Need-returns-2
 unfolding stops
 returns-2 c = rw (c .enum-told .given .1)
@@ -40,6 +43,10 @@ returns-4 : tie.Need-returns-4
 unfolding stops
 returns-4 c = rw (c .before .enum-told3 .given .1) (c .is-blank .ensures)
 
+returns-5 : tie.Need-returns-5
+unfolding stops
+returns-5 c = rw (c .enum-told5 .given .1)
+
 pub stops-at-spec : {M : Type 1} → statement M
 stops-at-spec =
     tie.close
@@ -51,6 +58,8 @@ stops-at-spec =
     enum-told-4
     is-blank-requires-2
     returns
+    enum-told-5
     returns-2
     returns-3
-    returns-4)
+    returns-4
+    returns-5)
