@@ -3,10 +3,10 @@ use mathlib.Core.Path.{_≡_, refl, sym, _∙_}
 use Prim.Native.Nat.{_-_}
 use lib.ListN.{length}
 use borrow.Author.Needs.{needs}
-use Rattle.packing.specs.Words.{begins as beginsWith}
-use Rattle.packing.proofs.Words.{from, begins-end, begins-short, begins-other, begins-more}
-use Rattle.packing.proofs.begins.Statement.{statement}
-use Rattle.packing.proofs.begins.Tie as tie
+use Rattle.words.specs.Words.{begins as beginsWith}
+use Rattle.words.proofs.Words.{from, begins-end, begins-short, begins-other, begins-more}
+use Rattle.words.proofs.begins.Statement.{statement}
+use Rattle.words.proofs.begins.Tie as tie
 
 abbrev Inv-loop : tie.InvT-loop
 Inv-loop s word i₀ i = beginsWith word s ≡ from word s i

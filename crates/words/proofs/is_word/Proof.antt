@@ -1,9 +1,9 @@
--- `packing::is_word` meets its contract: the front, and then the length.
+-- `words::is_word` meets its contract: the front, and then the length.
 use mathlib.Core.Path.{sym, _∙_}
-use Rattle.packing.specs.Words.{isWord}
+use Rattle.words.specs.Words.{isWord}
 use borrow.Author.Needs.{needs}
-use Rattle.packing.proofs.is_word.Statement.{statement}
-use Rattle.packing.proofs.is_word.Tie as tie
+use Rattle.words.proofs.is_word.Statement.{statement}
+use Rattle.words.proofs.is_word.Tie as tie
 
 begins-requires : tie.Need-begins-requires
 begins-requires c κs = search needs
