@@ -1,8 +1,8 @@
--- Each thing that may be wrong.
-use Rattle.packing.specs.Words.{fine}
+-- `pack_start::is_fine` meets its contract: each thing that may be wrong.
+use Rattle.pack_start.specs.Plans.{fine}
 use borrow.Author.Needs.{needs}
-use Rattle.packing.proofs.is_fine.Statement.{statement}
-use Rattle.packing.proofs.is_fine.Tie as tie
+use Rattle.pack_start.proofs.is_fine.Statement.{statement}
+use Rattle.pack_start.proofs.is_fine.Tie as tie
 
 enum-told : tie.Need-enum-told
 enum-told c = search needs
@@ -18,6 +18,12 @@ enum-told-4 c = search needs
 
 enum-told-5 : tie.Need-enum-told-5
 enum-told-5 c = search needs
+
+enum-told-6 : tie.Need-enum-told-6
+enum-told-6 c = search needs
+
+enum-told-7 : tie.Need-enum-told-7
+enum-told-7 c = search needs
 
 returns : tie.Need-returns
 unfolding fine
@@ -39,6 +45,14 @@ returns-5 : tie.Need-returns-5
 unfolding fine
 returns-5 c = search needs
 
+returns-6 : tie.Need-returns-6
+unfolding fine
+returns-6 c = search needs
+
+returns-7 : tie.Need-returns-7
+unfolding fine
+returns-7 c = search needs
+
 pub is-fine-spec : {M : Type 1} → statement M
 is-fine-spec =
     tie.close
@@ -48,8 +62,12 @@ is-fine-spec =
     enum-told-3
     enum-told-4
     enum-told-5
+    enum-told-6
+    enum-told-7
     returns
     returns-2
     returns-3
     returns-4
-    returns-5)
+    returns-5
+    returns-6
+    returns-7)

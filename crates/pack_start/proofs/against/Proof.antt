@@ -1,9 +1,9 @@
--- `packing::against` meets its contract: by the kind of file, and then by which file it is, or how often it is read.
+-- `pack_start::against` meets its contract: by the kind of file, and then by which file it is, or how often it is read.
 use mathlib.Core.Path.{sym, _∙_}
-use Rattle.packing.specs.Words.{objectionTo}
+use Rattle.pack_start.specs.Plans.{objectionTo}
 use borrow.Author.Needs.{needs}
-use Rattle.packing.proofs.against.Statement.{statement}
-use Rattle.packing.proofs.against.Tie as tie
+use Rattle.pack_start.proofs.against.Statement.{statement}
+use Rattle.pack_start.proofs.against.Tie as tie
 
 regular-requires : tie.Need-regular-requires
 regular-requires c κs = search needs

@@ -1,10 +1,10 @@
 -- The code's tests are the definition's.
 use mathlib.Core.Path.{sym}
 use native.Mathlib.Omega.{arith}
-use Rattle.packing.proofs.Words.{lane-short, lane-other, lane-low, lane-is, lane-high}
+use Rattle.pack_start.proofs.Words.{lane-short, lane-other, lane-low, lane-is, lane-high}
 use borrow.Author.Needs.{needs}
-use Rattle.packing.proofs.lane_named.Statement.{statement}
-use Rattle.packing.proofs.lane_named.Tie as tie
+use Rattle.pack_start.proofs.lane_named.Statement.{statement}
+use Rattle.pack_start.proofs.lane_named.Tie as tie
 
 returns : tie.Need-returns
 returns c = let a = c .before .args in sym (lane-short (a .numbered) (a .s .now) (c .if1 .taken))
