@@ -1,8 +1,8 @@
 -- Each thing that may be wrong with a packet.
-use Rattle.packing.specs.Courses.{wrongFault}
+use Rattle.streams.specs.Streams.{wrongFault}
 use borrow.Author.Needs.{needs}
-use Rattle.packing.proofs.wrong_fault.Statement.{statement}
-use Rattle.packing.proofs.wrong_fault.Tie as tie
+use Rattle.streams.proofs.wrong_fault.Statement.{statement}
+use Rattle.streams.proofs.wrong_fault.Tie as tie
 
 enum-told : tie.Need-enum-told
 enum-told c = search needs

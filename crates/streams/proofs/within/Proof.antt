@@ -1,10 +1,10 @@
 -- No more than the area has.
-use Rattle.packing.proofs.Courses.{take-least}
+use Rattle.streams.proofs.Streams.{take-least}
 use mathlib.Core.Path.{sym}
 use lib.Seq.{length-take-le}
 use borrow.Author.Needs.{needs}
-use Rattle.packing.proofs.within.Statement.{statement}
-use Rattle.packing.proofs.within.Tie as tie
+use Rattle.streams.proofs.within.Statement.{statement}
+use Rattle.streams.proofs.within.Tie as tie
 
 least-requires : tie.Need-least-requires
 least-requires c κs = search needs

@@ -1,8 +1,8 @@
--- Each thing that may go wrong.
-use Rattle.packing.specs.Courses.{sound}
+-- `streams::is_sound` meets its contract: each thing that may go wrong.
+use Rattle.streams.specs.Streams.{sound}
 use borrow.Author.Needs.{needs}
-use Rattle.packing.proofs.is_sound.Statement.{statement}
-use Rattle.packing.proofs.is_sound.Tie as tie
+use Rattle.streams.proofs.is_sound.Statement.{statement}
+use Rattle.streams.proofs.is_sound.Tie as tie
 
 enum-told : tie.Need-enum-told
 enum-told c = search needs
@@ -24,6 +24,18 @@ enum-told-6 c = search needs
 
 enum-told-7 : tie.Need-enum-told-7
 enum-told-7 c = search needs
+
+enum-told-8 : tie.Need-enum-told-8
+enum-told-8 c = search needs
+
+enum-told-9 : tie.Need-enum-told-9
+enum-told-9 c = search needs
+
+enum-told-10 : tie.Need-enum-told-10
+enum-told-10 c = search needs
+
+enum-told-11 : tie.Need-enum-told-11
+enum-told-11 c = search needs
 
 returns : tie.Need-returns
 unfolding sound
@@ -53,6 +65,22 @@ returns-7 : tie.Need-returns-7
 unfolding sound
 returns-7 c = search needs
 
+returns-8 : tie.Need-returns-8
+unfolding sound
+returns-8 c = search needs
+
+returns-9 : tie.Need-returns-9
+unfolding sound
+returns-9 c = search needs
+
+returns-10 : tie.Need-returns-10
+unfolding sound
+returns-10 c = search needs
+
+returns-11 : tie.Need-returns-11
+unfolding sound
+returns-11 c = search needs
+
 pub is-sound-spec : {M : Type 1} → statement M
 is-sound-spec =
     tie.close
@@ -64,10 +92,18 @@ is-sound-spec =
     enum-told-5
     enum-told-6
     enum-told-7
+    enum-told-8
+    enum-told-9
+    enum-told-10
+    enum-told-11
     returns
     returns-2
     returns-3
     returns-4
     returns-5
     returns-6
-    returns-7)
+    returns-7
+    returns-8
+    returns-9
+    returns-10
+    returns-11)
