@@ -46,7 +46,6 @@ take-least n xs {r} e =
     (λ h. ap (λ (i : ℕ). take i xs) (e ∙ min-eq-left h))
     (λ h. ap (λ (i : ℕ). take i xs) (e ∙ min-eq-right (omega arith)) ∙ take-all (length xs) xs (omega arith) ∙ sym (take-all n xs (omega arith)))
 
-
 -- What the window held is as it was where a part of the area was filled up.
 pub fill-kept : {area ys : List ℕ} {end : ℕ} {w w′ : Window} → end ≤ length area → w .have ≤ end → Refilled w (take end area) w′ ys → length ys ≡ length (take end area)
     → Kept w area w′ (ys ++ drop end area)

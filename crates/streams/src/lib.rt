@@ -71,7 +71,7 @@ pub fn within(n: usize, area: &[u8]) -> usize
 }
 
 // The octet n after this one, of a file that no run brings to its end.
-fn past(at: u64, n: usize) -> u64
+pub fn past(at: u64, n: usize) -> u64
     ensures { λ r. ⌜ r ≡ pastOf at n ⌝ }
 {
     let k = n as u64;

@@ -41,10 +41,13 @@ loop-less c = search needs
 
 loop-again : tie.Need-loop-again Inv-loop μ-loop
 loop-again c = let l = c .before .before .before .before .loop in
-    let xs = c .before .before .before .before .before .before .args .s .now in
-    (search needs, search needs, l .inv .2 ∙ value-more (l .v) xs (l .i) (c .before .before .before .loop-test .taken)
-    ∙ ap (λ (d : ℕ). valueFrom (min (l .v * 10 + d) 10000) (drop (l .i + 1) xs)) (sym (c .before .digit-of .ensures .0))
-    ∙ ap (λ (v : ℕ). valueFrom v (drop (l .i + 1) xs)) (sym (c .least .ensures)))
+    let xs = c .before .before .before .before .before .before .args .s .now in (
+      search needs,
+      search needs,
+      l .inv .2 ∙ value-more (l .v) xs (l .i) (c .before .before .before .loop-test .taken)
+          ∙ ap (λ (d : ℕ). valueFrom (min (l .v * 10 + d) 10000) (drop (l .i + 1) xs)) (sym (c .before .digit-of .ensures .0))
+          ∙ ap (λ (v : ℕ). valueFrom v (drop (l .i + 1) xs)) (sym (c .least .ensures)),
+    )
 
 returns : tie.Need-returns Inv-loop μ-loop
 returns c = let l = c .before .loop in sym (l .inv .2 ∙ value-ends (l .v) (c .before .before .before .args .s .now) (l .i) (c .loop-test .left))

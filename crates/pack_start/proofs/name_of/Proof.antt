@@ -22,9 +22,9 @@ begins-requires c κs = search needs
 returns-2 : tie.Need-returns-2
 unfolding nameOf text
 returns-2 c = rw (
-      sym (c .before .before .before .before .is-option .ensures) ∙ c .before .before .before .if1 .left,
-      sym (c .before .begins .ensures) ∙ c .if2 .taken,
-    )
+  sym (c .before .before .before .before .is-option .ensures) ∙ c .before .before .before .if1 .left,
+  sym (c .before .begins .ensures) ∙ c .if2 .taken,
+)
 
 slice-aggregate-begins-2 : tie.Need-slice-aggregate-begins-2
 slice-aggregate-begins-2 c = search needs
@@ -35,10 +35,10 @@ begins-requires-2 c κs = search needs
 returns-3 : tie.Need-returns-3
 unfolding nameOf text
 returns-3 c = rw (
-      sym (c .before .before .before .before .before .before .before .is-option .ensures) ∙ c .before .before .before .before .before .before .if1 .left,
-      sym (c .before .before .before .before .begins .ensures) ∙ c .before .before .before .if2 .left,
-      sym (c .before .begins2 .ensures) ∙ c .if3 .taken,
-    )
+  sym (c .before .before .before .before .before .before .before .is-option .ensures) ∙ c .before .before .before .before .before .before .if1 .left,
+  sym (c .before .before .before .before .begins .ensures) ∙ c .before .before .before .if2 .left,
+  sym (c .before .begins2 .ensures) ∙ c .if3 .taken,
+)
 
 slice-aggregate-begins-3 : tie.Need-slice-aggregate-begins-3
 slice-aggregate-begins-3 c = search needs
