@@ -297,7 +297,26 @@ fn no_source(s: Setting) -> Source {
     y
 }
 
-// Opens the file of lane l that word i of n names, and its list if it has one. Where one is not opened, the source says that there is no more.
+// Whether word j names a list that is not open.
+fn is_missing(j: usize, list: Opened) -> bool {
+    if j == 0 {
+        return false;
+    }
+    list.fd < 0
+}
+
+// The source of lane l's file, which is open, with the list that word j names, if any does. Where the list is not opened, there is no source.
+fn with_list(s: Setting, l: usize, file: Opened, j: usize, list_name: &mut [u8]) -> Source {
+    let list = open_list(j, list_name);
+    let missing = is_missing(j, list);
+    if missing {
+        libc::close(file.fd);
+        return no_source(s);
+    }
+    source_of(s, l, file, j != 0, list)
+}
+
+// Opens the file of lane l that word i of n names, and its list if it has one. Where one is not opened, there is no source.
 fn open_source(
     s: Setting,
     l: usize,
@@ -313,22 +332,16 @@ fn open_source(
         return no_source(s);
     }
     let j = list_of(i + 1, n);
-    let list = open_list(j, list_name);
-    let x = source_of(s, l, file, j != 0, list);
-    if j != 0 {
-        if list.fd < 0 {
-            libc::close(file.fd);
-            return no_source(s);
-        }
-    }
-    x
+    with_list(s, l, file, j, list_name)
 }
 
 // ---- turns
 
-// How a pass goes: whether frames are written; how many octets of the files are a hundredth; whether standard error is a terminal.
+// How a pass goes: whether frames are written; whether the files take turns; how many octets of them are a hundredth; whether standard error is
+// a terminal.
 struct Way {
     writing: bool,
+    together: bool,
     live: bool,
     hundredth: u64,
 }
@@ -479,7 +492,7 @@ fn round_on(way: Way, c: Course, f: Files, names: &[u8], insert: &[u8], ocf: &[u
 // ---- passes
 
 // Where a pass is: the course, and the files that wait for a round.
-struct Pass {
+struct Stage {
     course: Course,
     files: Files,
 }
@@ -505,7 +518,7 @@ fn add_file(f: Files, x: Source) -> Files {
 }
 
 // Opens lane l's file that word i of n names, and puts it to those that wait.
-fn wait_for(p: Pass, l: usize, i: usize, n: usize, names: &mut [u8]) -> Pass
+fn wait_for(p: Stage, l: usize, i: usize, n: usize, names: &mut [u8]) -> Stage
     requires { ⌜ (i < n) × (length (now names) ≡ 65536) ⌝ }
 {
     let c = p.course;
@@ -523,13 +536,13 @@ fn wait_for(p: Pass, l: usize, i: usize, n: usize, names: &mut [u8]) -> Pass
     octets::copy(&mut names[middle..to], &list);
     if x.more {
         let g = add_file(f, x);
-        return Pass {
+        return Stage {
             course: c,
             files: g,
         };
     }
     let d = turns::end_with(c, Fault::NotRead);
-    Pass {
+    Stage {
         course: d,
         files: f,
     }
@@ -546,7 +559,7 @@ fn place_of(f: Files) -> usize
 }
 
 // Takes the files that wait for a round, if all were opened.
-fn round_of(way: Way, p: Pass, names: &[u8], insert: &[u8], ocf: &[u8]) -> Pass
+fn round_of(way: Way, p: Stage, names: &[u8], insert: &[u8], ocf: &[u8]) -> Stage
     requires { ⌜ length (now names) ≡ 65536 ⌝ }
 {
     let c = p.course;
@@ -558,13 +571,13 @@ fn round_of(way: Way, p: Pass, names: &[u8], insert: &[u8], ocf: &[u8]) -> Pass
     let good = streams::is_sound(fault);
     if good {
         let d = round_on(way, c, f, names, insert, ocf);
-        return Pass {
+        return Stage {
             course: d,
             files: none,
         };
     }
     close_all(f);
-    Pass {
+    Stage {
         course: c,
         files: none,
     }
@@ -578,7 +591,7 @@ fn named_at(i: usize, numbered: usize) -> Named {
 }
 
 // Goes on with word i of n: where it names a lane's file, that waits.
-fn word_on(p: Pass, i: usize, n: usize, names: &mut [u8]) -> Pass
+fn word_on(p: Stage, i: usize, n: usize, names: &mut [u8]) -> Stage
     requires { ⌜ (i < n) × (length (now names) ≡ 65536) ⌝ }
 {
     let c = p.course;
@@ -595,46 +608,67 @@ fn word_on(p: Pass, i: usize, n: usize, names: &mut [u8]) -> Pass
     }
 }
 
-// Goes through the files that words from word i of n on name: each in a round of its own, or all in one.
-fn words_on(
+// The same, with a round for the file where each has one of its own.
+fn stage_on(
     way: Way,
-    together: bool,
-    p: Pass,
-    from: usize,
+    p: Stage,
+    i: usize,
     n: usize,
+    names: &mut [u8],
     insert: &[u8],
     ocf: &[u8],
-) -> Course {
-    let mut names = io::large_buffer();
+) -> Stage
+    requires { ⌜ (i < n) × (length (now names) ≡ 65536) ⌝ }
+{
+    let q = word_on(p, i, n, names);
+    if way.together {
+        return q;
+    }
+    round_of(way, q, names, insert, ocf)
+}
+
+// Whether nothing went wrong so far.
+fn is_well(p: Stage) -> bool {
+    let c = p.course;
+    let fault = c.fault;
+    streams::is_sound(fault)
+}
+
+// Goes through words from word `from` of n on, as long as nothing is wrong.
+fn each_word(
+    way: Way,
+    p: Stage,
+    from: usize,
+    n: usize,
+    names: &mut [u8],
+    insert: &[u8],
+    ocf: &[u8],
+) -> Stage
+    requires { ⌜ length (now names) ≡ 65536 ⌝ }
+{
     let mut q = p;
     let mut i = from;
     while i < n {
-        q = word_on(q, i, n, &mut names);
-        if !together {
-            q = round_of(way, q, &names, insert, ocf);
-        }
-        let c = q.course;
-        let fault = c.fault;
-        let good = streams::is_sound(fault);
-        if !good {
-            break;
+        q = stage_on(way, q, i, n, names, insert, ocf);
+        let good = is_well(q);
+        if good {} else {
+            return q;
         }
         i += 1;
     }
+    q
+}
+
+// Goes through the files that words from word `from` of n on name: each in a round of its own, or all in one.
+fn words_on(way: Way, p: Stage, from: usize, n: usize, insert: &[u8], ocf: &[u8]) -> Course {
+    let mut names = io::large_buffer();
+    let q = each_word(way, p, from, n, &mut names, insert, ocf);
     let r = round_of(way, q, &names, insert, ocf);
     r.course
 }
 
 // Goes through all files, from a fresh writer on: to look for what is wrong, or to write frames.
-fn pass(
-    way: Way,
-    together: bool,
-    s: Setting,
-    from: usize,
-    n: usize,
-    insert: &[u8],
-    ocf: &[u8],
-) -> Course {
+fn pass(way: Way, s: Setting, from: usize, n: usize, insert: &[u8], ocf: &[u8]) -> Course {
     let fresh = writer::set_up(s);
     let w = fresh.state;
     let c = Course {
@@ -644,11 +678,11 @@ fn pass(
         fault: Fault::Nothing,
     };
     let f = no_files(s);
-    let p = Pass {
+    let p = Stage {
         course: c,
         files: f,
     };
-    words_on(way, together, p, from, n, insert, ocf)
+    words_on(way, p, from, n, insert, ocf)
 }
 
 // ---- the insert and OCF octets
@@ -795,20 +829,22 @@ fn pack_files(s: Setting, q: Asked, n: usize, insert: &[u8], ocf: &[u8]) {
     let from = after(q.setting, n);
     let look = Way {
         writing: false,
+        together: false,
         live: false,
         hundredth: 0,
     };
-    let looked = pass(look, false, s, from, n, &insert[..i], ocf);
+    let looked = pass(look, s, from, n, &insert[..i], ocf);
     let found = looked.fault;
     let good = streams::is_sound(found);
     if good {
         let live = progress::is_live();
         let way = Way {
             writing: true,
+            together: q.interleave,
             live: live,
             hundredth: looked.octets / 100,
         };
-        let c = pass(way, q.interleave, s, from, n, &insert[..i], ocf);
+        let c = pass(way, s, from, n, &insert[..i], ocf);
         let fault = c.fault;
         let done = streams::is_sound(fault);
         if done {
