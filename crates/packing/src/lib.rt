@@ -413,7 +413,7 @@ struct Round {
 fn go_round(way: Way, c: Course, files: Files, insert: &[u8], ocf: &[u8]) -> Round
     ensures { λ r. ⌜ r .last < 8 ⌝ }
 {
-    let mut areas = [0u8; 262144];
+    let mut areas = [0u8; 524288];
     let mut lists = [0u8; 2048];
     let mut f = files;
     let mut course = c;

@@ -127,15 +127,15 @@ read-by writing c x insert ocf area list {s} {a} {l} n {r} {area′} {list′} d
 }
 
 -- The turn of file k, of which n octets and m of its list were lent.
-pub taken-at : (k : ℕ) (writing : Bool) (c : Course) (x : Source) (insert ocf areas lists : List ℕ) (n m : ℕ) {r : Move} {area list : List ℕ} → n ≡ 32768
-    → m ≡ 256 → Taken writing c x insert ocf (take n (drop (32768 * k) areas)) (take m (drop (256 * k) lists)) r area list → length area ≡ n → length list ≡ m
-    → TakenAt k writing c x insert ocf areas lists r (take (32768 * k) areas ++ (area ++ drop n (drop (32768 * k) areas)))
+pub taken-at : (k : ℕ) (writing : Bool) (c : Course) (x : Source) (insert ocf areas lists : List ℕ) (n m : ℕ) {r : Move} {area list : List ℕ} → n ≡ 65536
+    → m ≡ 256 → Taken writing c x insert ocf (take n (drop (65536 * k) areas)) (take m (drop (256 * k) lists)) r area list → length area ≡ n → length list ≡ m
+    → TakenAt k writing c x insert ocf areas lists r (take (65536 * k) areas ++ (area ++ drop n (drop (65536 * k) areas)))
     (take (256 * k) lists ++ (list ++ drop m (drop (256 * k) lists)))
 taken-at k writing c x insert ocf areas lists n m {r} {area} {list} p q t a l = record {
   area = area;
   list = list;
-  taken = subst (λ (i : ℕ). Taken writing c x insert ocf (take i (drop (32768 * k) areas)) (own 256 k lists) r area list) p
-      (subst (λ (i : ℕ). Taken writing c x insert ocf (take n (drop (32768 * k) areas)) (take i (drop (256 * k) lists)) r area list) q t);
-  window = own-laid areas area (32768 * k) n a;
+  taken = subst (λ (i : ℕ). Taken writing c x insert ocf (take i (drop (65536 * k) areas)) (own 256 k lists) r area list) p
+      (subst (λ (i : ℕ). Taken writing c x insert ocf (take n (drop (65536 * k) areas)) (take i (drop (256 * k) lists)) r area list) q t);
+  window = own-laid areas area (65536 * k) n a;
   listed = own-laid lists list (256 * k) m l;
 }

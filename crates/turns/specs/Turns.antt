@@ -83,7 +83,7 @@ pub data Taken (writing : Bool) (c : Course) (x : Source) (insert ocf area list 
   moves : {t : Step} → x .more ≡ true → ReadTurn writing c x insert ocf area list t area′ list′ → r ≡ afterTurn x t
       → Taken writing c x insert ocf area list r area′ list′
 
--- File k's window is the k-th 32,768 octets, the one on its list the k-th 256.
+-- File k's window is the k-th 65,536 octets, the one on its list the k-th 256.
 abbrev pub own : ℕ → ℕ → List ℕ → List ℕ
 own size k areas = take size (drop (size * k) areas)
 
@@ -91,6 +91,6 @@ own size k areas = take size (drop (size * k) areas)
 pub record TakenAt (k : ℕ) (writing : Bool) (c : Course) (x : Source) (insert ocf areas lists : List ℕ) (r : Move) (areas′ lists′ : List ℕ) : Type 0 where
   pub area : List ℕ
   pub list : List ℕ
-  pub taken : Taken writing c x insert ocf (own 32768 k areas) (own 256 k lists) r area list
-  pub window : areas′ ≡ laid areas (32768 * k) area
+  pub taken : Taken writing c x insert ocf (own 65536 k areas) (own 256 k lists) r area list
+  pub window : areas′ ≡ laid areas (65536 * k) area
   pub listed : lists′ ≡ laid lists (256 * k) list

@@ -263,7 +263,7 @@ fn one_past(longest: usize) -> usize {
 fn room_of(s: Stream) -> usize {
     let form = s.form;
     match form {
-        Form::Packets => rules::BATCH_SIZE,
+        Form::Packets => 65536,
         Form::Unit => one_past(s.longest),
         Form::Units => one_past(s.longest),
     }
@@ -374,11 +374,11 @@ pub fn turn_at(
     insert: &[u8],
     ocf: &[u8],
 ) -> Move
-    requires { ⌜ (k < 8) × (length (now areas) ≡ 262144) × (length (now lists) ≡ 2048) ⌝ }
+    requires { ⌜ (k < 8) × (length (now areas) ≡ 524288) × (length (now lists) ≡ 2048) ⌝ }
     ensures { λ r. ⌜ TakenAt k writing c x (now (insert .entry)) (now (ocf .entry)) (now (areas .entry)) (now (lists .entry)) r (now (areas .exit)) (now (lists .exit)) ⌝ }
 {
-    let from = 32768 * k;
-    let to = from + 32768;
+    let from = 65536 * k;
+    let to = from + 65536;
     let list_from = 256 * k;
     let list_to = list_from + 256;
     take_turn(

@@ -7,7 +7,7 @@ use Rattle.packing.proofs.go_round.Statement.{statement}
 use Rattle.packing.proofs.go_round.Tie as tie
 
 abbrev Inv-loop : tie.InvT-loop
-Inv-loop way insert ocf areas₀ lists₀ f₀ course₀ k₀ turns₀ areas lists f course k turns = (k < 8) × (length areas ≡ 262144) × (length lists ≡ 2048)
+Inv-loop way insert ocf areas₀ lists₀ f₀ course₀ k₀ turns₀ areas lists f course k turns = (k < 8) × (length areas ≡ 524288) × (length lists ≡ 2048)
 
 abbrev μ-loop : tie.MeasureT-loop
 μ-loop way insert ocf areas₀ lists₀ f₀ course₀ k₀ turns₀ areas lists f course k turns = 18446744073709551615 - turns

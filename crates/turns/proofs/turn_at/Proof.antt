@@ -49,7 +49,7 @@ returns : tie.Need-returns
 returns c =
     let c₈ = c .before .before .before .before .before .before .before .before in
     let k = c₈ .before .before .before .args .k in
-    taken-at _ _ _ _ _ _ _ _ (32768 * k + 32768 - 32768 * k) (256 * k + 256 - 256 * k) (omega arith) (omega arith)
+    taken-at _ _ _ _ _ _ _ _ (65536 * k + 65536 - 65536 * k) (256 * k + 256 - 256 * k) (omega arith) (omega arith)
     (c .before .before .before .before .take-turn .ensures) (search needs) (search needs)
 
 pub turn-at-spec : {M : Type 1} → statement M
