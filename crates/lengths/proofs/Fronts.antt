@@ -2,7 +2,7 @@
 use Prim.Native.Nat.{ℕ, suc, _+_, _-_, _*_, _≤_, _<_, min}
 use native.Mathlib.Numerals.{add-one}
 use native.Mathlib.Omega.{arith}
-use mathlib.Core.Path.{_≡_, refl, sym, ap, _∙_}
+use mathlib.Core.Path.{_≡_, sym, ap, _∙_}
 use mathlib.Core.Bool.{Bool, true, false}
 use mathlib.Core.List.{List}
 use lib.ListN.{length, getD, take, drop, drop-of-length-le, length-drop}
@@ -10,7 +10,6 @@ use lib.Seq.{drop-cons, take-all}
 use borrow.Author.Tests.{eq-eqb, ne-eqb, le-leb, lt-leb}
 use Rattle.lengths.specs.declared.Length.{Length}
 use Rattle.lengths.specs.declared.Length.the-variants.{End, Of, Other}
-use Rattle.lengths.specs.declared.Listed.{Listed}
 use Rattle.lengths.specs.Lengths.{isBlank, isDigit, front, valueFrom, endsAt, wordOf, nextOf}
 
 module _ (p : ℕ → Bool) (xs : List ℕ) (i : ℕ) where

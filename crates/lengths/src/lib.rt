@@ -1,6 +1,6 @@
 // A list of lengths: decimal numbers with blanks or line feeds between them. What its next number is, of the octets at its front.
 ghost use mathlib.Core.Path.{_≡_};
-ghost use Prim.Native.Nat.{_+_, _-_, _≤_, min};
+ghost use Prim.Native.Nat.{_+_, _-_, _≤_};
 ghost use lib.ListN.{length};
 ghost use Rattle.lengths.specs.Lengths.{isBlank, isDigit, front, valueFrom, endsAt, wordOf, nextOf};
 

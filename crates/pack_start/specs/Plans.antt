@@ -1,7 +1,6 @@
 -- What the words after the setting come to, one after another, and which files may be read.
 use Prim.Native.Nat.{ℕ}
 use mathlib.Core.Bool.{Bool, true, false, cond}
-use mathlib.Core.List.{List}
 use lib.ListN.{getD, set, replicate}
 use Rattle.rules.specs.Tests.{_≤?_, _=?_}
 use Rattle.pack_start.specs.declared.Named.{Named}

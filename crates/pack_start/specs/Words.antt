@@ -1,6 +1,6 @@
 -- What the words of pack's command line ask for, and what a word after the setting names.
 use Prim.Native.Nat.{ℕ, _-_}
-use mathlib.Core.Bool.{Bool, true, false, cond}
+use mathlib.Core.Bool.{true, false, cond}
 use mathlib.Core.List.{List, [], _∷_}
 use lib.ListN.{getD}
 use Rattle.rules.specs.Tests.{_≤?_, _<?_, _=?_, all}

@@ -4,7 +4,7 @@
 // a turn of a file writes and leaves. Here files are opened and closed, the turns are dealt out, and what went wrong is said: what no contract
 // can follow into the system is shown by runs.
 ghost use mathlib.Core.Path.{_≡_};
-ghost use Prim.Native.Nat.{_<_, _≤_};
+ghost use Prim.Native.Nat.{_<_};
 ghost use lib.ListN.{length};
 ghost use Rattle.rules.specs.Settings.{lane, channel, ocfOctets};
 ghost use Rattle.packing.specs.Rounds.{formOf, nextPlace};

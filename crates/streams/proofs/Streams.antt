@@ -1,11 +1,10 @@
 -- Windows and what they hold, and the next batch by its cases.
-use Prim.Native.Nat.{ℕ, _+_, _-_, _≤_, _<_, min}
+use Prim.Native.Nat.{ℕ, _+_, _-_, _≤_, min}
 use native.Mathlib.Nat.{min-eq-left, min-eq-right}
 use native.Mathlib.Omega.{arith}
-use mathlib.Core.Path.{_≡_, refl, sym, ap, ap₂, subst, _∙_}
-use mathlib.Core.Bool.{Bool, true, false, cond}
+use mathlib.Core.Path.{_≡_, refl, sym, ap, subst, _∙_}
 use mathlib.Core.List.{List, _++_}
-use lib.ListN.{length, take, drop, length-take, length-drop}
+use lib.ListN.{length, take, drop, length-drop}
 use lib.Seq.{take-all, take-append-le, length-take-le}
 use Rattle.rules.specs.Areas.{laid}
 use Rattle.rules.proofs.Tests.{split}
@@ -47,7 +46,8 @@ take-least n xs {r} e =
     (λ h. ap (λ (i : ℕ). take i xs) (e ∙ min-eq-right (omega arith)) ∙ take-all (length xs) xs (omega arith) ∙ sym (take-all n xs (omega arith)))
 
 -- What the window held is as it was where a part of the area was filled up.
-pub fill-kept : {area ys : List ℕ} {end : ℕ} {w w′ : Window} → end ≤ length area → w .have ≤ end → Refilled w (take end area) w′ ys → length ys ≡ length (take end area)
+pub fill-kept : {area ys : List ℕ} {end : ℕ} {w w′ : Window} → end ≤ length area → w .have ≤ end → Refilled w (take end area) w′ ys
+    → length ys ≡ length (take end area)
     → Kept w area w′ (ys ++ drop end area)
 fill-kept {area} {ys} {end} {w} {w′} h k r l =
     let m : length (take end area) ≡ end = length-take-le end area h in
@@ -105,7 +105,8 @@ begun-by s xs list ys {have} {n} {after} {t} h e q z a b =
     let inner : BegunOf s n (take have list) r (ys ++ drop have list) = record {
       stream = b ∙ ap (λ (w : Window). withBatch s w (n .batch)) (a ∙ ap (λ (i : ℕ). moved (s .list) i (n .used)) (sym k));
       fault = refl;
-      left = ap (λ (i : ℕ). take i (ys ++ drop have list)) m ∙ ap (λ (zs : List ℕ). take (have - n .used) (zs ++ drop have list)) z ∙ shifted list have (n .used) h;
+      left = ap (λ (i : ℕ). take i (ys ++ drop have list)) m ∙ ap (λ (zs : List ℕ). take (have - n .used) (zs ++ drop have list)) z
+          ∙ shifted list have (n .used) h;
     } in
     subst (λ (ls : List ℕ). BegunOf s (nextOf s xs ls) ls r (ys ++ drop have list)) e
     (subst (λ (x : Next). BegunOf s x (take have list) r (ys ++ drop have list)) q inner)

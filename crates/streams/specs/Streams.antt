@@ -11,7 +11,6 @@ use Rattle.file_batches.specs.FileBatches.{gathered, wrongAt}
 use Rattle.intake.specs.declared.Window.{Window}
 use Rattle.lengths.specs.declared.Length.{Length}
 use Rattle.lengths.specs.declared.Length.the-variants as lengths
-use Rattle.lengths.specs.declared.Listed.{Listed}
 use Rattle.lengths.specs.Lengths.{nextOf as nextLength}
 use Rattle.streams.specs.declared.Fault.{Fault}
 use Rattle.streams.specs.declared.Fault.the-variants as faults

@@ -1,7 +1,7 @@
 // A lane's file on its way into batches: what the next batch is, of the octets that the windows on the file and on its list of lengths hold, or
 // what is wrong where there is none.
 ghost use mathlib.Core.Path.{_≡_};
-ghost use Prim.Native.Nat.{_+_, _-_, _≤_, min};
+ghost use Prim.Native.Nat.{_+_, _-_};
 ghost use lib.ListN.{length, take};
 ghost use Rattle.io.specs.Counts.{Counts};
 ghost use Rattle.streams.specs.Streams.{sound, wrongFault, past as pastOf, moved as movedOf, none as noNext, nextPackets, nextUnit, ofLength, nextListed, nextOf, withBatch, Began, Kept};

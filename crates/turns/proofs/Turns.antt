@@ -1,6 +1,5 @@
 -- From frame to frame, and from turn to turn.
 use Prim.Native.Nat.{ℕ, _+_, _-_, _*_, _≤_}
-use native.Mathlib.Omega.{arith}
 use mathlib.Core.Path.{_≡_, refl, sym, ap, ap₂, subst, _∙_}
 use mathlib.Core.Bool.{Bool, true, false, cond}
 use mathlib.Core.List.{List, _++_, append-assoc}
@@ -9,7 +8,6 @@ use lib.Seq.{length-take-le, drop-drop}
 use Rattle.rules.specs.declared.Outcome.{Outcome}
 use Rattle.rules.specs.declared.Outcome.the-variants as outcomes
 use Rattle.rules.specs.declared.Sender.{Sender}
-use Rattle.rules.specs.declared.Writer.{Writer}
 use Rattle.rules.specs.Areas.{laid}
 use Rattle.rules.specs.Calls.{write, Sent as Written}
 use Rattle.streams.specs.declared.Fault.{Fault}
@@ -18,17 +16,17 @@ use Rattle.streams.specs.declared.Stream.{Stream}
 use Rattle.streams.specs.declared.Begun.{Begun}
 use Rattle.streams.specs.Streams.{sound, moved, Began}
 use Rattle.streams.proofs.Streams.{shifted}
-use Rattle.intake.specs.declared.Window.{Window}
 use Rattle.turns.specs.declared.Course.{Course}
 use Rattle.turns.specs.declared.Step.{Step}
 use Rattle.turns.specs.declared.Move.{Move}
 use Rattle.turns.specs.declared.Source.{Source}
 use Rattle.turns.specs.Courses.{sentFault, oneMore, areaBefore, courseOf, sentOn, SentNext, FrameOf, CourseOn, goesOn, counted, ended}
-use Rattle.turns.specs.Turns.{worked, Over, On, Worked, Turned, on, begun, none, ReadOn, ReadTurn, Taken, own, TakenAt}
+use Rattle.turns.specs.Turns.{worked, Over, On, Worked, Turned, begun, none, ReadOn, ReadTurn, Taken, own, TakenAt}
 
 -- ---- frames
 
-module _ (c : Course) (l : ℕ) (batch insert ocf : List ℕ) {x : Sender} {area : List ℕ} (e : record { sender = x; area = area } ≡ write (c .state) l batch insert ocf areaBefore) where
+module _ (c : Course) (l : ℕ) (batch insert ocf : List ℕ) {x : Sender} {area : List ℕ}
+    (e : record { sender = x; area = area } ≡ write (c .state) l batch insert ocf areaBefore) where
   -- What the writer answers, whichever it is.
   answered : (c′ : Course) → c′ ≡ courseOf c (x .outcome) (x .state) (sound (c′ .fault)) → SentNext c l batch insert ocf c′
   unfolding sentOn
@@ -65,7 +63,8 @@ module _ (writing : Bool) (c : Course) (s : Stream) (insert ocf area : List ℕ)
     sent = d;
     course = course;
     after =
-        subst (λ (b : Bool). cond b (On d s area (record { course = d; stream = s; more = true }) area) (Over d s area (record { course = d; stream = s; more = true }) area))
+        subst (λ (b : Bool). cond b (On d s area (record { course = d; stream = s; more = true }) area)
+        (Over d s area (record { course = d; stream = s; more = true }) area))
         (sym m ∙ g) (record { turn = refl; stays = refl });
   }
 

@@ -5,7 +5,6 @@ use mathlib.Core.Bool.{Bool, true, false, cond}
 use mathlib.Core.List.{List}
 use lib.ListN.{length, take, drop}
 use Rattle.rules.specs.Areas.{laid}
-use Rattle.intake.specs.declared.Window.{Window}
 use Rattle.streams.specs.declared.Stream.{Stream}
 use Rattle.streams.specs.declared.Begun.{Begun}
 use Rattle.streams.specs.Streams.{sound, moved, Kept, Began}

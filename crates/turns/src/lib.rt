@@ -5,8 +5,8 @@
 // batch is the next of what the windows hold (`streams::begin`), it is lent until the lane's number returns to 0, and the window then holds the
 // octets after it (`turn`); a file's turn uses the windows of that file and leaves the others (`turn_at`).
 ghost use mathlib.Core.Path.{_≡_};
-ghost use Prim.Native.Nat.{_≤_, _<_};
-ghost use lib.ListN.{length, take};
+ghost use Prim.Native.Nat.{_<_};
+ghost use lib.ListN.{length};
 ghost use Rattle.rules.specs.Settings.{number};
 ghost use Rattle.streams.specs.Streams.{Kept};
 ghost use Rattle.turns.specs.Courses.{ended, oneMore, Sent, FrameOf, SentNext, CourseOn, goesOn, counted};

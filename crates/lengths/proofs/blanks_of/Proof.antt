@@ -32,16 +32,31 @@ loop-less c = search needs
 
 loop-again : tie.Need-loop-again Inv-loop μ-loop
 loop-again c = let l = c .before .before .before .before .loop in
-    let xs = c .before .before .before .before .before .before .args .s .now in
-    (search needs, omega (arith, l .inv .1, front-more isBlank xs (l .i) (c .before .before .before .loop-test .taken) (sym (c .before .is-blank .ensures) ∙ c .if1 .taken)))
+    let xs = c .before .before .before .before .before .before .args .s .now in (
+      search needs,
+      omega (
+        arith,
+        l .inv .1,
+        front-more isBlank xs (l .i) (c .before .before .before .loop-test .taken)
+            (sym (c .before .is-blank .ensures) ∙ c .if1 .taken),
+      ),
+    )
 
 returns : tie.Need-returns Inv-loop μ-loop
-returns c = let l = c .before .loop in (omega (arith, l .inv .1, front-ends isBlank (c .before .before .before .args .s .now) (l .i) (c .loop-test .left)), search needs)
+returns c = let l = c .before .loop in
+    (omega (arith, l .inv .1, front-ends isBlank (c .before .before .before .args .s .now) (l .i) (c .loop-test .left)), search needs)
 
 returns-2 : tie.Need-returns-2 Inv-loop μ-loop
 returns-2 c = let l = c .before .before .before .before .loop in
-    let xs = c .before .before .before .before .before .before .args .s .now in
-    (omega (arith, l .inv .1, front-stops isBlank xs (l .i) (c .before .before .before .loop-test .taken) (sym (c .before .is-blank .ensures) ∙ c .if1 .left)), search needs)
+    let xs = c .before .before .before .before .before .before .args .s .now in (
+      omega (
+        arith,
+        l .inv .1,
+        front-stops isBlank xs (l .i) (c .before .before .before .loop-test .taken)
+            (sym (c .before .is-blank .ensures) ∙ c .if1 .left),
+      ),
+      search needs,
+    )
 
 pub blanks-of-spec : {M : Type 1} → statement M
 blanks-of-spec =

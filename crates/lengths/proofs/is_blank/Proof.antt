@@ -1,7 +1,6 @@
 -- `lengths::is_blank` meets its contract: octet by octet.
 use borrow.Author.Tests.{eq-eqb, ne-eqb}
 use Rattle.lengths.specs.Lengths.{isBlank}
-use borrow.Author.Needs.{needs}
 use Rattle.lengths.proofs.is_blank.Statement.{statement}
 use Rattle.lengths.proofs.is_blank.Tie as tie
 

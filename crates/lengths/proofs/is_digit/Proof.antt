@@ -1,7 +1,6 @@
 -- `lengths::is_digit` meets its contract: by both ends.
 use borrow.Author.Tests.{lt-ltb, le-ltb}
 use Rattle.lengths.specs.Lengths.{isDigit}
-use borrow.Author.Needs.{needs}
 use Rattle.lengths.proofs.is_digit.Statement.{statement}
 use Rattle.lengths.proofs.is_digit.Tie as tie
 

@@ -1,7 +1,6 @@
 -- `lengths::value_of`: the number so far, and the digits that follow.
 use Prim.Native.Nat.{ℕ, _+_, _-_, _*_, _≤_, min}
 use mathlib.Core.Path.{_≡_, refl, sym, ap, _∙_}
-use native.Mathlib.Omega.{arith}
 use lib.ListN.{length, drop}
 use Rattle.lengths.specs.Lengths.{valueFrom}
 use Rattle.lengths.proofs.Fronts.{value-more, value-ends}

@@ -24,7 +24,8 @@ bad-plan-requires-2 c κs = search needs
 
 returns-2 : tie.Need-returns-2
 unfolding lanePlan
-returns-2 c = rw (lt-leb _ _ (c .before .before .before .before .if1 .left), sym (c .before .before .both .ensures) ∙ c .before .if2 .taken) (c .bad-plan2 .ensures)
+returns-2 c = rw (lt-leb _ _ (c .before .before .before .before .if1 .left), sym (c .before .before .both .ensures) ∙ c .before .if2 .taken)
+    (c .bad-plan2 .ensures)
 
 element-write-q : tie.Need-element-write-q
 element-write-q c = search needs

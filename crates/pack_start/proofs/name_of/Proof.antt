@@ -64,7 +64,8 @@ unfolding nameOf text
 returns-5 c = let c₈ = c .before .before .before .before .before .before .before .before in
     c .lane-named .ensures ∙ rw (
       sym (c₈ .before .before .before .is-option .ensures) ∙ c₈ .before .before .if1 .left,
-      sym (c .before .before .before .before .before .before .before .before .begins .ensures) ∙ c .before .before .before .before .before .before .before .if2 .left,
+      sym (c .before .before .before .before .before .before .before .before .begins .ensures)
+          ∙ c .before .before .before .before .before .before .before .if2 .left,
       sym (c .before .before .before .before .before .begins2 .ensures) ∙ c .before .before .before .before .if3 .left,
       sym (c .before .before .begins3 .ensures) ∙ c .before .if4 .left,
     )

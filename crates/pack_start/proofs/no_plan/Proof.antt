@@ -1,7 +1,6 @@
 -- `pack_start::no_plan` meets its contract.
 use mathlib.Core.Path.{refl}
 use Rattle.pack_start.specs.Plans.{noPlan}
-use borrow.Author.Needs.{needs}
 use Rattle.pack_start.proofs.no_plan.Statement.{statement}
 use Rattle.pack_start.proofs.no_plan.Tie as tie
 

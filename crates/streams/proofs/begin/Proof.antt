@@ -36,7 +36,8 @@ same-length c = search needs
 
 returns : tie.Need-returns
 returns c = let c₈ = c .before .before .before .before .before .before .before .before in
-    begun-by _ _ _ _ (c₈ .within .ensures .0 .0) (c₈ .within .ensures .1) (c .before .before .before .before .before .before .next-of .ensures) (c .before .before .before .before .shift .ensures) (c .before .moved .ensures)
+    begun-by _ _ _ _ (c₈ .within .ensures .0 .0) (c₈ .within .ensures .1) (c .before .before .before .before .before .before .next-of .ensures)
+    (c .before .before .before .before .shift .ensures) (c .before .moved .ensures)
     (c .with-batch .ensures)
 
 pub begin-spec : {M : Type 1} → statement M

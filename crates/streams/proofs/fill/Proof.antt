@@ -26,7 +26,8 @@ same-length-2 : tie.Need-same-length-2
 same-length-2 c = search needs
 
 returns-2 : tie.Need-returns-2
-returns-2 c = fill-kept {end = c .before .before .before .before .before .before .within .result} (search needs) (search needs) (c .before .before .fill-up .ensures) (search needs)
+returns-2 c = fill-kept {end = c .before .before .before .before .before .before .within .result} (search needs) (search needs)
+    (c .before .before .fill-up .ensures) (search needs)
 
 pub fill-spec : {M : Type 1} → statement M
 fill-spec =

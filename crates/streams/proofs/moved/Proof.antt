@@ -2,7 +2,6 @@
 use Prim.Native.Nat.{ℕ, _-_}
 use mathlib.Core.Path.{ap, ap₂}
 use native.Mathlib.Omega.{arith}
-use Rattle.intake.specs.declared.Window.{Window}
 use Rattle.streams.specs.Streams.{moved}
 use borrow.Author.Needs.{needs}
 use Rattle.streams.proofs.moved.Statement.{statement}

@@ -17,7 +17,8 @@ none-requires : tie.Need-none-requires
 none-requires c κs = search needs
 
 returns : tie.Need-returns
-returns c = listed-by _ _ _ _ _ (c .before .before .before .before .before .next-of .ensures .0) (c .before .before .before .before .past .ensures) (length-end _ _ _ _ _ (c .before .before .enum-told .given .1) (c .before .if1 .taken) (c .none .ensures))
+returns c = listed-by _ _ _ _ _ (c .before .before .before .before .before .next-of .ensures .0) (c .before .before .before .before .past .ensures)
+    (length-end _ _ _ _ _ (c .before .before .enum-told .given .1) (c .before .if1 .taken) (c .none .ensures))
 
 none-requires-2 : tie.Need-none-requires-2
 none-requires-2 c κs = search needs
@@ -35,13 +36,16 @@ none-requires-3 : tie.Need-none-requires-3
 none-requires-3 c κs = search needs
 
 returns-2 : tie.Need-returns-2
-returns-2 c = listed-by _ _ _ _ _ (c .before .before .before .before .before .next-of .ensures .0) (c .before .before .before .before .past .ensures) (length-left _ _ _ _ _ (c .before .before .enum-told .given .1) (c .before .if1 .left) (c .none2 .ensures))
+returns-2 c = listed-by _ _ _ _ _ (c .before .before .before .before .before .next-of .ensures .0) (c .before .before .before .before .past .ensures)
+    (length-left _ _ _ _ _ (c .before .before .enum-told .given .1) (c .before .if1 .left) (c .none2 .ensures))
 
 returns-3 : tie.Need-returns-3
-returns-3 c = listed-by _ _ _ _ _ (c .before .before .before .before .before .next-of .ensures .0) (c .before .before .before .before .past .ensures) (length-of _ _ _ _ _ (c .before .before .length .given .1) (c .of-length .ensures))
+returns-3 c = listed-by _ _ _ _ _ (c .before .before .before .before .before .next-of .ensures .0) (c .before .before .before .before .past .ensures)
+    (length-of _ _ _ _ _ (c .before .before .length .given .1) (c .of-length .ensures))
 
 returns-4 : tie.Need-returns-4
-returns-4 c = listed-by _ _ _ _ _ (c .before .before .before .before .next-of .ensures .0) (c .before .before .before .past .ensures) (length-other _ _ _ _ _ (c .before .enum-told2 .given .1) (c .none3 .ensures))
+returns-4 c = listed-by _ _ _ _ _ (c .before .before .before .before .next-of .ensures .0) (c .before .before .before .past .ensures)
+    (length-other _ _ _ _ _ (c .before .enum-told2 .given .1) (c .none3 .ensures))
 
 pub next-listed-spec : {M : Type 1} → statement M
 next-listed-spec =

@@ -38,7 +38,8 @@ next-listed-requires c κs = search needs
 
 returns-3 : tie.Need-returns-3
 unfolding nextOf byForm
-returns-3 c = rw (c .before .before .before .before .if1 .taken, c .before .before .before .if2 .taken, c .before .enum-told .given .1) (c .next-packets .ensures)
+returns-3 c = rw (c .before .before .before .before .if1 .taken, c .before .before .before .if2 .taken, c .before .enum-told .given .1)
+    (c .next-packets .ensures)
 
 returns-4 : tie.Need-returns-4
 unfolding nextOf byForm
@@ -46,7 +47,8 @@ returns-4 c = rw (c .before .before .before .before .if1 .taken, c .before .befo
 
 returns-5 : tie.Need-returns-5
 unfolding nextOf byForm
-returns-5 c = rw (c .before .before .before .before .if1 .taken, c .before .before .before .if2 .taken, c .before .enum-told3 .given .1) (c .next-listed .ensures)
+returns-5 c = rw (c .before .before .before .before .if1 .taken, c .before .before .before .if2 .taken, c .before .enum-told3 .given .1)
+    (c .next-listed .ensures)
 
 pub next-of-spec : {M : Type 1} → statement M
 next-of-spec =

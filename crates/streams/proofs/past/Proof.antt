@@ -1,6 +1,5 @@
 -- `streams::past` meets its contract: both sides of the least of two.
 use native.Mathlib.Nat.{min-eq-left, min-eq-right}
-use native.Mathlib.Omega.{arith}
 use mathlib.Core.Path.{sym}
 use Rattle.streams.specs.Streams.{past}
 use borrow.Author.Needs.{needs}

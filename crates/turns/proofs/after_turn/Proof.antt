@@ -1,7 +1,6 @@
 -- `turns::after_turn` meets its contract.
 use mathlib.Core.Path.{refl}
 use Rattle.turns.specs.Turns.{afterTurn}
-use borrow.Author.Needs.{needs}
 use Rattle.turns.proofs.after_turn.Statement.{statement}
 use Rattle.turns.proofs.after_turn.Tie as tie
 

@@ -1,7 +1,6 @@
 -- `turns::count_batch` meets its contract.
 use Prim.Native.Nat.{ℕ}
 use mathlib.Core.Path.{ap}
-use Rattle.turns.specs.declared.Course.{Course}
 use Rattle.turns.specs.Courses.{counted}
 use borrow.Author.Needs.{needs}
 use Rattle.turns.proofs.count_batch.Statement.{statement}

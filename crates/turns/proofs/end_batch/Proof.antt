@@ -29,7 +29,9 @@ same-length : tie.Need-same-length
 same-length c = search needs
 
 returns : tie.Need-returns
-returns c = over-by _ _ _ _ (c .before .before .before .before .before .before .before .within .ensures .0 .0) (c .before .before .before .before .before .before .before .within .ensures .1) (c .before .before .before .before .before .shift .ensures) (c .before .before .work-off .ensures)
+returns c = over-by _ _ _ _ (c .before .before .before .before .before .before .before .within .ensures .0 .0)
+    (c .before .before .before .before .before .before .before .within .ensures .1) (c .before .before .before .before .before .shift .ensures)
+    (c .before .before .work-off .ensures)
     (c .before .count-batch .ensures) (c .is-sound .ensures)
 
 pub end-batch-spec : {M : Type 1} → statement M

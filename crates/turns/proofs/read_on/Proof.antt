@@ -1,6 +1,6 @@
 -- `turns::read_on` meets its contract: nothing is read, or both windows.
 use mathlib.Core.Path.{refl}
-use Rattle.turns.specs.Turns.{Filled, same, filled}
+use Rattle.turns.specs.Turns.{same, filled}
 use borrow.Author.Needs.{needs}
 use Rattle.turns.proofs.read_on.Statement.{statement}
 use Rattle.turns.proofs.read_on.Tie as tie
@@ -25,7 +25,8 @@ same-length-2 c = search needs
 
 returns-2 : tie.Need-returns-2
 returns-2 c = let c₈ = c .before .before .before .before .before .before .before .before in
-    filled (c₈ .before .before .before .before .before .if1 .left) (record { stream = refl; window = c₈ .fill .ensures; listed = c .before .before .read-list .ensures })
+    filled (c₈ .before .before .before .before .before .if1 .left)
+    (record { stream = refl; window = c₈ .fill .ensures; listed = c .before .before .read-list .ensures })
 
 pub read-on-spec : {M : Type 1} → statement M
 read-on-spec =

@@ -24,7 +24,8 @@ same-length-2 c = search needs
 
 returns : tie.Need-returns
 returns c = let c₈ = c .before .before .before .before .before .before .before .before in
-    read-by _ _ _ _ _ _ _ (c₈ .within .result) (c₈ .before .before .before .before .before .read-on .ensures) (c₈ .within .ensures .1) (c .before .before .before .before .turn .ensures)
+    read-by _ _ _ _ _ _ _ (c₈ .within .result) (c₈ .before .before .before .before .before .read-on .ensures) (c₈ .within .ensures .1)
+    (c .before .before .before .before .turn .ensures)
 
 pub read-turn-spec : {M : Type 1} → statement M
 read-turn-spec =

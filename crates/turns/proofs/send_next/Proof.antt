@@ -30,7 +30,8 @@ slice-aggregate-hand c = search needs
 hand-requires : tie.Need-hand-requires
 unfolding areaBefore
 hand-requires c κs = let c₈ = c .before .before .before .before .before .before .before .before in
-    frame-by (c₈ .before .before .before .before .before .before .args .c) _ _ _ _ (write-is _ _ _ _ _ _ _ (c .before .before .before .before .before .before .before .write .ensures))
+    frame-by (c₈ .before .before .before .before .before .before .args .c) _ _ _ _
+    (write-is _ _ _ _ _ _ _ (c .before .before .before .before .before .before .before .write .ensures))
     (c .before .within .result) (c .before .within .ensures .1)
 
 one-more-requires : tie.Need-one-more-requires
@@ -42,7 +43,8 @@ enum-known-outcome c = search needs
 returns : tie.Need-returns
 unfolding areaBefore
 returns c = let c₈ = c .before .before .before .before .before .before .before .before in
-    sent-done _ _ _ _ _ (write-is _ _ _ _ _ _ _ (c₈ .before .write .ensures)) _ _ (c .before .before .before .before .before .enum-told .given .1) (c .before .hand .ensures) (c .one-more .ensures)
+    sent-done _ _ _ _ _ (write-is _ _ _ _ _ _ _ (c₈ .before .write .ensures)) _ _ (c .before .before .before .before .before .enum-told .given .1)
+    (c .before .hand .ensures) (c .one-more .ensures)
 
 returns-2 : tie.Need-returns-2
 unfolding areaBefore

@@ -18,7 +18,8 @@ same-length-2 : tie.Need-same-length-2
 same-length-2 c = search needs
 
 returns : tie.Need-returns
-returns c = moves (c .before .before .before .before .before .before .before .before .if1 .taken) (c .before .before .before .before .before .read-turn .ensures) (c .after-turn .ensures)
+returns c = moves (c .before .before .before .before .before .before .before .before .if1 .taken)
+    (c .before .before .before .before .before .read-turn .ensures) (c .after-turn .ensures)
 
 returns-2 : tie.Need-returns-2
 returns-2 c = out (c .if1 .left) refl refl refl

@@ -38,7 +38,8 @@ same-length-3 c = search needs
 
 returns-2 : tie.Need-returns-2
 returns-2 c = let c₈ = c .before .before .before .before .before .before .before .before in
-    turned-none _ _ _ _ _ _ _ (c₈ .before .within .result) (c₈ .before .before .before .before .if1 .left) (c₈ .before .within .ensures .1) (c .before .before .before .before .before .before .begin .ensures) (c .before .if2 .taken)
+    turned-none _ _ _ _ _ _ _ (c₈ .before .within .result) (c₈ .before .before .before .before .if1 .left) (c₈ .before .within .ensures .1)
+    (c .before .before .before .before .before .before .begin .ensures) (c .before .if2 .taken)
     (c .end-with .ensures)
 
 work-requires-2 : tie.Need-work-requires-2
@@ -52,7 +53,9 @@ same-length-5 c = search needs
 
 returns-3 : tie.Need-returns-3
 returns-3 c = let c₈ = c .before .before .before .before .before .before .before .before in
-    turned-begun _ _ _ _ _ _ _ (c₈ .before .before .before .before .within .result) (c₈ .before .before .before .before .before .before .before .if1 .left) (c₈ .before .before .before .before .within .ensures .1) (c₈ .before .begin .ensures) (c .before .before .before .before .if2 .left)
+    turned-begun _ _ _ _ _ _ _ (c₈ .before .before .before .before .within .result)
+    (c₈ .before .before .before .before .before .before .before .if1 .left) (c₈ .before .before .before .before .within .ensures .1)
+    (c₈ .before .begin .ensures) (c .before .before .before .before .if2 .left)
     (c .before .before .work2 .ensures)
 
 pub turn-spec : {M : Type 1} → statement M

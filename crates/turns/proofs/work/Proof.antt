@@ -23,7 +23,8 @@ same-length : tie.Need-same-length
 same-length c = search needs
 
 returns : tie.Need-returns
-returns c = worked-on _ _ _ _ _ _ (c .before .before .before .before .within .result) (c .before .before .course-on .result) (c .before .before .before .before .within .ensures .1)
+returns c = worked-on _ _ _ _ _ _ (c .before .before .before .before .within .result) (c .before .before .course-on .result)
+    (c .before .before .before .before .within .ensures .1)
     (c .before .before .course-on .ensures) (c .before .goes-on .ensures) (c .if1 .taken)
 
 end-batch-requires : tie.Need-end-batch-requires
@@ -34,7 +35,8 @@ same-length-2 c = search needs
 
 returns-2 : tie.Need-returns-2
 returns-2 c = let c₈ = c .before .before .before .before .before .before .before .before in
-    worked-over _ _ _ _ _ _ (c₈ .within .result) (c .before .before .before .before .before .before .course-on .result) (c₈ .within .ensures .1) (c .before .before .before .before .before .before .course-on .ensures)
+    worked-over _ _ _ _ _ _ (c₈ .within .result) (c .before .before .before .before .before .before .course-on .result) (c₈ .within .ensures .1)
+    (c .before .before .before .before .before .before .course-on .ensures)
     (c .before .before .before .before .before .goes-on .ensures) (c .before .before .before .before .if1 .left) (c .before .before .end-batch .ensures)
 
 pub work-spec : {M : Type 1} → statement M

@@ -1,7 +1,6 @@
 -- `turns::work_off` meets its contract.
 use mathlib.Core.Path.{ap}
 use Rattle.intake.specs.declared.Window.{Window}
-use Rattle.streams.specs.declared.Stream.{Stream}
 use Rattle.turns.specs.Turns.{worked}
 use borrow.Author.Needs.{needs}
 use Rattle.turns.proofs.work_off.Statement.{statement}
