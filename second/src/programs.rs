@@ -1,5 +1,6 @@
 //! The archive's programs (PROGRAMS.md): `unpack` and `pack`.
 
+use std::collections::VecDeque;
 use std::fs::{self, File};
 use std::io::{self, BufReader, BufWriter, Read, Write};
 use std::os::fd::AsFd;
@@ -7,7 +8,7 @@ use std::os::unix::fs::MetadataExt;
 
 use crate::packet::whole_space_packet;
 use crate::reader::{Answer, Areas, Class, Reader, HELD_AREA, RECORD, RECORD_AREA, UNIT_AREA};
-use crate::setting::{Kind, Setting};
+use crate::setting::{Kind, Lane, Setting};
 use crate::text::{decimal, setting_from_file, LONGEST_SETTING_FILE};
 use crate::writer::{Lent, Writer, LONGEST_BATCH};
 
@@ -179,25 +180,48 @@ pub fn unpack(arguments: &[String]) -> Result<(), String> {
 
 // pack
 
+/// A lane's file, and the list of the lengths of its units where it has one.
+struct LaneFile {
+    lane: u64,
+    path: String,
+    lengths: Option<String>,
+}
+
 /// What the command line of `pack` names after the setting.
 #[derive(Default)]
 struct PackPlan {
-    lane_files: Vec<(u64, String)>,
+    lane_files: Vec<LaneFile>,
     insert_file: Option<String>,
     ocf_file: Option<String>,
 }
 
-fn pack_plan(arguments: &[String]) -> Result<PackPlan, String> {
+fn lane_of(setting: &Setting, lane: u64) -> Option<&Lane> {
+    usize::try_from(lane).ok().and_then(|place| setting.lanes.get(place))
+}
+
+fn pack_plan(setting: &Setting, interleave: bool, arguments: &[&String]) -> Result<PackPlan, String> {
     let mut plan = PackPlan::default();
+    let mut may_list = false;
     for argument in arguments {
         let (name, path) = argument.split_once('=').ok_or_else(|| format!("{argument}: expected LANE=FILE"))?;
+        let path = path.to_string();
+        let could_list = may_list;
+        may_list = false;
         let twice = match name {
-            "insert" => plan.insert_file.replace(path.to_string()).is_some(),
-            "ocf" => plan.ocf_file.replace(path.to_string()).is_some(),
+            "insert" => plan.insert_file.replace(path).is_some(),
+            "ocf" => plan.ocf_file.replace(path).is_some(),
+            "lengths" => {
+                let file = plan.lane_files.last_mut().filter(|_| could_list);
+                file.ok_or_else(|| format!("{argument}: not after an access lane's file"))?.lengths = Some(path);
+                false
+            }
             _ => {
                 let lane = decimal(name).map_err(|expected| format!("{argument}: expected {expected}"))?;
-                plan.lane_files.push((lane, path.to_string()));
-                false
+                let Some(listed) = lane_of(setting, lane) else { return Err(format!("{argument}: no such lane")) };
+                may_list = listed.kind == Kind::Access;
+                let before = plan.lane_files.iter().any(|file| file.lane == lane);
+                plan.lane_files.push(LaneFile { lane, path, lengths: None });
+                interleave && before
             }
         };
         if twice {
@@ -249,67 +273,142 @@ fn gathered(rest: &[u8]) -> usize {
     }
 }
 
-fn batches(kind: Kind, file: &[u8]) -> Vec<&[u8]> {
-    match kind {
-        Kind::Access => vec![file],
-        Kind::Packet => {
-            let mut batches = Vec::new();
-            let mut rest = file;
-            while !rest.is_empty() {
-                let (batch, later) = rest.split_at(gathered(rest));
-                batches.push(batch);
-                rest = later;
-            }
-            batches
+/// The units' lengths: decimal numbers with blanks or line feeds between them, a number and what is blank before it
+/// below 256 octets.
+fn lengths(path: &str) -> Result<Vec<usize>, String> {
+    may_be_read(path, true)?;
+    let text = fs::read(path).map_err(|error| format!("{path}: {error}"))?;
+    let mut lengths = Vec::new();
+    let mut place = 0;
+    loop {
+        let is_blank = |octet: &u8| b" \n\r\t".contains(octet);
+        let blanks = text[place..].iter().take_while(|octet| is_blank(octet)).count();
+        let word = text[place + blanks..].iter().take_while(|octet| !is_blank(octet)).count();
+        let word = &text[place + blanks..place + blanks + word];
+        if blanks + word.len() >= 256 || !word.iter().all(u8::is_ascii_digit) {
+            return Err(format!("{path}: octet {}: not a length", place + blanks));
         }
+        if word.is_empty() {
+            return Ok(lengths);
+        }
+        place += blanks + word.len();
+        // No file is as long as a number that does not fit.
+        let number =
+            word.iter().fold(0usize, |number, digit| number.saturating_mul(10).saturating_add((digit - b'0').into()));
+        lengths.push(number);
     }
 }
 
+/// The units of an access lane's file, back to back as the list says, and exactly all of it.
+fn listed_units(file: &[u8], path: &str, lengths: &[usize], longest: usize) -> Result<Vec<Vec<u8>>, String> {
+    let mut units = Vec::new();
+    let mut rest = file;
+    for &length in lengths {
+        if length == 0 || length > longest || length > rest.len() {
+            return Err(format!("{path}: a unit of {length} octets"));
+        }
+        let (unit, later) = rest.split_at(length);
+        units.push(unit.to_vec());
+        rest = later;
+    }
+    if rest.is_empty() {
+        Ok(units)
+    } else {
+        Err(format!("{path}: {} octets after the last unit", rest.len()))
+    }
+}
+
+fn packet_batches(file: &[u8]) -> Vec<Vec<u8>> {
+    let mut batches = Vec::new();
+    let mut rest = file;
+    while !rest.is_empty() {
+        let (batch, later) = rest.split_at(gathered(rest));
+        batches.push(batch.to_vec());
+        rest = later;
+    }
+    batches
+}
+
+/// The batches of a lane's file, in order.
+fn batches(setting: &Setting, file: &LaneFile) -> Result<Vec<Vec<u8>>, String> {
+    let LaneFile { lane, path, lengths: list } = file;
+    may_be_read(path, true)?;
+    let octets = fs::read(path).map_err(|error| format!("{path}: {error}"))?;
+    let Some(listed) = lane_of(setting, *lane) else { return Err(format!("{path}: refused 13")) };
+    match (listed.kind, list) {
+        (Kind::Packet, _) => Ok(packet_batches(&octets)),
+        (Kind::Access, None) => Ok(vec![octets]),
+        (Kind::Access, Some(list)) => listed_units(&octets, path, &lengths(list)?, listed.longest as usize),
+    }
+}
+
+/// The words that are options, which may stand anywhere, and the others.
+fn options(arguments: &[String]) -> (Vec<&String>, Vec<&String>) {
+    arguments.iter().partition(|word| word.starts_with("--"))
+}
+
 pub fn pack(arguments: &[String]) -> Result<(), String> {
-    let Some((setting_path, named)) = arguments.split_first() else {
+    let (asked, names) = options(arguments);
+    if let Some(unknown) = asked.iter().find(|word| word.as_str() != "--interleave") {
+        return Err(format!("{unknown}: no such option"));
+    }
+    let interleave = !asked.is_empty();
+    let Some((setting_path, named)) = names.split_first() else {
         return Err("usage: pack SETTING LANE=FILE ..".to_string());
     };
+    let setting_path = if setting_path.as_str() == "-" { "/dev/stdin" } else { setting_path.as_str() };
     may_be_read(setting_path, false)?;
     let setting = load_setting(setting_path)?;
-    let plan = pack_plan(named)?;
+    let plan = pack_plan(&setting, interleave, named)?;
     if plan.lane_files.is_empty() {
         return Err("usage: pack SETTING LANE=FILE ..".to_string());
     }
     let insert = fixed_octets(&plan.insert_file, setting.insert as usize)?;
     let ocf = fixed_octets(&plan.ocf_file, 4)?;
     let mut writer = Writer::fresh(&setting).map_err(|_| "the setting is not valid")?;
+    let mut waiting = Vec::new();
+    for file in &plan.lane_files {
+        let batches = batches(&setting, file)?;
+        waiting.push((file.lane, VecDeque::from(batches)));
+    }
     let mut frames = Vec::new();
-    for (lane, path) in &plan.lane_files {
-        pack_file(&mut writer, *lane, path, &insert, &ocf, &mut frames)?;
+    if interleave {
+        // A frame of each file in turn.
+        while waiting.iter().any(|(_, batches)| !batches.is_empty()) {
+            for (lane, batches) in &mut waiting {
+                pack_frame(&mut writer, *lane, batches, &insert, &ocf, &mut frames)?;
+            }
+        }
+    } else {
+        for (lane, batches) in &mut waiting {
+            while !batches.is_empty() {
+                pack_frame(&mut writer, *lane, batches, &insert, &ocf, &mut frames)?;
+            }
+        }
     }
     // Nothing is written where anything is refused.
     let mut out = io::stdout().lock();
     out.write_all(&frames).and_then(|()| out.flush()).map_err(said)
 }
 
-fn pack_file(
+/// The next frame of a lane's first batch, if it has one; a batch that is worked off is gone.
+fn pack_frame(
     writer: &mut Writer,
     lane: u64,
-    path: &str,
+    batches: &mut VecDeque<Vec<u8>>,
     insert: &[u8],
     ocf: &[u8],
     out: &mut Vec<u8>,
 ) -> Result<(), String> {
-    may_be_read(path, true)?;
-    let file = fs::read(path).map_err(|error| format!("{path}: {error}"))?;
-    let listed = usize::try_from(lane).ok().and_then(|place| writer.setting.lanes.get(place));
-    let Some(listed) = listed else { return Err(format!("{path}: refused 13: there is no lane {lane}")) };
+    let Some(batch) = batches.front() else { return Ok(()) };
+    let listed = lane_of(&writer.setting, lane).ok_or("refused 13")?;
     let ocf = if writer.setting.channels[listed.channel].ocf { ocf } else { &[] };
     let mut frame = vec![0; writer.setting.frame_length as usize];
-    for batch in batches(listed.kind, &file) {
-        loop {
-            let lent = Lent { lane, batch, insert, ocf };
-            writer.write(&lent, &mut frame).map_err(|number| format!("{path}: a batch is refused {number}"))?;
-            out.extend(&frame);
-            if writer.next[lane as usize] == 0 {
-                break;
-            }
-        }
+    let lent = Lent { lane, batch, insert, ocf };
+    writer.write(&lent, &mut frame).map_err(|number| format!("lane {lane}: a batch is refused {number}"))?;
+    out.extend(&frame);
+    if writer.next[lane as usize] == 0 {
+        batches.pop_front();
     }
     Ok(())
 }

@@ -12,8 +12,8 @@ use crate::writer::{Lent, Writer};
 /// Count lengths: short ones, so that counts wrap.
 const COUNT_LENGTHS: [u64; 5] = [1, 1, 1, 2, 7];
 
-/// The files: `setting`; `recording`; `insert` and `ocf`; `lane0` and so on for `pack`, whose words after the setting
-/// are the lines of `words`.
+/// The files: `setting`; `recording`; `insert` and `ocf`; `lane0` and so on for `pack`, and `list0` and so on of those
+/// that have a list of lengths. The lines of `words` are its words after the setting.
 pub fn write_sample(seed: u64, folder: &str) -> Result<(), String> {
     let mut random = Random::new(seed);
     let setting = valid_setting(&mut random, &COUNT_LENGTHS);
@@ -26,8 +26,19 @@ pub fn write_sample(seed: u64, folder: &str) -> Result<(), String> {
     put(folder, "insert", &insert)?;
     put(folder, "ocf", &ocf)?;
     for lane in 0..setting.lanes.len() {
-        put(folder, &format!("lane{lane}"), &lane_file(&mut random, &setting, lane))?;
         words.push(format!("{lane}=lane{lane}"));
+        if setting.lanes[lane].kind == Kind::Access && random.one_in(2) {
+            let (units, list) = listed_file(&mut random, &setting, lane);
+            put(folder, &format!("lane{lane}"), &units)?;
+            put(folder, &format!("list{lane}"), list.as_bytes())?;
+            words.push(format!("lengths=list{lane}"));
+        } else {
+            put(folder, &format!("lane{lane}"), &lane_file(&mut random, &setting, lane))?;
+        }
+    }
+    if random.one_in(2) {
+        let place = random.between(0, words.len() as u64) as usize;
+        words.insert(place, "--interleave".to_string());
     }
     spoil_words(&mut random, &mut words);
     put(folder, "words", (words.join("\n") + "\n").as_bytes())
@@ -127,10 +138,46 @@ fn lane_file(random: &mut Random, setting: &Setting, lane: usize) -> Vec<u8> {
     octets
 }
 
+/// Units of an access lane back to back and the list of their lengths: good, and one in eight with something wrong.
+fn listed_file(random: &mut Random, setting: &Setting, lane: usize) -> (Vec<u8>, String) {
+    let described = &setting.lanes[lane];
+    let zone = setting.zone_length(&setting.channels[described.channel]) as usize;
+    let mut units = Vec::new();
+    let mut list = String::new();
+    for _ in 0..random.between(0, 60) {
+        let unit = good_batch(random, described, zone);
+        list += random.pick(&["", "0", "00"]);
+        list += &unit.len().to_string();
+        list += random.pick(&["\n", "\n", " ", "\r\n", "\t \n\n"]);
+        units.extend(unit);
+    }
+    if random.one_in(8) {
+        match random.below(5) {
+            0 => units.push(1),
+            1 => list += "0\n",
+            2 => list += &format!("{}\n", described.longest + 1),
+            3 => list += random.pick(&["x", "1,1", "-1", "1x"]),
+            _ => {
+                units.pop();
+            }
+        }
+    }
+    (units, list)
+}
+
 fn spoil_words(random: &mut Random, words: &mut Vec<String>) {
     if random.one_in(10) {
-        let wrong =
-            random.pick(&["insert=insert", "8=lane0", "x=lane0", "lane0", "0=no_such_file", "ocf=recording", "=lane0"]);
+        let wrong = random.pick(&[
+            "insert=insert",
+            "8=lane0",
+            "x=lane0",
+            "lane0",
+            "0=no_such_file",
+            "ocf=recording",
+            "=lane0",
+            "lengths=lane0",
+            "--none",
+        ]);
         words.push(wrong.to_string());
     }
 }

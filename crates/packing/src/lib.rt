@@ -1,131 +1,33 @@
 // The program pack: frames of the batches that files hold, to standard output.
 //
-// What the system reads stands in the contracts as what the window then holds; all else is determined by it, unless a write to standard output
-// fails. Proved: what an argument names (`name_of`) and what the arguments come to (`planned`); the batch of a turn is what is gathered of
-// the octets in the window, it alone is worked off, and the window then holds the octets after it (`packets_step`); an access lane's batch is
-// all octets of the file (`unit_step`); to work a batch off is to write it, frame by frame, until the lane's number returns to 0
-// (`work_off`); what is wrong, and at which octet (`Fault`). Shown by runs: what no contract can follow into the system.
+// Crate `pack_start` has what its words come to, crate `streams` what the next batch of a file is or what is wrong with it, and crate `turns` what
+// a turn of a file writes and leaves. Here files are opened and closed, the turns are dealt out, and what went wrong is said: what no contract
+// can follow into the system is shown by runs.
 ghost use mathlib.Core.Path.{_≡_};
-ghost use Prim.Native.Nat.{_+_, _≤_};
-ghost use lib.ListN.{length, take};
-ghost use Rattle.io.specs.Counts.{Counts};
-ghost use Rattle.rules.specs.Settings.{lane, channel, ocfOctets, number};
-ghost use Rattle.packing.specs.Words.{begins as beginsWith, lane as laneNamed, nameOf, badPlan, planOn, fine, isWord, askOf, objectionTo};
-ghost use Rattle.packing.specs.Courses.{sound, wrongFault, ended, oneMore, sentFault, dueAt, SentNext, goesOn, Unless, workedOff, areaBefore, batchOn, noBatch, nextBatch, Stepped, Passed, unitCourse, UnitPassed, LanePassed};
-ghost use Rattle.rules.specs.Areas.{batchSize};
+ghost use Prim.Native.Nat.{_<_};
+ghost use lib.ListN.{length};
+ghost use Rattle.rules.specs.Settings.{lane, channel, ocfOctets};
+ghost use Rattle.packing.specs.Rounds.{formOf, nextPlace};
 use file_batches::Wrong;
 use files::Known;
 use intake::Window;
+use pack_start::Asked;
+use pack_start::Bad;
+use pack_start::Named;
+use pack_start::Objection;
+use pack_start::Plan;
+use pack_start::Start;
 use rules::Kind;
 use rules::Lane;
-use rules::Outcome;
 use rules::Setting;
-use rules::Writer;
+use setting_file::Loaded;
+use streams::Fault;
+use streams::Form;
+use streams::Stream;
+use turns::Course;
+use turns::Source;
 
-// ---- what an argument names
-
-// What an argument after the setting names: a lane's file, the insert octets, the OCF octets, or none of these.
-pub enum Named {
-    ToLane(usize),
-    Insert,
-    Ocf,
-    Other,
-}
-
-// Whether these octets begin with that word.
-fn begins(s: &[u8], word: &[u8]) -> bool
-    ensures { λ r. ⌜ r ≡ beginsWith (now (word .entry)) (now (s .entry)) ⌝ }
-{
-    let mut i: usize = 0;
-    while i < word.len() {
-        if s.len() <= i {
-            return false;
-        }
-        if s[i] != word[i] {
-            return false;
-        }
-        i += 1;
-    }
-    true
-}
-
-// The lane whose file these octets name, if they do.
-fn lane_named(s: &[u8], numbered: usize) -> Named
-    ensures { λ r. ⌜ r ≡ laneNamed numbered (now (s .entry)) ⌝ }
-{
-    if s.len() < 2 {
-        return Named::Other;
-    }
-    if s[1] != b'=' {
-        return Named::Other;
-    }
-    let d = s[0];
-    if d < b'0' {
-        return Named::Other;
-    }
-    let l = (d - b'0') as usize;
-    if l < numbered {
-        return Named::ToLane(l);
-    }
-    Named::Other
-}
-
-// What an argument names, in a setting with so many lanes.
-pub fn name_of(s: &[u8], numbered: usize) -> Named
-    ensures { λ r. ⌜ r ≡ nameOf numbered (now (s .entry)) ⌝ }
-{
-    let insert = begins(s, b"insert=");
-    if insert {
-        return Named::Insert;
-    }
-    let ocf = begins(s, b"ocf=");
-    if ocf {
-        return Named::Ocf;
-    }
-    lane_named(s, numbered)
-}
-
-// ---- what may go wrong, and how it is said
-
-// What ends the program early: nothing; a file that cannot be read; what is wrong with the packet at an octet of it; a unit that is
-// empty, or above the lane's longest; a batch that the writer refused; standard output.
-enum Fault {
-    Nothing,
-    NotRead,
-    Packet(u64, Wrong),
-    NoUnit,
-    LongUnit,
-    Refused(u8),
-    NotSent,
-}
-
-// Whether nothing went wrong.
-fn is_sound(f: Fault) -> bool
-    ensures { λ r. ⌜ r ≡ sound f ⌝ }
-{
-    match f {
-        Fault::Nothing => true,
-        Fault::NotRead => false,
-        Fault::Packet(_, _) => false,
-        Fault::NoUnit => false,
-        Fault::LongUnit => false,
-        Fault::Refused(_) => false,
-        Fault::NotSent => false,
-    }
-}
-
-// What goes wrong with the packet at octet `at`, of which this is wrong.
-fn wrong_fault(at: u64, w: Wrong) -> Fault
-    ensures { λ r. ⌜ r ≡ wrongFault at w ⌝ }
-{
-    match w {
-        Wrong::Nothing => Fault::Nothing,
-        Wrong::NoPacket => Fault::Packet(at, w),
-        Wrong::Idle => Fault::Packet(at, w),
-        Wrong::Long(_) => Fault::Packet(at, w),
-        Wrong::Cut => Fault::Packet(at, w),
-    }
-}
+// ---- what is said
 
 // Says how many octets a file should have.
 fn say_expected(path: &[u8], n: u64) {
@@ -169,330 +71,42 @@ fn say_refused(path: &[u8], n: u8) {
     io::write_all(2, b"\n");
 }
 
-// Says what went wrong with a file, if anything did.
-fn say_fault(path: &[u8], f: Fault) {
+// Says what went wrong with a file of this name, or with its list of that name, if anything did.
+fn say_fault(path: &[u8], list: &[u8], f: Fault) {
     match f {
         Fault::Nothing => {}
         Fault::NotRead => console::say_failed(b"pack", path),
+        Fault::NotListed => console::say_failed(b"pack", list),
         Fault::Packet(at, w) => say_wrong(path, at, w),
         Fault::NoUnit => say_octet(path, 0, b"expected a unit of at least 1 octet"),
         Fault::LongUnit => say_octet(path, 0, b"a unit above the lane's longest"),
+        Fault::CutUnit(at) => say_octet(path, at, b"a unit that the file's end cuts"),
+        Fault::Left(at) => say_octet(path, at, b"after the last unit of the list"),
+        Fault::NoLength(at) => say_octet(
+            list,
+            at,
+            b"expected a length of 1 up to the lane's longest",
+        ),
         Fault::Refused(n) => say_refused(path, n),
         Fault::NotSent => console::say_failed(b"pack", b"standard output"),
     }
 }
 
-// ---- files
-
-// As many octets at the front of an area as asked for, or all of them.
-fn within(n: usize, area: &[u8]) -> usize
-    ensures { λ r. ⌜ Counts r (now (area .entry)) ⌝ }
-    ensures { λ r. ⌜ take r (now (area .entry)) ≡ take n (now (area .entry)) ⌝ }
-{
-    intake::least(n, area.len())
-}
-
-// ---- frames
-
-// What goes from batch to batch: what went wrong, the writer's state, and how many frames are written.
-struct Course {
-    fault: Fault,
-    state: Writer,
-    frames: u64,
-}
-
-// The same course, ended so.
-fn end_with(c: Course, fault: Fault) -> Course
-    ensures { λ r. ⌜ r ≡ ended c fault ⌝ }
-{
-    let w = c.state;
-    Course {
-        fault: fault,
-        state: w,
-        frames: c.frames,
-    }
-}
-
-// One more, of a number that no run brings to its end.
-fn one_more(n: u64) -> u64
-    ensures { λ r. ⌜ r ≡ oneMore n ⌝ }
-{
-    if n < 18446744073709551615 {
-        return n + 1;
-    }
-    n
-}
-
-// The state's number of lane l's next frame, 0 where there is no such lane.
-fn next_number(w: Writer, l: usize) -> usize
-    ensures { λ r. ⌜ r ≡ number w l ⌝ }
-{
-    if l < 8 {
-        return w.next[l];
-    }
-    0
-}
-
-// Writes the frame at the front of an area to standard output.
-fn send(s: Setting, area: &[u8]) -> Fault
-    ensures { λ r. ⌜ r ≡ sentFault (sound r) ⌝ }
-{
-    let end = within(s.length, area);
-    let good = io::write_all(1, &area[..end]);
-    if good {
-        return Fault::Nothing;
-    }
-    Fault::NotSent
-}
-
-// Writes the next frame of a batch, and hands it on.
-fn send_next(
-    c: Course,
-    l: usize,
-    batch: &[u8],
-    insert: &[u8],
-    ocf: &[u8],
-    area: &mut [u8],
-) -> Course
-    ensures { λ r. ⌜ SentNext c l (now (batch .entry)) (now (insert .entry)) (now (ocf .entry)) (now (area .entry)) r (now (area .exit)) ⌝ }
-{
-    let w = c.state;
-    let s = w.setting;
-    let t = writer::write(w, l, batch, insert, ocf, area);
-    let outcome = t.outcome;
-    let after = t.state;
-    match outcome {
-        Outcome::Done => {
-            let fault = send(s, area);
-            let frames = one_more(c.frames);
-            Course {
-                fault: fault,
-                state: after,
-                frames: frames,
-            }
-        }
-        Outcome::Refused(n) => Course {
-            fault: Fault::Refused(n),
-            state: after,
-            frames: c.frames,
-        },
-    }
-}
-
-// Whether more frames of lane l's batch follow.
-fn goes_on(c: Course, l: usize) -> bool
-    ensures { λ r. ⌜ r ≡ goesOn c l ⌝ }
-{
-    let fault = c.fault;
-    let good = is_sound(fault);
-    if good {
-        let w = c.state;
-        let n = next_number(w, l);
-        return n != 0;
-    }
-    false
-}
-
-// Works a batch off. It has no more frames than octets.
-fn work_off(c: Course, l: usize, batch: &[u8], insert: &[u8], ocf: &[u8]) -> Course
-    ensures { λ r. ⌜ Unless r (workedOff batchSize c l (now (batch .entry)) (now (insert .entry)) (now (ocf .entry)) areaBefore) ⌝ }
-{
-    let mut area = [0u8; 4096];
-    let mut course = c;
-    let mut k: u64 = 0;
-    while k < 32768 {
-        course = send_next(course, l, batch, insert, ocf, &mut area);
-        k += 1;
-        let more = goes_on(course, l);
-        if more {} else {
-            break;
-        }
-    }
-    course
-}
-
-// ---- a file's batches
-
-// What to do with a lane's file: the lane, its longest unit, and whether its batches are written, or looked through.
-struct Job {
-    writing: bool,
-    lane: usize,
-    longest: usize,
-}
-
-// Whether a multiple of 65,536 frames was reached between these numbers of them.
-fn is_due(before: u64, after: u64) -> bool
-    ensures { λ r. ⌜ r ≡ dueAt before after ⌝ }
-{
-    before / 65536 != after / 65536
-}
-
-// Says how many frames are written, about every 65,536 of them.
-fn say_progress(before: u64, after: u64) {
-    let due = is_due(before, after);
-    if due {
-        console::say_count(b"pack", b"", after, b" frames");
-    }
-}
-
-// How a batch goes on: worked off where frames are written, and passed over in the first pass.
-fn batch_on(j: Job, c: Course, batch: &[u8], insert: &[u8], ocf: &[u8]) -> Course
-    ensures { λ r. ⌜ Unless r (batchOn j c (now (batch .entry)) (now (insert .entry)) (now (ocf .entry))) ⌝ }
-{
-    if j.writing {
-        let t = work_off(c, j.lane, batch, insert, ocf);
-        say_progress(c.frames, t.frames);
-        return t;
-    }
-    c
-}
-
-// A turn with a packet lane's file: the course after it, what is left in the window, and whether there may be more.
-struct Step {
-    course: Course,
-    window: Window,
-    more: bool,
-}
-
-// There is no batch: the file ended, could not be read, or something is wrong with it.
-fn no_batch(j: Job, c: Course, w: Window, octets: &[u8]) -> Course
-    ensures { λ r. ⌜ r ≡ noBatch j c w (now (octets .entry)) ⌝ }
-{
-    if w.good {
-        let wrong = file_batches::wrong_at(octets, j.longest);
-        let fault = wrong_fault(w.at, wrong);
-        return end_with(c, fault);
-    }
-    end_with(c, Fault::NotRead)
-}
-
-// How many octets in the window are the next batch.
-fn next_batch(j: Job, w: Window, octets: &[u8]) -> usize
-    ensures { λ r. ⌜ r ≡ nextBatch j w (now (octets .entry)) ⌝ }
-{
-    if w.good {
-        return file_batches::gather(octets, j.longest);
-    }
-    0
-}
-
-// Works off the batch at the front of the window, and moves what is behind it to the front.
-fn packets_step(j: Job, c: Course, w: Window, area: &mut [u8], insert: &[u8], ocf: &[u8]) -> Step
-    requires { ⌜ (w .have ≤ length (now area)) × (w .at + 65536 ≤ 18446744073709551615) × (length (now area) ≤ 65536) ⌝ }
-    ensures { λ r. ⌜ Stepped j c w (now (insert .entry)) (now (ocf .entry)) (now (area .entry)) r (now (area .exit)) ⌝ }
-{
-    let have = w.have;
-    let n = next_batch(j, w, &area[..have]);
-    if n == 0 {
-        let t = no_batch(j, c, w, &area[..have]);
-        return Step {
-            course: t,
-            window: w,
-            more: false,
-        };
-    }
-    let t = batch_on(j, c, &area[..n], insert, ocf);
-    file_batches::shift(&mut area[..have], n);
-    let fault = t.fault;
-    let more = is_sound(fault);
-    Step {
-        course: t,
-        window: Window {
-            have: have - n,
-            at: w.at + n as u64,
-            good: w.good,
-        },
-        more: more,
-    }
-}
-
-// Goes through a packet lane's file, batch after batch. A proved loop has to end: this one goes by the place in the file, to one that no
-// file reaches.
-fn packets_on(j: Job, c: Course, fd: i32, insert: &[u8], ocf: &[u8]) -> Course
-    ensures { λ r. ⌜ Passed j c (now (insert .entry)) (now (ocf .entry)) r ⌝ }
-{
-    let mut area = io::large_buffer();
-    let mut course = c;
-    let mut window = Window {
-        have: 0,
-        at: 0,
-        good: true,
-    };
-    while window.at < 18446744073709486080 {
-        window = intake::fill_up(fd, &mut area, window);
-        let t = packets_step(j, course, window, &mut area, insert, ocf);
-        course = t.course;
-        window = t.window;
-        if t.more {} else {
-            break;
-        }
-    }
-    course
-}
-
-// What becomes of an access lane's file with these octets, which is one unit.
-fn unit_step(j: Job, c: Course, good: bool, octets: &[u8], insert: &[u8], ocf: &[u8]) -> Course
-    ensures { λ r. ⌜ Unless r (unitCourse j c good (now (octets .entry)) (now (insert .entry)) (now (ocf .entry))) ⌝ }
-{
-    if good {
-        if octets.len() == 0 {
-            return end_with(c, Fault::NoUnit);
-        }
-        if j.longest < octets.len() {
-            return end_with(c, Fault::LongUnit);
-        }
-        return batch_on(j, c, octets, insert, ocf);
-    }
-    end_with(c, Fault::NotRead)
-}
-
-// Goes through an access lane's file.
-fn unit_on(j: Job, c: Course, fd: i32, insert: &[u8], ocf: &[u8]) -> Course
-    ensures { λ r. ⌜ UnitPassed j c (now (insert .entry)) (now (ocf .entry)) r ⌝ }
-{
-    let mut area = io::large_buffer();
-    let none = Window {
-        have: 0,
-        at: 0,
-        good: true,
-    };
-    let w = intake::fill_up(fd, &mut area, none);
-    let n = w.have;
-    unit_step(j, c, w.good, &area[..n], insert, ocf)
+// Says how pack is called.
+fn say_usage() {
+    console::say(
+        b"pack",
+        b"usage",
+        b"pack [--interleave] SETTING LANE=FILE [lengths=FILE] .. [insert=FILE] [ocf=FILE]",
+    );
 }
 
 // ---- which files may be read
 
-// What stands against reading a file: nothing; it would be read twice, and what is no regular file need not give the same octets again; it is
-// standard output, and frames would be written into it.
-enum Objection {
-    Nothing,
-    NotRegular,
-    Output,
-}
-
-// What stands against reading a file, with this standard output, once or twice.
-fn against(k: Known, out: Known, twice: bool) -> Objection
-    ensures { λ r. ⌜ r ≡ objectionTo k out twice ⌝ }
-{
-    let plain = files::regular(k);
-    if plain {
-        let own = files::same(k, out);
-        if own {
-            return Objection::Output;
-        }
-        return Objection::Nothing;
-    }
-    if twice {
-        return Objection::NotRegular;
-    }
-    Objection::Nothing
-}
-
 // Whether nothing stands against reading a file. Says what does.
 fn allowed(path: &[u8], k: Known, twice: bool) -> bool {
     let out = files::of_descriptor(1);
-    let o = against(k, out, twice);
+    let o = pack_start::against(k, out, twice);
     match o {
         Objection::Nothing => true,
         Objection::NotRegular => {
@@ -530,218 +144,622 @@ fn ocf_of(s: Setting, a: Lane) -> usize
     0
 }
 
-// ---- the arguments
+// ---- opening
 
-// Goes through the open file of lane l, by the lane's kind.
-fn lane_on(writing: bool, c: Course, l: usize, fd: i32, insert: &[u8], ocf: &[u8]) -> Course
-    ensures { λ r. ⌜ LanePassed writing c l (now (insert .entry)) (now (ocf .entry)) r ⌝ }
+// What a lane's file has, of a lane of this kind, with a list or without.
+fn form_of(kind: Kind, listed: bool) -> Form
+    ensures { λ r. ⌜ r ≡ formOf kind listed ⌝ }
 {
-    let w = c.state;
-    let s = w.setting;
-    let a = lane_of(s, l);
-    let o = ocf_of(s, a);
-    let n = within(o, ocf);
-    let kind = a.kind;
-    let j = Job {
-        writing: writing,
-        lane: l,
-        longest: a.longest,
-    };
     match kind {
-        Kind::Packets => packets_on(j, c, fd, insert, &ocf[..n]),
-        Kind::Access => unit_on(j, c, fd, insert, &ocf[..n]),
+        Kind::Packets => Form::Packets,
+        Kind::Access => {
+            if listed {
+                return Form::Units;
+            }
+            Form::Unit
+        }
     }
 }
 
-// Goes through the file of lane l, and says what is wrong with it.
-fn file_on(writing: bool, c: Course, l: usize, path: &[u8], insert: &[u8], ocf: &[u8]) -> Course {
+// A window on a file that nothing was read of.
+fn fresh() -> Window {
+    Window {
+        have: 0,
+        at: 0,
+        good: true,
+    }
+}
+
+// A file that was opened, or not: its descriptor, below 0 where it was not, and how many octets its name has.
+struct Opened {
+    fd: i32,
+    name: usize,
+}
+
+// Opens a file that is read twice, where nothing stands against it. Says what does.
+fn open_file(path: &[u8]) -> i32 {
     let fd = os::open_read(path);
     if fd < 0 {
         console::say_failed(b"pack", path);
-        return end_with(c, Fault::NotRead);
+        return fd;
     }
     let k = files::of_descriptor(fd);
-    let good = allowed(path, k, true);
-    if !good {
-        libc::close(fd);
-        return end_with(c, Fault::NotRead);
+    let free = allowed(path, k, true);
+    if free {
+        return fd;
     }
-    let t = lane_on(writing, c, l, fd, insert, ocf);
-    let fault = t.fault;
-    say_fault(path, fault);
     libc::close(fd);
-    t
+    -1
 }
 
-// Goes through the file that argument i names, if that is a lane's.
-fn argument_on(writing: bool, c: Course, i: usize, insert: &[u8], ocf: &[u8]) -> Course {
+// Opens the file that word i names after its first `from` octets, and keeps its name.
+fn open_word(i: usize, from: usize, name: &mut [u8]) -> Opened {
     let mut word = io::buffer();
     let n = os::arg(i, &mut word);
-    let w = c.state;
-    let s = w.setting;
-    let name = name_of(&word[..n], s.numbered);
-    match name {
-        Named::ToLane(l) => {
-            if n < 2 {
-                return c;
-            }
-            file_on(writing, c, l, &word[2..n], insert, ocf)
-        }
-        Named::Insert => c,
-        Named::Ocf => c,
-        Named::Other => c,
+    if n < from {
+        return Opened { fd: -1, name: 0 };
+    }
+    octets::copy(name, &word[from..n]);
+    let fd = open_file(&word[from..n]);
+    Opened {
+        fd: fd,
+        name: n - from,
     }
 }
 
-// Goes through all files, from a fresh writer on: to look for what is wrong, or to write frames.
-fn pass(writing: bool, s: Setting, n: usize, insert: &[u8], ocf: &[u8]) -> Course {
-    let fresh = writer::set_up(s);
-    let w = fresh.state;
-    let mut course = Course {
-        fault: Fault::Nothing,
-        state: w,
-        frames: 0,
-    };
-    let mut i: usize = 2;
-    while i < n {
-        course = argument_on(writing, course, i, insert, ocf);
-        let fault = course.fault;
-        let good = is_sound(fault);
-        if !good {
+// Whether word i is an option.
+fn is_option_at(i: usize) -> bool {
+    let mut word = io::buffer();
+    let n = os::arg(i, &mut word);
+    words::is_option(&word[..n])
+}
+
+// Whether word i names a list of lengths.
+fn is_list_at(i: usize) -> bool {
+    let mut word = io::buffer();
+    let n = os::arg(i, &mut word);
+    words::begins(&word[..n], b"lengths=")
+}
+
+// The first of n words from word i on that is no option; n where there is none.
+fn past_options(i: usize, n: usize) -> usize {
+    let mut j = i;
+    while j < n {
+        let option = is_option_at(j);
+        if option {} else {
             break;
+        }
+        j += 1;
+    }
+    j
+}
+
+// The list of the file that a word before word i names: the next word, options aside, where it is one; 0 for none.
+fn list_of(i: usize, n: usize) -> usize {
+    let j = past_options(i, n);
+    if j < n {
+        let list = is_list_at(j);
+        if list {
+            return j;
+        }
+    }
+    0
+}
+
+// Opens a list, where a word names one.
+fn open_list(j: usize, name: &mut [u8]) -> Opened {
+    if j == 0 {
+        return Opened { fd: -1, name: 0 };
+    }
+    open_word(j, 8, name)
+}
+
+// Closes a file that was opened.
+fn close(fd: i32) {
+    if fd < 0 {
+        return;
+    }
+    libc::close(fd);
+}
+
+// The source of lane l's file and of its list, which are open.
+fn source_of(s: Setting, l: usize, file: Opened, listed: bool, list: Opened) -> Source {
+    let a = lane_of(s, l);
+    let ocf = ocf_of(s, a);
+    let kind = a.kind;
+    let form = form_of(kind, listed);
+    let window = fresh();
+    let stream = Stream {
+        window: window,
+        list: window,
+        batch: 0,
+        lane: l,
+        longest: a.longest,
+        form: form,
+    };
+    Source {
+        stream: stream,
+        name: file.name,
+        list_name: list.name,
+        ocf: ocf,
+        fd: file.fd,
+        list_fd: list.fd,
+        more: true,
+    }
+}
+
+// No source.
+fn no_source(s: Setting) -> Source {
+    let none = Opened { fd: -1, name: 0 };
+    let x = source_of(s, 0, none, false, none);
+    let mut y = x;
+    y.more = false;
+    y
+}
+
+// Whether word j names a list that is not open.
+fn is_missing(j: usize, list: Opened) -> bool {
+    if j == 0 {
+        return false;
+    }
+    list.fd < 0
+}
+
+// The source of lane l's file, which is open, with the list that word j names, if any does. Where the list is not opened, there is no source.
+fn with_list(s: Setting, l: usize, file: Opened, j: usize, list_name: &mut [u8]) -> Source {
+    let list = open_list(j, list_name);
+    let missing = is_missing(j, list);
+    if missing {
+        libc::close(file.fd);
+        return no_source(s);
+    }
+    source_of(s, l, file, j != 0, list)
+}
+
+// Opens the file of lane l that word i of n names, and its list if it has one. Where one is not opened, there is no source.
+fn open_source(
+    s: Setting,
+    l: usize,
+    i: usize,
+    n: usize,
+    name: &mut [u8],
+    list_name: &mut [u8],
+) -> Source
+    requires { ⌜ i < n ⌝ }
+{
+    let file = open_word(i, 2, name);
+    if file.fd < 0 {
+        return no_source(s);
+    }
+    let j = list_of(i + 1, n);
+    with_list(s, l, file, j, list_name)
+}
+
+// ---- turns
+
+// How a pass goes: whether frames are written; whether the files take turns; how many octets of them are a hundredth; whether standard error is
+// a terminal.
+struct Way {
+    writing: bool,
+    together: bool,
+    live: bool,
+    hundredth: u64,
+}
+
+// Says how far it is, where a frame was written with which that is due.
+fn say_progress(way: Way, before: u64, c: Course) {
+    if before == c.frames {
+        return;
+    }
+    let due = progress::is_due(c.frames);
+    if due {
+        let p = progress::percent(way.hundredth, c.octets);
+        progress::say_far(b"pack", c.frames, p, way.live);
+    }
+}
+
+// The files of a round, and how many there are.
+struct Files {
+    sources: [Source; 8],
+    count: usize,
+}
+
+// Whether a file of these may have more.
+fn any_more(f: Files) -> bool {
+    let mut k: usize = 0;
+    while k < 8 {
+        let all = f.sources;
+        let x = all[k];
+        if x.more {
+            return true;
+        }
+        k += 1;
+    }
+    false
+}
+
+// Whose turn is next, of so many files: the one after, or again the first.
+fn next_place(k: usize, count: usize) -> usize
+    requires { ⌜ k < 8 ⌝ }
+    ensures { λ r. ⌜ (r ≡ nextPlace k count) × (r < 8) ⌝ }
+{
+    let j = k + 1;
+    if j < count {
+        if j < 8 {
+            return j;
+        }
+    }
+    0
+}
+
+// Whether a course goes on, with these files.
+fn has_next(c: Course, f: Files) -> bool {
+    let fault = c.fault;
+    let good = streams::is_sound(fault);
+    if good {
+        return any_more(f);
+    }
+    false
+}
+
+// A round of turns: the course after it, and the file that was the last to have one.
+struct Round {
+    course: Course,
+    last: usize,
+}
+
+// Deals out turns, a frame each, until all files are at their end. A proved loop has to end: this one goes to a number of turns that no run
+// reaches.
+fn go_round(way: Way, c: Course, files: Files, insert: &[u8], ocf: &[u8]) -> Round
+    ensures { λ r. ⌜ r .last < 8 ⌝ }
+{
+    let mut areas = [0u8; 524288];
+    let mut lists = [0u8; 2048];
+    let mut f = files;
+    let mut course = c;
+    let mut k: usize = 0;
+    let mut turns: u64 = 0;
+    while turns < 18446744073709551615 {
+        let before = course.frames;
+        let x = f.sources[k];
+        let t = turns::turn_at(
+            k,
+            way.writing,
+            course,
+            x,
+            &mut areas,
+            &mut lists,
+            insert,
+            ocf,
+        );
+        course = t.course;
+        let y = t.source;
+        f.sources[k] = y;
+        say_progress(way, before, course);
+        let on = has_next(course, f);
+        if !on {
+            break;
+        }
+        k = next_place(k, f.count);
+        turns += 1;
+    }
+    Round {
+        course: course,
+        last: k,
+    }
+}
+
+// Closes the files of a round.
+fn close_all(f: Files) {
+    let mut k: usize = 0;
+    while k < 8 {
+        let all = f.sources;
+        let x = all[k];
+        close(x.fd);
+        close(x.list_fd);
+        k += 1;
+    }
+}
+
+// Says what went wrong with file k, whose names stand in the k-th parts of this area.
+fn say_of(f: Files, k: usize, names: &[u8], fault: Fault)
+    requires { ⌜ (k < 8) × (length (now names) ≡ 65536) ⌝ }
+{
+    let all = f.sources;
+    let x = all[k];
+    let from = 8192 * k;
+    let middle = from + 4096;
+    let to = middle + 4096;
+    let file = &names[from..middle];
+    let list = &names[middle..to];
+    let a = streams::within(x.name, file);
+    let b = streams::within(x.list_name, list);
+    say_fault(&file[..a], &list[..b], fault);
+}
+
+// A round with these files, whose names stand in this area: says what went wrong, and closes them.
+fn round_on(way: Way, c: Course, f: Files, names: &[u8], insert: &[u8], ocf: &[u8]) -> Course
+    requires { ⌜ length (now names) ≡ 65536 ⌝ }
+{
+    let r = go_round(way, c, f, insert, ocf);
+    let d = r.course;
+    let fault = d.fault;
+    say_of(f, r.last, names, fault);
+    close_all(f);
+    d
+}
+
+// ---- passes
+
+// Where a pass is: the course, and the files that wait for a round.
+struct Stage {
+    course: Course,
+    files: Files,
+}
+
+// No files.
+fn no_files(s: Setting) -> Files {
+    let none = no_source(s);
+    Files {
+        sources: [none; 8],
+        count: 0,
+    }
+}
+
+// With one file more, if there is room for it.
+fn add_file(f: Files, x: Source) -> Files {
+    let mut g = f;
+    if f.count < 8 {
+        let k = f.count;
+        g.sources[k] = x;
+        g.count = k + 1;
+    }
+    g
+}
+
+// Opens lane l's file that word i of n names, and puts it to those that wait.
+fn wait_for(p: Stage, l: usize, i: usize, n: usize, names: &mut [u8]) -> Stage
+    requires { ⌜ (i < n) × (length (now names) ≡ 65536) ⌝ }
+{
+    let c = p.course;
+    let w = c.state;
+    let s = w.setting;
+    let f = p.files;
+    let k = place_of(f);
+    let from = 8192 * k;
+    let middle = from + 4096;
+    let to = middle + 4096;
+    let mut name = io::buffer();
+    let mut list = io::buffer();
+    let x = open_source(s, l, i, n, &mut name, &mut list);
+    octets::copy(&mut names[from..middle], &name);
+    octets::copy(&mut names[middle..to], &list);
+    if x.more {
+        let g = add_file(f, x);
+        return Stage {
+            course: c,
+            files: g,
+        };
+    }
+    let d = turns::end_with(c, Fault::NotRead);
+    Stage {
+        course: d,
+        files: f,
+    }
+}
+
+// Where the next file's names stand.
+fn place_of(f: Files) -> usize
+    ensures { λ r. ⌜ r < 8 ⌝ }
+{
+    if f.count < 8 {
+        return f.count;
+    }
+    7
+}
+
+// Takes the files that wait for a round, if all were opened.
+fn round_of(way: Way, p: Stage, names: &[u8], insert: &[u8], ocf: &[u8]) -> Stage
+    requires { ⌜ length (now names) ≡ 65536 ⌝ }
+{
+    let c = p.course;
+    let f = p.files;
+    let w = c.state;
+    let s = w.setting;
+    let none = no_files(s);
+    let fault = c.fault;
+    let good = streams::is_sound(fault);
+    if good {
+        let d = round_on(way, c, f, names, insert, ocf);
+        return Stage {
+            course: d,
+            files: none,
+        };
+    }
+    close_all(f);
+    Stage {
+        course: c,
+        files: none,
+    }
+}
+
+// What word i names.
+fn named_at(i: usize, numbered: usize) -> Named {
+    let mut word = io::buffer();
+    let n = os::arg(i, &mut word);
+    pack_start::name_of(&word[..n], numbered)
+}
+
+// Goes on with word i of n: where it names a lane's file, that waits.
+fn word_on(p: Stage, i: usize, n: usize, names: &mut [u8]) -> Stage
+    requires { ⌜ (i < n) × (length (now names) ≡ 65536) ⌝ }
+{
+    let c = p.course;
+    let w = c.state;
+    let s = w.setting;
+    let name = named_at(i, s.numbered);
+    match name {
+        Named::ToLane(l) => wait_for(p, l, i, n, names),
+        Named::Lengths => p,
+        Named::Insert => p,
+        Named::Ocf => p,
+        Named::Option => p,
+        Named::Other => p,
+    }
+}
+
+// The same, with a round for the file where each has one of its own.
+fn stage_on(
+    way: Way,
+    p: Stage,
+    i: usize,
+    n: usize,
+    names: &mut [u8],
+    insert: &[u8],
+    ocf: &[u8],
+) -> Stage
+    requires { ⌜ (i < n) × (length (now names) ≡ 65536) ⌝ }
+{
+    let q = word_on(p, i, n, names);
+    if way.together {
+        return q;
+    }
+    round_of(way, q, names, insert, ocf)
+}
+
+// Whether nothing went wrong so far.
+fn is_well(p: Stage) -> bool {
+    let c = p.course;
+    let fault = c.fault;
+    streams::is_sound(fault)
+}
+
+// Goes through words from word `from` of n on, as long as nothing is wrong.
+fn each_word(
+    way: Way,
+    p: Stage,
+    from: usize,
+    n: usize,
+    names: &mut [u8],
+    insert: &[u8],
+    ocf: &[u8],
+) -> Stage
+    requires { ⌜ length (now names) ≡ 65536 ⌝ }
+{
+    let mut q = p;
+    let mut i = from;
+    while i < n {
+        q = stage_on(way, q, i, n, names, insert, ocf);
+        let good = is_well(q);
+        if good {} else {
+            return q;
         }
         i += 1;
     }
-    course
+    q
+}
+
+// Goes through the files that words from word `from` of n on name: each in a round of its own, or all in one.
+fn words_on(way: Way, p: Stage, from: usize, n: usize, insert: &[u8], ocf: &[u8]) -> Course {
+    let mut names = io::large_buffer();
+    let q = each_word(way, p, from, n, &mut names, insert, ocf);
+    let r = round_of(way, q, &names, insert, ocf);
+    r.course
+}
+
+// Goes through all files, from a fresh writer on: to look for what is wrong, or to write frames.
+fn pass(way: Way, s: Setting, from: usize, n: usize, insert: &[u8], ocf: &[u8]) -> Course {
+    let fresh = writer::set_up(s);
+    let w = fresh.state;
+    let c = Course {
+        state: w,
+        frames: 0,
+        octets: 0,
+        fault: Fault::Nothing,
+    };
+    let f = no_files(s);
+    let p = Stage {
+        course: c,
+        files: f,
+    };
+    words_on(way, p, from, n, insert, ocf)
 }
 
 // ---- the insert and OCF octets
 
-// What is wrong with the arguments: nothing, or one that names the insert octets or the OCF octets again, or none of what it should.
-enum Bad {
-    Nothing,
-    InsertTwice,
-    OcfTwice,
-    NoName,
-    NoWord,
-}
-
-// What is wrong with the arguments, which of them name the insert and OCF octets, 0 for none, and whether one names a lane's file.
-struct Plan {
-    bad: Bad,
-    insert: usize,
-    ocf: usize,
-    lanes: bool,
-}
-
-// The same plan, but for what is wrong.
-fn bad_plan(p: Plan, bad: Bad) -> Plan
-    ensures { λ r. ⌜ r ≡ badPlan p bad ⌝ }
-{
-    Plan {
-        bad: bad,
-        insert: p.insert,
-        ocf: p.ocf,
-        lanes: p.lanes,
-    }
-}
-
-// The plan after an argument with this name, argument i.
-fn planned(p: Plan, i: usize, name: Named) -> Plan
-    ensures { λ r. ⌜ r ≡ planOn p i name ⌝ }
-{
-    match name {
-        Named::ToLane(_) => {
-            let bad = p.bad;
-            Plan {
-                bad: bad,
-                insert: p.insert,
-                ocf: p.ocf,
-                lanes: true,
-            }
-        }
-        Named::Insert => {
-            if p.insert != 0 {
-                return bad_plan(p, Bad::InsertTwice);
-            }
-            Plan {
-                bad: Bad::Nothing,
-                insert: i,
-                ocf: p.ocf,
-                lanes: p.lanes,
-            }
-        }
-        Named::Ocf => {
-            if p.ocf != 0 {
-                return bad_plan(p, Bad::OcfTwice);
-            }
-            Plan {
-                bad: Bad::Nothing,
-                insert: p.insert,
-                ocf: i,
-                lanes: p.lanes,
-            }
-        }
-        Named::Other => bad_plan(p, Bad::NoName),
-    }
-}
-
-// Whether nothing is wrong with the arguments.
-fn is_fine(bad: Bad) -> bool
-    ensures { λ r. ⌜ r ≡ fine bad ⌝ }
-{
-    match bad {
-        Bad::Nothing => true,
-        Bad::InsertTwice => false,
-        Bad::OcfTwice => false,
-        Bad::NoName => false,
-        Bad::NoWord => false,
-    }
-}
-
-// Says what is wrong with an argument, if anything is.
+// Says what is wrong with a word, if anything is.
 fn say_bad(word: &[u8], bad: Bad) {
     match bad {
         Bad::Nothing => {}
         Bad::InsertTwice => console::say(b"pack", word, b"insert is named twice"),
         Bad::OcfTwice => console::say(b"pack", word, b"ocf is named twice"),
+        Bad::LaneTwice => console::say(
+            b"pack",
+            word,
+            b"the lane is named twice, which --interleave forbids",
+        ),
+        Bad::NoUnits => console::say(
+            b"pack",
+            word,
+            b"expected directly after an access lane's file",
+        ),
         Bad::NoName => console::say(
             b"pack",
             word,
-            b"expected a lane of the setting, insert or ocf, then = and a file",
+            b"expected a lane of the setting, lengths, insert or ocf, then = and a file",
         ),
         Bad::NoWord => {}
     }
 }
 
-// The plan after argument i.
-fn plan_next(p: Plan, i: usize, numbered: usize) -> Plan {
+// Whether what is named is the file of an access lane.
+fn is_units(s: Setting, name: Named) -> bool {
+    match name {
+        Named::ToLane(l) => {
+            let a = lane_of(s, l);
+            let kind = a.kind;
+            is_access(kind)
+        }
+        Named::Lengths => false,
+        Named::Insert => false,
+        Named::Ocf => false,
+        Named::Option => false,
+        Named::Other => false,
+    }
+}
+
+// Whether a lane of this kind carries access units.
+fn is_access(kind: Kind) -> bool {
+    match kind {
+        Kind::Packets => false,
+        Kind::Access => true,
+    }
+}
+
+// The plan after word i.
+fn plan_next(p: Plan, i: usize, s: Setting, once: bool) -> Plan {
     let mut word = io::buffer();
     let n = os::arg(i, &mut word);
     if os::errno() != 0 {
         console::say_failed(b"pack", b"an argument");
-        return bad_plan(p, Bad::NoWord);
+        return pack_start::bad_plan(p, Bad::NoWord);
     }
-    let name = name_of(&word[..n], numbered);
-    let q = planned(p, i, name);
+    let name = pack_start::name_of(&word[..n], s.numbered);
+    let access = is_units(s, name);
+    let q = pack_start::planned(p, i, name, access, once);
     let bad = q.bad;
     say_bad(&word[..n], bad);
     q
 }
 
-// The plan of all arguments, of which there are n.
-fn plan_all(n: usize, numbered: usize) -> Plan {
-    let mut plan = Plan {
-        bad: Bad::Nothing,
-        insert: 0,
-        ocf: 0,
-        lanes: false,
-    };
-    let mut i: usize = 2;
+// The plan of all words from word `from` of n on.
+fn plan_all(from: usize, n: usize, s: Setting, once: bool) -> Plan {
+    let mut plan = pack_start::no_plan();
+    let mut i = from;
     while i < n {
-        plan = plan_next(plan, i, numbered);
+        plan = plan_next(plan, i, s, once);
         let bad = plan.bad;
-        let good = is_fine(bad);
+        let good = pack_start::is_fine(bad);
         if !good {
             break;
         }
@@ -806,103 +824,149 @@ fn load_octets(i: usize, from: usize, n: usize, area: &mut [u8]) -> bool {
 // ---- the program
 
 // Writes the frames, once all files are good. Of the insert octets the setting's are taken.
-fn pack_files(s: Setting, n: usize, insert: &[u8], ocf: &[u8]) {
-    let i = within(s.insert, insert);
-    let looked = pass(false, s, n, &insert[..i], ocf);
+fn pack_files(s: Setting, q: Asked, n: usize, insert: &[u8], ocf: &[u8]) {
+    let i = streams::within(s.insert, insert);
+    let from = after(q.setting, n);
+    let look = Way {
+        writing: false,
+        together: false,
+        live: false,
+        hundredth: 0,
+    };
+    let looked = pass(look, s, from, n, &insert[..i], ocf);
     let found = looked.fault;
-    let good = is_sound(found);
+    let good = streams::is_sound(found);
     if good {
-        let c = pass(true, s, n, &insert[..i], ocf);
+        let live = progress::is_live();
+        let way = Way {
+            writing: true,
+            together: q.interleave,
+            live: live,
+            hundredth: looked.octets / 100,
+        };
+        let c = pass(way, s, from, n, &insert[..i], ocf);
         let fault = c.fault;
-        let done = is_sound(fault);
+        let done = streams::is_sound(fault);
         if done {
             console::say_count(b"pack", b"done: ", c.frames, b" frames");
         }
     }
 }
 
-// Says how pack is called.
-fn say_usage() {
-    console::say(
-        b"pack",
-        b"usage",
-        b"pack SETTING LANE=FILE .. [insert=FILE] [ocf=FILE]",
-    );
+// The word after word i of n.
+fn after(i: usize, n: usize) -> usize {
+    if i < n {
+        return i + 1;
+    }
+    n
 }
 
-// Packs by this setting and plan, with n arguments.
-fn pack_planned(s: Setting, n: usize, p: Plan) {
+// Packs by this setting and plan, with n words.
+fn pack_planned(s: Setting, q: Asked, n: usize, p: Plan) {
     let mut insert = [0u8; 64];
     let mut ocf = [0u8; 4];
     let inserted = load_octets(p.insert, 7, s.insert, &mut insert);
     if inserted {
         let filled = load_octets(p.ocf, 4, 4, &mut ocf);
         if filled {
-            pack_files(s, n, &insert, &ocf);
+            pack_files(s, q, n, &insert, &ocf);
         }
     }
 }
 
-// Packs by this setting, with n arguments.
-fn pack_all(s: Setting, n: usize) {
-    let p = plan_all(n, s.numbered);
+// Packs by this setting, with n words.
+fn pack_all(s: Setting, q: Asked, n: usize) {
+    let from = after(q.setting, n);
+    let p = plan_all(from, n, s, q.interleave);
     let bad = p.bad;
-    let good = is_fine(bad);
+    let good = pack_start::is_fine(bad);
     if good {
         if p.lanes {
-            pack_planned(s, n, p);
+            pack_planned(s, q, n, p);
             return;
         }
         say_usage();
     }
 }
 
-// Packs by the setting in the file of this name, with n arguments.
-fn pack_by(path: &[u8], n: usize) {
+// Packs by the setting that was loaded, if it is one.
+fn with_setting(l: Loaded, q: Asked, n: usize) {
+    let j = l.judged;
+    if j.good {
+        let s = j.setting;
+        pack_all(s, q, n);
+    }
+}
+
+// Packs by the setting in standard input.
+fn pack_input(q: Asked, n: usize) {
+    let name = b"standard input";
+    let k = files::of_descriptor(0);
+    let free = allowed(name, k, false);
+    if free {
+        let mut area = [0u8; 65537];
+        let l = setting_file::load_open(b"pack", name, 0, &mut area);
+        with_setting(l, q, n);
+    }
+}
+
+// Packs by the setting in the file of this name.
+fn pack_by(path: &[u8], q: Asked, n: usize) {
     let k = files::of_name(path);
     let free = allowed(path, k, false);
     if free {
         let mut area = [0u8; 65537];
         let l = setting_file::load(b"pack", path, &mut area);
-        let j = l.judged;
-        let s = j.setting;
-        if j.good {
-            pack_all(s, n);
-        }
+        with_setting(l, q, n);
     }
 }
 
-// What the first word asks for: frames by the setting of this name, or how pack is called, or which pack it is.
-enum Ask {
-    Frames,
-    Help,
-    Version,
+// Takes the setting from the command line, and goes on.
+fn with_words(q: Asked, n: usize) {
+    let mut path = io::buffer();
+    let k = os::arg(q.setting, &mut path);
+    if os::errno() != 0 {
+        console::say_failed(b"pack", b"SETTING");
+        return;
+    }
+    let dash = words::is_dash(&path[..k]);
+    if dash {
+        pack_input(q, n);
+        return;
+    }
+    pack_by(&path[..k], q, n);
 }
 
-// Whether these octets are that word.
-fn is_word(s: &[u8], word: &[u8]) -> bool
-    ensures { λ r. ⌜ r ≡ isWord (now (word .entry)) (now (s .entry)) ⌝ }
-{
-    let front = begins(s, word);
-    if front {
-        return s.len() == word.len();
-    }
-    false
+// ---- the command line
+
+// With word i more.
+fn add_word(q: Asked, i: usize) -> Asked {
+    let mut word = io::buffer();
+    let n = os::arg(i, &mut word);
+    let w = pack_start::word_of(&word[..n]);
+    pack_start::next_word(q, i, w)
 }
 
-// What the first word asks for.
-fn ask_of(s: &[u8]) -> Ask
-    ensures { λ r. ⌜ r ≡ askOf (now (s .entry)) ⌝ }
-{
-    let help = is_word(s, b"--help");
-    if help {
-        return Ask::Help;
+// What n words ask for.
+fn read_words(n: usize) -> Asked {
+    let mut q = pack_start::no_asked();
+    let mut i: usize = 1;
+    while i < n {
+        q = add_word(q, i);
+        i += 1;
     }
-    let version = is_word(s, b"--version");
-    if version {
-        return Ask::Version;
-    }
-    Ask::Frames
+    q
+}
+
+// Says that a word is no option.
+fn say_unknown(i: usize) {
+    let mut word = io::buffer();
+    let n = os::arg(i, &mut word);
+    console::say(
+        b"pack",
+        &word[..n],
+        b"is no option; expected --interleave, --help or --version",
+    );
 }
 
 // Prints what was asked for, in the place of frames.
@@ -915,36 +979,28 @@ fn print_text(text: &[u8]) {
     console::say_failed(b"pack", b"standard output");
 }
 
-// Does what the first of n arguments asks for.
-fn answer(word: &[u8], n: usize) {
-    let a = ask_of(word);
-    match a {
-        Ask::Help => print_text(
-            b"pack SETTING LANE=FILE .. [insert=FILE] [ocf=FILE]\nWrites the frames of the files' packets and units to standard output. See docs/PROGRAMS.md.\n",
-        ),
-        Ask::Version => print_text(b"pack 0.2 (Khachmuren, CCSDS 732.1-B-3)\n"),
-        Ask::Frames => {
-            if n < 3 {
-                say_usage();
-                return;
-            }
-            pack_by(word, n);
-        }
+// Prints how the program is called.
+fn print_help() {
+    print_text(
+        b"pack [--interleave] SETTING LANE=FILE [lengths=FILE] .. [insert=FILE] [ocf=FILE]\nWrites the frames of the files' packets and units to standard output.\n  --interleave  the files take turns, a frame each\n  --help        prints this\n  --version     prints which program this is\nA SETTING of - is standard input. docs/PROGRAMS.md has the formats.\n",
+    );
+}
+
+// Does what n words ask for, or says why it cannot.
+fn begin(start: Start, q: Asked, n: usize) {
+    match start {
+        Start::Help => print_help(),
+        Start::Version => print_text(b"pack 0.2 (Khachmuren, CCSDS 732.1-B-3)\n"),
+        Start::Unknown(i) => say_unknown(i),
+        Start::Usage => say_usage(),
+        Start::Work => with_words(q, n),
     }
 }
 
 // The program.
 pub fn run() {
     let n = os::arg_count();
-    if n < 2 {
-        say_usage();
-        return;
-    }
-    let mut path = io::buffer();
-    let k = os::arg(1, &mut path);
-    if os::errno() != 0 {
-        console::say_failed(b"pack", b"an argument");
-        return;
-    }
-    answer(&path[..k], n);
+    let q = read_words(n);
+    let start = pack_start::start_of(q);
+    begin(start, q, n);
 }

@@ -1,14 +1,17 @@
--- The arguments are counted.
+-- `packing::plan_all` ends: word by word.
 use Prim.Native.Nat.{_-_}
 use borrow.Author.Needs.{needs}
 use Rattle.packing.proofs.plan_all.Statement.{statement}
 use Rattle.packing.proofs.plan_all.Tie as tie
 
 abbrev Inv-loop : tie.InvT-loop
-Inv-loop n numbered plan₀ i₀ plan i = Unit {0}
+Inv-loop from n s once plan₀ i₀ plan i = Unit {0}
 
 abbrev μ-loop : tie.MeasureT-loop
-μ-loop n numbered plan₀ i₀ plan i = n - i
+μ-loop from n s once plan₀ i₀ plan i = n - i
+
+no-plan-requires : tie.Need-no-plan-requires Inv-loop μ-loop
+no-plan-requires c κs = search needs
 
 loop-holds : tie.Need-loop-holds Inv-loop μ-loop
 loop-holds c = search needs
@@ -40,6 +43,7 @@ plan-all-spec =
     (tie.spec
     Inv-loop
     μ-loop
+    no-plan-requires
     loop-holds
     plan-next-requires
     is-fine-requires
