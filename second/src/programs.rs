@@ -29,6 +29,23 @@ fn said(error: io::Error) -> String {
 
 // unpack
 
+/// The words for each refusal number from 1 on.
+const REFUSAL_WORDS: [&str; 12] = [
+    "setting or state not valid",
+    "an area is too short",
+    "frame is not F octets",
+    "frame check differs",
+    "version is not 1100",
+    "spacecraft or source-or-destination bit differs",
+    "end-of-header flag is 1",
+    "length field is not F - 1, spare bits not 00, or control command with bypass 0",
+    "virtual channel not 63 and, with this service, not listed",
+    "count length not the channel's",
+    "OCF flag not the channel's",
+    "map in a lane of that channel, command bit 0, and rule or UPID not that lane's, \
+     or pointer neither below Z nor FFFF",
+];
+
 #[derive(Clone, Default)]
 struct LaneTotals {
     frames: u64,
@@ -57,6 +74,8 @@ struct Totals {
     dropped: u64,
     lanes: Vec<LaneTotals>,
     channels: Vec<ChannelTotals>,
+    /// By number, from 1 on.
+    refusals: [u64; REFUSAL_WORDS.len()],
 }
 
 impl Totals {
@@ -66,7 +85,10 @@ impl Totals {
             Class::Read => self.read += 1,
             Class::Counted => self.counted += 1,
             Class::Idle => self.idle_frames += 1,
-            Class::Refused(_) => self.refused += 1,
+            Class::Refused(number) => {
+                self.refused += 1;
+                self.refusals[usize::from(number) - 1] += 1;
+            }
         }
         self.units += answer.units;
         self.octets += answer.octets;
@@ -94,6 +116,11 @@ impl Totals {
                 "channel {} service {} frames {} missing {}",
                 channel.virtual_channel, channel.service, totals.frames, totals.missing
             )?;
+        }
+        for (before, (frames, words)) in self.refusals.iter().zip(REFUSAL_WORDS).enumerate() {
+            if *frames != 0 {
+                writeln!(out, "refused {} frames {frames}: {words}", before + 1)?;
+            }
         }
         writeln!(
             out,
@@ -138,9 +165,48 @@ fn create(path: String) -> Result<BufWriter<File>, String> {
     File::create(&path).map(BufWriter::new).map_err(|error| format!("{path}: {error}"))
 }
 
+/// The table of units that `--units` asks for.
+struct UnitTable {
+    file: BufWriter<File>,
+    /// How many octets each lane's file has.
+    written: Vec<u64>,
+}
+
+impl UnitTable {
+    fn new(path: String, lanes: usize) -> Result<UnitTable, String> {
+        let mut file = create(path)?;
+        writeln!(file, "lane,offset,length,frame,count,apid,sequence").map_err(said)?;
+        Ok(UnitTable { file, written: vec![0; lanes] })
+    }
+
+    /// The units of frame `number`, which lane `lane` of this kind read.
+    fn add(&mut self, number: u64, lane: usize, kind: Kind, records: &[u8], units: &[u8]) -> io::Result<()> {
+        let field = |octets: &[u8]| octets.iter().fold(0u64, |value, octet| value * 256 + u64::from(*octet));
+        let mut rest = units;
+        for record in records.chunks(RECORD) {
+            let (unit, later) = rest.split_at(field(&record[8..12]) as usize);
+            rest = later;
+            let length = unit.len() as u64;
+            write!(self.file, "{lane},{},{length},{number},{}", self.written[lane], field(&record[12..16]))?;
+            match kind {
+                Kind::Packet => writeln!(self.file, ",{},{}", field(&unit[..2]) % 2048, field(&unit[2..4]) % 16384)?,
+                Kind::Access => writeln!(self.file, ",,")?,
+            }
+            self.written[lane] += length;
+        }
+        Ok(())
+    }
+}
+
 pub fn unpack(arguments: &[String]) -> Result<(), String> {
-    let [setting_path, recording_path, prefix] = arguments else {
-        return Err("usage: unpack SETTING RECORDING PREFIX".to_string());
+    let (options, names): (Vec<&String>, Vec<&String>) = arguments.iter().partition(|word| word.starts_with("--"));
+    if let Some(word) = options.iter().find(|word| !["--totals", "--units"].contains(&word.as_str())) {
+        return Err(format!("{word}: is no option"));
+    }
+    let asked = |word: &str| options.iter().any(|option| *option == word);
+    let (lines, table) = (!asked("--totals"), asked("--units"));
+    let [setting_path, recording_path, prefix] = names[..] else {
+        return Err("usage: unpack [--totals] [--units] SETTING RECORDING PREFIX".to_string());
     };
     let setting = load_setting(setting_path)?;
     let file = File::open(recording_path).map_err(|error| format!("{recording_path}: {error}"))?;
@@ -150,6 +216,10 @@ pub fn unpack(arguments: &[String]) -> Result<(), String> {
         lane_files.push(create(format!("{prefix}.lane{lane}"))?);
     }
     let mut records_file = create(format!("{prefix}.records"))?;
+    let mut unit_table = match table {
+        true => Some(UnitTable::new(format!("{prefix}.units.csv"), setting.lanes.len())?),
+        false => None,
+    };
     let mut out = BufWriter::new(io::stdout().lock());
 
     let mut reader = Reader::fresh(&setting).map_err(|_| "the setting is not valid")?;
@@ -159,14 +229,23 @@ pub fn unpack(arguments: &[String]) -> Result<(), String> {
         channels: vec![ChannelTotals::default(); setting.channels.len()],
         ..Totals::default()
     };
-    writeln!(out, "frame answer lane units octets missing idle fill dropped").map_err(said)?;
+    if lines {
+        writeln!(out, "frame answer lane units octets missing idle fill dropped").map_err(said)?;
+    }
     while let Some(frame) = next_frame(&mut recording, setting.frame_length as usize).map_err(said)? {
         let mut areas = Areas { held: &mut held, units: &mut units, records: &mut records };
         let answer = reader.read(&frame, &mut areas);
-        print_answer(totals.frames, &answer, &mut out).map_err(said)?;
+        if lines {
+            print_answer(totals.frames, &answer, &mut out).map_err(said)?;
+        }
         if let Some(lane) = answer.lane {
-            lane_files[lane].write_all(&units[..answer.octets as usize]).map_err(said)?;
-            records_file.write_all(&records[..answer.units as usize * RECORD]).map_err(said)?;
+            let units = &units[..answer.octets as usize];
+            let records = &records[..answer.units as usize * RECORD];
+            lane_files[lane].write_all(units).map_err(said)?;
+            records_file.write_all(records).map_err(said)?;
+            if let Some(table) = &mut unit_table {
+                table.add(totals.frames, lane, setting.lanes[lane].kind, records, units).map_err(said)?;
+            }
         }
         totals.add(&answer);
     }
@@ -175,6 +254,9 @@ pub fn unpack(arguments: &[String]) -> Result<(), String> {
         file.flush().map_err(said)?;
     }
     records_file.flush().map_err(said)?;
+    if let Some(table) = &mut unit_table {
+        table.file.flush().map_err(said)?;
+    }
     out.flush().map_err(said)
 }
 

@@ -31,34 +31,37 @@ unfoldable pub wordOf : List ℕ → Word
 wordOf w =
     cond (isOption w)
     (cond (sameWord w (text "--totals")) word.Totals
+    (cond (sameWord w (text "--units")) word.Units
     (cond (sameWord w (text "--help")) word.Help
-    (cond (sameWord w (text "--version")) word.Version word.Unknown)))
+    (cond (sameWord w (text "--version")) word.Version word.Unknown))))
     word.Name
 
 unfoldable pub noAsked : Asked
-noAsked = record { names = 0; setting = 0; recording = 0; prefix = 0; unknown = 0; totals = false; help = false; version = false }
+noAsked = record { names = 0; setting = 0; recording = 0; prefix = 0; unknown = 0; totals = false; units = false; help = false; version = false }
 
 -- The first three names are setting, recording and prefix; a fourth is one too many.
 unfoldable pub named : Asked → ℕ → Asked
 named a i =
     cond (a .names =? 0)
-    (record { names = 1; setting = i; recording = a .recording; prefix = a .prefix; unknown = a .unknown; totals = a .totals; help = a .help; version = a .version })
+    (record { names = 1; setting = i; recording = a .recording; prefix = a .prefix; unknown = a .unknown; totals = a .totals; units = a .units; help = a .help; version = a .version })
     (cond (a .names =? 1)
-    (record { names = 2; setting = a .setting; recording = i; prefix = a .prefix; unknown = a .unknown; totals = a .totals; help = a .help; version = a .version })
+    (record { names = 2; setting = a .setting; recording = i; prefix = a .prefix; unknown = a .unknown; totals = a .totals; units = a .units; help = a .help; version = a .version })
     (cond (a .names =? 2)
-    (record { names = 3; setting = a .setting; recording = a .recording; prefix = i; unknown = a .unknown; totals = a .totals; help = a .help; version = a .version })
-    (record { names = 4; setting = a .setting; recording = a .recording; prefix = a .prefix; unknown = a .unknown; totals = a .totals; help = a .help; version = a .version })))
+    (record { names = 3; setting = a .setting; recording = a .recording; prefix = i; unknown = a .unknown; totals = a .totals; units = a .units; help = a .help; version = a .version })
+    (record { names = 4; setting = a .setting; recording = a .recording; prefix = a .prefix; unknown = a .unknown; totals = a .totals; units = a .units; help = a .help; version = a .version })))
 
 -- With one word more.
 unfoldable pub askedNext : Asked → ℕ → Word → Asked
 askedNext a i word.Totals =
-    record { names = a .names; setting = a .setting; recording = a .recording; prefix = a .prefix; unknown = a .unknown; totals = true; help = a .help; version = a .version }
+    record { names = a .names; setting = a .setting; recording = a .recording; prefix = a .prefix; unknown = a .unknown; totals = true; units = a .units; help = a .help; version = a .version }
+askedNext a i word.Units =
+    record { names = a .names; setting = a .setting; recording = a .recording; prefix = a .prefix; unknown = a .unknown; totals = a .totals; units = true; help = a .help; version = a .version }
 askedNext a i word.Help =
-    record { names = a .names; setting = a .setting; recording = a .recording; prefix = a .prefix; unknown = a .unknown; totals = a .totals; help = true; version = a .version }
+    record { names = a .names; setting = a .setting; recording = a .recording; prefix = a .prefix; unknown = a .unknown; totals = a .totals; units = a .units; help = true; version = a .version }
 askedNext a i word.Version =
-    record { names = a .names; setting = a .setting; recording = a .recording; prefix = a .prefix; unknown = a .unknown; totals = a .totals; help = a .help; version = true }
+    record { names = a .names; setting = a .setting; recording = a .recording; prefix = a .prefix; unknown = a .unknown; totals = a .totals; units = a .units; help = a .help; version = true }
 askedNext a i word.Unknown =
-    record { names = a .names; setting = a .setting; recording = a .recording; prefix = a .prefix; unknown = cond (a .unknown =? 0) i (a .unknown); totals = a .totals; help = a .help; version = a .version }
+    record { names = a .names; setting = a .setting; recording = a .recording; prefix = a .prefix; unknown = cond (a .unknown =? 0) i (a .unknown); totals = a .totals; units = a .units; help = a .help; version = a .version }
 askedNext a i word.Name = named a i
 
 -- Help, version, an option that there is not, and three names: the first that applies.

@@ -86,6 +86,7 @@ pub fn little_of(read: u64, refused: u64) -> Little
 // What a word of the command line is: one of the options, an option that there is not, or a name.
 pub enum Word {
     Totals,
+    Units,
     Help,
     Version,
     Unknown,
@@ -101,6 +102,7 @@ pub struct Asked {
     pub prefix: usize,
     pub unknown: usize,
     pub totals: bool,
+    pub units: bool,
     pub help: bool,
     pub version: bool,
 }
@@ -163,6 +165,10 @@ pub fn word_of(word: &[u8]) -> Word
     if totals {
         return Word::Totals;
     }
+    let units = same_word(word, b"--units");
+    if units {
+        return Word::Units;
+    }
     let help = same_word(word, b"--help");
     if help {
         return Word::Help;
@@ -185,6 +191,7 @@ pub fn no_asked() -> Asked
         prefix: 0,
         unknown: 0,
         totals: false,
+        units: false,
         help: false,
         version: false,
     }
@@ -222,6 +229,10 @@ pub fn next_word(a: Asked, i: usize, w: Word) -> Asked
     match w {
         Word::Totals => {
             b.totals = true;
+            b
+        }
+        Word::Units => {
+            b.units = true;
             b
         }
         Word::Help => {

@@ -91,9 +91,9 @@ laneLines ts n = firsts (λ (i : ℕ). laneLine i (getD ts i noLaneTally)) n
 unfoldable pub channelLines : Setting → List ChannelTally → List ℕ
 channelLines s ts = firsts (λ (i : ℕ). channelLine ((channel s i) .vc) ((channel s i) .service) (getD ts i noChannelTally)) (s .listed)
 
+unfoldable pub placesText : Reader → Tally → List ℕ
+placesText r t = laneLines (t .lanes) (r .setting .numbered) ++ channelLines (r .setting) (t .channels)
+
 -- "... and one line for all; `held` is the octets that lanes still hold at the end."
-unfoldable pub totalsText : Reader → Tally → List ℕ
-totalsText r t =
-    laneLines (t .lanes) (r .setting .numbered)
-    ++ channelLines (r .setting) (t .channels)
-    ++ totalLine t (heldIn (r .slots) (r .setting .numbered))
+unfoldable pub lastLine : Reader → Tally → List ℕ
+lastLine r t = totalLine t (heldIn (r .slots) (r .setting .numbered))

@@ -7,7 +7,7 @@ ghost use Rattle.rules.specs.Settings.{noSlot, lane};
 ghost use Rattle.rules.specs.Frames.{vc};
 ghost use Rattle.rules.specs.Listing.{decimal};
 ghost use Rattle.unpack_text.specs.Totals.{add, classed, summed, laneAfter, channelAfter, inLane, inChannel, lanesAfter, channelsAfter, tallied, noTally, heldIn};
-ghost use Rattle.unpack_text.specs.Lines.{Wrote, third, givenText, restText, frameLine, laneLine, channelLine, classesText, sumsText, totalLine, title, laneLines, channelLines, totalsText};
+ghost use Rattle.unpack_text.specs.Lines.{Wrote, third, givenText, restText, frameLine, laneLine, channelLine, classesText, sumsText, totalLine, title, laneLines, channelLines, placesText, lastLine};
 use rules::Answer;
 use rules::Class;
 use rules::Reader;
@@ -57,7 +57,7 @@ pub struct Tally {
 // ---- totals
 
 // The sum, and the largest number where that does not hold it.
-fn add(a: u64, b: u64) -> u64
+pub fn add(a: u64, b: u64) -> u64
     ensures { λ r. ⌜ r ≡ add a b ⌝ }
 {
     if 18446744073709551615 - a < b {
@@ -440,17 +440,25 @@ fn put_channels(area: &mut [u8], from: usize, s: Setting, ts: [ChannelTally; 8])
     at
 }
 
-// Puts all totals of a recording, after which a reader has this state.
-pub fn put_totals(area: &mut [u8], from: usize, r: Reader, t: Tally) -> usize
-    requires { ⌜ (r .setting .listed ≤ 8) × (r .setting .numbered ≤ 8) × (from + 2098 ≤ length (now area)) ⌝ }
-    ensures { λ e. ⌜ Wrote 2098 (totalsText r t) (now (area .entry)) from (now (area .exit)) e ⌝ }
+// Puts the lines of the lanes' and the channels' totals of a recording, after which a reader has this state.
+pub fn put_places(area: &mut [u8], from: usize, r: Reader, t: Tally) -> usize
+    requires { ⌜ (r .setting .listed ≤ 8) × (r .setting .numbered ≤ 8) × (from + 1792 ≤ length (now area)) ⌝ }
+    ensures { λ e. ⌜ Wrote 1792 (placesText r t) (now (area .entry)) from (now (area .exit)) e ⌝ }
 {
     let s = r.setting;
     let ls = t.lanes;
     let cs = t.channels;
+    let at = put_lanes(area, from, s.numbered, ls);
+    put_channels(area, at, s, cs)
+}
+
+// Puts the line of all frames of a recording, after which a reader has this state.
+pub fn put_last(area: &mut [u8], from: usize, r: Reader, t: Tally) -> usize
+    requires { ⌜ from + 306 ≤ length (now area) ⌝ }
+    ensures { λ e. ⌜ Wrote 306 (lastLine r t) (now (area .entry)) from (now (area .exit)) e ⌝ }
+{
+    let s = r.setting;
     let slots = r.slots;
     let held = held_in(slots, s.numbered);
-    let at = put_lanes(area, from, s.numbered, ls);
-    let at = put_channels(area, at, s, cs);
-    put_total(area, at, t, held)
+    put_total(area, from, t, held)
 }

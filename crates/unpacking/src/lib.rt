@@ -1,464 +1,27 @@
-// The program unpack: a setting, a recording and a prefix from the command line; the recording's frames through one reader;
-// units by lane, records, a line a frame and totals. Crate `outputs` makes, names and removes its files.
-//
-// What the system reads and answers stands in the contracts as what came (`Came`) and how the writes went (`Went`); all else is determined by
-// it. Proved: the frame of a turn is the octets that came, and state, areas and totals after it are those to which the rules' `read` comes
-// (`turn_frame`); so they are over all frames (`take_all`). What is handed to the system is asked for where it is handed over: a
-// frame's line, of the rules' verdict and answer, as many unit and record octets as it gave (`put_out`), the title, and the text of all
-// totals (`hand_totals`). Shown by runs: what no contract can follow into the system.
+// The program unpack: a setting, a recording and a prefix from the command line; the recording's frames (crate `unpack_frames`) into outputs, which
+// crate `outputs` makes, names and removes; and what it says of a recording of which little was read. Shown by runs: what no contract can follow into
+// the system.
 ghost use mathlib.Core.Path.{_≡_};
 ghost use mathlib.Core.Bool.{true};
-ghost use Prim.Native.Nat.{_+_, _%_, _≤_};
+ghost use Prim.Native.Nat.{_+_, _≤_};
 ghost use lib.ListN.{length};
-ghost use Rattle.rules.specs.Tests.{_=?_};
 ghost use Rattle.rules.specs.Settings.{settingOk, readerOk};
-ghost use Rattle.unpack_text.specs.Lines.{title, totalsText};
+ghost use Rattle.refusals.specs.Words.{commonText, firstText};
 ghost use Rattle.setting_file.specs.Files.{judged};
-ghost use Rattle.unpacking.specs.Stages.{Took, AreasFit, Handed, Handled, Turned, Finished, firstTurn, endingOf, haltedTurn, outputOf, wellGone, goesOn};
 use files::Known;
 use outputs::Plan;
-use rules::Answer;
+use refusals::First;
+use refusals::Refusals;
+use refusals::Totals;
 use rules::Reader;
 use rules::Setting;
-use rules::Verdict;
 use setting_file::Loaded;
+use unpack_frames::Sinks;
+use unpack_frames::Went;
 use unpack_start::Asked;
 use unpack_start::Little;
 use unpack_start::Prefix;
 use unpack_start::Start;
-use unpack_text::Tally;
-
-// What came of a frame: how many octets, and whether the system failed.
-struct Came {
-    octets: usize,
-    failed: bool,
-}
-
-// How a turn went with the system: well, or what failed: reading the recording, printing, or writing an output.
-enum Went {
-    Well,
-    NotRead,
-    NotPrinted,
-    NotWritten(usize),
-}
-
-// Where a run's octets go, and what it says on the way: the descriptors of its outputs, how many frames are a hundredth of the recording (0 where
-// that is not known), whether standard error is a terminal, and whether no line a frame is printed.
-struct Sinks {
-    fds: [i32; 10],
-    hundredth: u64,
-    live: bool,
-    quiet: bool,
-}
-
-// A frame taken: state and totals after it, whose it is, its answer, and where its line ends.
-struct Step {
-    state: Reader,
-    totals: Tally,
-    verdict: Verdict,
-    answer: Answer,
-    end: usize,
-}
-
-// A turn: state and totals after it, how many frames there were, what came, how it went, and whether there may be more.
-struct Turn {
-    state: Reader,
-    totals: Tally,
-    count: u64,
-    came: Came,
-    went: Went,
-    more: bool,
-}
-
-// ---- reading
-
-// Reads a frame of `size` octets, fewer where the recording ends.
-fn read_frame(fd: i32, frame: &mut [u8], size: usize) -> Came
-    requires { ⌜ size ≤ length (now frame) ⌝ }
-    ensures { λ r. ⌜ r .octets ≤ size ⌝ }
-{
-    let mut done: usize = 0;
-    while done < size {
-        let got = libc::read(fd, &mut frame[done..size]);
-        if got < 0 {
-            return Came {
-                octets: done,
-                failed: true,
-            };
-        }
-        let n = io::count(got, &frame[done..size]);
-        if n == 0 {
-            break;
-        }
-        done += n;
-    }
-    Came {
-        octets: done,
-        failed: false,
-    }
-}
-
-// Reads frame k, takes it into the totals, and puts its line into `area`.
-fn take_frame(
-    k: u64,
-    r: Reader,
-    t: Tally,
-    frame: &[u8],
-    held: &mut [u8],
-    units: &mut [u8],
-    records: &mut [u8],
-    area: &mut [u8],
-) -> Step
-    requires { ⌜ (readerOk r ≡ true) × (176 ≤ length (now area)) ⌝ }
-    ensures { λ p. ⌜ Took k (record { reader = r; held = now (held .entry); units = now (units .entry); records = now (records .entry); totals = t }) (now (frame .entry)) (now (area .entry)) (record { reader = p .state; held = now (held .exit); units = now (units .exit); records = now (records .exit); totals = p .totals }) (now (area .exit)) (p .verdict) (p .answer) (p .end) ⌝ }
-{
-    let w = reader::read_whose(r, frame, held, units, records);
-    let g = w.taken;
-    let v = w.verdict;
-    let a = g.answer;
-    let after = g.state;
-    let s = r.setting;
-    let totals = unpack_text::count_frame(s, t, v, a);
-    let end = unpack_text::put_line(area, 0, k, v, a);
-    Step {
-        state: after,
-        totals: totals,
-        verdict: v,
-        answer: a,
-        end: end,
-    }
-}
-
-// ---- writing
-
-// Writes octets to an output.
-fn write_to(fds: [i32; 10], i: usize, octets: &[u8]) -> bool {
-    if 9 < i {
-        return false;
-    }
-    let fd = fds[i];
-    io::write_all(fd, octets)
-}
-
-// Writes text to standard output, and says so where that fails.
-fn print(octets: &[u8]) -> bool {
-    let good = io::write_all(1, octets);
-    if good {
-        return true;
-    }
-    console::say_failed(b"unpack", b"standard output");
-    false
-}
-
-// The output that a frame's units go to: its lane's, or none.
-fn output_of(v: Verdict) -> usize
-    ensures { λ r. ⌜ r ≡ outputOf v ⌝ }
-{
-    match v {
-        Verdict::Refused(_) => 10,
-        Verdict::Idle => 10,
-        Verdict::Counted(_) => 10,
-        Verdict::Read(l) => l,
-    }
-}
-
-// Writes units to output i and records to theirs, if there are any.
-fn put_units(fds: [i32; 10], i: usize, units: &[u8], records: &[u8]) -> Went {
-    if units.len() == 0 {
-        return Went::Well;
-    }
-    let given = write_to(fds, i, units);
-    if !given {
-        return Went::NotWritten(i);
-    }
-    let told = write_to(fds, 9, records);
-    if !told {
-        return Went::NotWritten(9);
-    }
-    Went::Well
-}
-
-// Prints a frame's line, where lines are printed.
-fn print_line(quiet: bool, line: &[u8]) -> bool {
-    if quiet {
-        return true;
-    }
-    io::write_all(1, line)
-}
-
-// Prints the line of frame k, and writes the units and the records that it gave.
-fn put_out(
-    k: u64,
-    v: Verdict,
-    a: Answer,
-    o: Sinks,
-    line: &[u8],
-    units: &[u8],
-    records: &[u8],
-) -> Went
-    requires { ⌜ Handed k v a (now line) (now units) (now records) ⌝ }
-{
-    let printed = print_line(o.quiet, line);
-    if !printed {
-        return Went::NotPrinted;
-    }
-    let i = output_of(v);
-    let fds = o.fds;
-    put_units(fds, i, units, records)
-}
-
-// Whether all went well.
-fn well(went: Went) -> bool
-    ensures { λ r. ⌜ r ≡ wellGone went ⌝ }
-{
-    match went {
-        Went::Well => true,
-        Went::NotRead => false,
-        Went::NotPrinted => false,
-        Went::NotWritten(_) => false,
-    }
-}
-
-// Whether there may be more after a frame that is whole or not.
-fn goes_on(whole: bool, went: Went) -> bool
-    ensures { λ r. ⌜ r ≡ goesOn whole went ⌝ }
-{
-    if whole {
-        return well(went);
-    }
-    false
-}
-
-// Whether the program says how far it is: every 65,536 frames.
-fn due(count: u64) -> bool
-    ensures { λ r. ⌜ r ≡ (count % 65536) =? 0 ⌝ }
-{
-    count % 65536 == 0
-}
-
-// Ends what is said on the way: a line, or on a terminal the place where the next stands over it.
-fn end_far(live: bool) {
-    if live {
-        io::write_all(2, b" %\r");
-        return;
-    }
-    io::write_all(2, b" %\n");
-}
-
-// Says how far the program is.
-fn say_far(o: Sinks, count: u64) {
-    let h = o.hundredth;
-    if h == 0 {
-        console::say_count(b"unpack", b"", count, b" frames");
-        return;
-    }
-    let p = unpack_start::percent(h, count);
-    io::write_all(2, b"unpack: ");
-    io::print_decimal(2, count);
-    io::write_all(2, b" frames, ");
-    io::print_decimal(2, p);
-    end_far(o.live);
-}
-
-// The same, where it is due and all went well.
-fn say_progress(went: Went, count: u64, o: Sinks) {
-    let good = well(went);
-    if good {
-        let now = due(count);
-        if now {
-            say_far(o, count);
-        }
-    }
-}
-
-// ---- frame by frame
-
-// Takes the frame that came, prints its line, and writes what it gave.
-fn handle(
-    u: Turn,
-    came: Came,
-    sinks: Sinks,
-    frame: &[u8],
-    held: &mut [u8],
-    units: &mut [u8],
-    records: &mut [u8],
-) -> Turn
-    requires { ⌜ (readerOk (u .state) ≡ true) × AreasFit (u .count) (now units) (now records) ⌝ }
-    ensures { λ v. ⌜ Handled u came (record { reader = u .state; held = now (held .entry); units = now (units .entry); records = now (records .entry); totals = u .totals }) (now (frame .entry)) v (record { reader = v .state; held = now (held .exit); units = now (units .exit); records = now (records .exit); totals = v .totals }) ⌝ }
-{
-    let r = u.state;
-    let t = u.totals;
-    let s = r.setting;
-    let k = u.count;
-    let mut area = [0u8; 176];
-    let p = take_frame(k, r, t, frame, held, units, records, &mut area);
-    let v = p.verdict;
-    let a = p.answer;
-    let end = p.end;
-    let o = a.octets;
-    let c = rules::RECORD_SIZE * a.units;
-    let went = put_out(k, v, a, sinks, &area[..end], &units[..o], &records[..c]);
-    say_progress(went, k + 1, sinks);
-    let more = goes_on(came.octets == s.length, went);
-    let after = p.state;
-    let totals = p.totals;
-    Turn {
-        state: after,
-        totals: totals,
-        count: k + 1,
-        came: came,
-        went: went,
-        more: more,
-    }
-}
-
-// How reading went.
-fn ending(failed: bool) -> Went
-    ensures { λ r. ⌜ r ≡ endingOf failed ⌝ }
-{
-    if failed {
-        return Went::NotRead;
-    }
-    Went::Well
-}
-
-// No frame came.
-fn halted(u: Turn, came: Came) -> Turn
-    ensures { λ v. ⌜ v ≡ haltedTurn u came ⌝ }
-{
-    let state = u.state;
-    let totals = u.totals;
-    let went = ending(came.failed);
-    Turn {
-        state: state,
-        totals: totals,
-        count: u.count,
-        came: came,
-        went: went,
-        more: false,
-    }
-}
-
-// Takes what came into the front of the frame area, if that is a frame.
-fn take_came(
-    u: Turn,
-    came: Came,
-    o: Sinks,
-    frame: &[u8],
-    held: &mut [u8],
-    units: &mut [u8],
-    records: &mut [u8],
-) -> Turn
-    requires { ⌜ (readerOk (u .state) ≡ true) × AreasFit (u .count) (now units) (now records) × (came .octets ≤ length (now frame)) ⌝ }
-    ensures { λ v. ⌜ Turned u came (record { reader = u .state; held = now (held .entry); units = now (units .entry); records = now (records .entry); totals = u .totals }) (now (frame .entry)) v (record { reader = v .state; held = now (held .exit); units = now (units .exit); records = now (records .exit); totals = v .totals }) ⌝ }
-{
-    if came.failed {
-        return halted(u, came);
-    }
-    let m = came.octets;
-    if m == 0 {
-        return halted(u, came);
-    }
-    handle(u, came, o, &frame[..m], held, units, records)
-}
-
-// Reads, takes, prints and writes the next frame, if there is one.
-fn turn_frame(
-    u: Turn,
-    fd: i32,
-    o: Sinks,
-    frame: &mut [u8],
-    held: &mut [u8],
-    units: &mut [u8],
-    records: &mut [u8],
-) -> Turn
-    requires { ⌜ (readerOk (u .state) ≡ true) × AreasFit (u .count) (now units) (now records) × (4096 ≤ length (now frame)) ⌝ }
-    ensures { λ v. ⌜ Turned u (v .came) (record { reader = u .state; held = now (held .entry); units = now (units .entry); records = now (records .entry); totals = u .totals }) (now (frame .exit)) v (record { reader = v .state; held = now (held .exit); units = now (units .exit); records = now (records .exit); totals = v .totals }) ⌝ }
-{
-    let r = u.state;
-    let s = r.setting;
-    let came = read_frame(fd, frame, s.length);
-    take_came(u, came, o, frame, held, units, records)
-}
-
-// Before the first frame.
-fn first_turn(s: Setting) -> Turn
-    ensures { λ u. ⌜ u ≡ firstTurn s ⌝ }
-{
-    let l = reader::set_up(s);
-    let state = l.state;
-    let totals = unpack_text::no_tally();
-    Turn {
-        state: state,
-        totals: totals,
-        count: 0,
-        came: Came {
-            octets: 0,
-            failed: false,
-        },
-        went: Went::Well,
-        more: true,
-    }
-}
-
-// Takes the recording's frames to its end, or to the first failure. A proved loop has to end: this one counts its frames, to a number that
-// no run reaches.
-fn take_all(s: Setting, fd: i32, o: Sinks) -> Turn
-    requires { ⌜ settingOk s ≡ true ⌝ }
-    ensures { λ u. ⌜ Finished s (u .count) (u .state) (u .totals) ⌝ }
-{
-    let mut held = [0u8; rules::HELD_SIZE];
-    let mut units = [0u8; rules::UNITS_SIZE];
-    let mut records = [0u8; rules::RECORDS_SIZE];
-    let mut frame = [0u8; 4096];
-    let mut u = first_turn(s);
-    let mut k: u64 = 0;
-    while k < 18446744073709551615 {
-        u = turn_frame(u, fd, o, &mut frame, &mut held, &mut units, &mut records);
-        k = u.count;
-        if u.more {} else {
-            break;
-        }
-    }
-    u
-}
-
-// ---- title and totals
-
-// Prints the title.
-fn hand_title(text: &[u8]) -> bool
-    requires { ⌜ now text ≡ title ⌝ }
-{
-    print(text)
-}
-
-// Prints the totals of a recording, after which the reader has this state.
-fn hand_totals(r: Reader, t: Tally, text: &[u8]) -> bool
-    requires { ⌜ now text ≡ totalsText r t ⌝ }
-{
-    print(text)
-}
-
-// Puts the title, and prints it, where lines are printed.
-fn print_title(quiet: bool) -> bool {
-    if quiet {
-        return true;
-    }
-    let mut area = [0u8; 57];
-    let end = unpack_text::put_title(&mut area, 0);
-    hand_title(&area[..end])
-}
-
-// Puts all totals, and prints them.
-fn print_totals(r: Reader, t: Tally) -> bool
-    requires { ⌜ readerOk r ≡ true ⌝ }
-{
-    let mut area = [0u8; 2098];
-    let end = unpack_text::put_totals(&mut area, 0, r, t);
-    hand_totals(r, t, &area[..end])
-}
-
-// ---- the program
 
 // What a run has: the plan of its outputs, where its octets go, and its inputs as the system knows them.
 struct Job {
@@ -468,12 +31,10 @@ struct Job {
     recording: Known,
 }
 
-// Whether all went well to the end, and how many frames there were, were read and were refused.
+// Whether all went well to the end, and how many frames there were.
 struct Outcome {
-    whole: bool,
     count: u64,
-    read: u64,
-    refused: u64,
+    whole: bool,
 }
 
 // Once all outputs are written: they are put on the device, what has their names is looked at once more, and they get them.
@@ -507,19 +68,122 @@ fn say_went(went: Went, recording: &[u8], p: Plan, name: &mut [u8], n: usize)
     }
 }
 
+// ---- when little was read
+
+// Says which refusal is the commonest.
+fn hand_common(recording: &[u8], r: Refusals, text: &[u8])
+    requires { ⌜ now text ≡ commonText (r .counts) ⌝ }
+{
+    console::say(b"unpack", recording, text);
+}
+
+// Says what the first refused frame says of itself.
+fn hand_first(recording: &[u8], p: First, own: u16, text: &[u8])
+    requires { ⌜ now text ≡ firstText p own ⌝ }
+{
+    console::say(b"unpack", recording, text);
+}
+
+// Puts which refusal is the commonest, and says it.
+fn say_common(recording: &[u8], r: Refusals) {
+    let counts = r.counts;
+    let mut area = [0u8; 197];
+    let end = refusals::put_common(&mut area, 0, counts);
+    hand_common(recording, r, &area[..end]);
+}
+
+// Puts what the first refused frame says of itself, and says it.
+fn say_first(recording: &[u8], p: First, own: u16) {
+    let mut area = [0u8; 182];
+    let end = refusals::put_first(&mut area, 0, p, own);
+    hand_first(recording, p, own, &area[..end]);
+}
+
+// Says that frames begin with sync markers, where the first refused one does.
+fn say_marker(recording: &[u8], p: First) {
+    let front = p.front;
+    let marked = refusals::is_marked(front);
+    if marked {
+        console::say(
+            b"unpack",
+            recording,
+            b"that frame begins with 1A CF FC 1D, a sync marker; markers are to be taken out first",
+        );
+    }
+}
+
+// Says what to look at, where frames were refused.
+fn say_refused(recording: &[u8], r: Refusals, own: u16) {
+    let p = r.first;
+    if p.there {
+        say_common(recording, r);
+        say_first(recording, p, own);
+        say_marker(recording, p);
+    }
+}
+
+// Says that little was read, where it is so; whether it is.
+fn say_few(few: Little, recording: &[u8]) -> bool {
+    match few {
+        Little::Enough => false,
+        Little::Nothing => {
+            console::say(
+                b"unpack",
+                recording,
+                b"no frame was read; see whether this is its setting",
+            );
+            true
+        }
+        Little::Fewer => {
+            console::say(
+                b"unpack",
+                recording,
+                b"more frames were refused than read; see whether this is its setting",
+            );
+            true
+        }
+    }
+}
+
+// Says that little was read, and what to look at, where it is so.
+fn say_little(recording: &[u8], t: Totals, own: u16) {
+    let x = t.tally;
+    let k = x.classes;
+    let few = unpack_start::little_of(k.read, k.refused);
+    let little = say_few(few, recording);
+    if little {
+        let r = t.refusals;
+        say_refused(recording, r, own);
+    }
+}
+
+// ---- the program
+
 // Once every frame is taken: prints the totals, and settles the outputs.
-fn finish(r: Reader, t: Tally, job: Job, name: &mut [u8], n: usize) -> bool
+fn finish(r: Reader, t: Totals, job: Job, name: &mut [u8], n: usize) -> bool
     requires { ⌜ (readerOk r ≡ true) × (n + 51 ≤ length (now name)) ⌝ }
 {
-    let printed = print_totals(r, t);
+    let printed = unpack_frames::print_totals(r, t);
     if printed {
         return settle(job, name, n);
     }
     false
 }
 
-// Takes all frames, and finishes where all went well.
-fn take_and_finish(
+// The same, and says that little was read, where it is so.
+fn conclude(r: Reader, t: Totals, recording: &[u8], job: Job, name: &mut [u8], n: usize) -> bool
+    requires { ⌜ (readerOk r ≡ true) × (n + 51 ≤ length (now name)) ⌝ }
+{
+    let s = r.setting;
+    let whole = finish(r, t, job, name, n);
+    if whole {
+        say_little(recording, t, s.craft);
+    }
+    whole
+}
+
+// Takes all frames, and concludes where all went well.
+fn take_and_conclude(
     s: Setting,
     fd: i32,
     recording: &[u8],
@@ -530,62 +194,60 @@ fn take_and_finish(
     requires { ⌜ (settingOk s ≡ true) × (n + 51 ≤ length (now name)) ⌝ }
 {
     let o = job.sinks;
-    let u = take_all(s, fd, o);
+    let u = unpack_frames::take_all(s, fd, o);
     let went = u.went;
-    let good = well(went);
+    let good = unpack_frames::well(went);
     if good {
         let r = u.state;
         let t = u.totals;
-        let k = t.classes;
-        let whole = finish(r, t, job, name, n);
+        let whole = conclude(r, t, recording, job, name, n);
         return Outcome {
-            whole: whole,
             count: u.count,
-            read: k.read,
-            refused: k.refused,
+            whole: whole,
         };
     }
     let p = job.plan;
     say_went(went, recording, p, name, n);
     Outcome {
-        whole: false,
         count: u.count,
-        read: 0,
-        refused: 0,
+        whole: false,
     }
+}
+
+// Starts the table of units, if there is one; whether that went well.
+fn start_table(recording: &[u8], job: Job, name: &mut [u8], n: usize) -> bool
+    requires { ⌜ n + 51 ≤ length (now name) ⌝ }
+{
+    let o = job.sinks;
+    let p = job.plan;
+    let went = unpack_frames::start_table(o);
+    say_went(went, recording, p, name, n);
+    unpack_frames::well(went)
+}
+
+// Prints the title, and starts the table of units; whether that went well.
+fn start_all(recording: &[u8], job: Job, name: &mut [u8], n: usize) -> bool
+    requires { ⌜ n + 51 ≤ length (now name) ⌝ }
+{
+    let o = job.sinks;
+    let titled = unpack_frames::print_title(o.quiet);
+    if titled {
+        return start_table(recording, job, name, n);
+    }
+    false
 }
 
 // Unpacks into outputs that are open.
 fn unpack_all(s: Setting, fd: i32, recording: &[u8], job: Job, name: &mut [u8], n: usize) -> Outcome
     requires { ⌜ (settingOk s ≡ true) × (n + 51 ≤ length (now name)) ⌝ }
 {
-    let o = job.sinks;
-    let titled = print_title(o.quiet);
-    if titled {
-        return take_and_finish(s, fd, recording, job, name, n);
+    let started = start_all(recording, job, name, n);
+    if started {
+        return take_and_conclude(s, fd, recording, job, name, n);
     }
     Outcome {
-        whole: false,
         count: 0,
-        read: 0,
-        refused: 0,
-    }
-}
-
-// Says that little was read, where it is so, and what to look at.
-fn say_little(few: Little, recording: &[u8]) {
-    match few {
-        Little::Enough => {}
-        Little::Nothing => console::say(
-            b"unpack",
-            recording,
-            b"no frame was read; see the refusal numbers that were printed, and whether this is its setting",
-        ),
-        Little::Fewer => console::say(
-            b"unpack",
-            recording,
-            b"more frames were refused than read; see the refusal numbers that were printed, and whether this is its setting",
-        ),
+        whole: false,
     }
 }
 
@@ -595,8 +257,6 @@ fn work(s: Setting, fd: i32, recording: &[u8], job: Job, name: &mut [u8], n: usi
 {
     let e = unpack_all(s, fd, recording, job, name, n);
     if e.whole {
-        let few = unpack_start::little_of(e.read, e.refused);
-        say_little(few, recording);
         console::say_count(b"unpack", b"done: ", e.count, b" frames");
         return;
     }
@@ -620,8 +280,8 @@ fn with_job(s: Setting, fd: i32, recording: &[u8], job: Job, name: &mut [u8], n:
         let sinks = Sinks {
             fds: fds,
             hundredth: o.hundredth,
-            live: o.live,
             quiet: o.quiet,
+            table: o.table,
         };
         let open = Job {
             plan: p,
@@ -659,15 +319,14 @@ fn hundredth_of(plain: bool, size: u64, length: usize) -> u64 {
 }
 
 // Where octets go before there are outputs, and how far a recording goes: one that is no regular file says nothing of it.
-fn sinks_of(s: Setting, recording: Known, quiet: bool) -> Sinks {
-    let terminal = libc::isatty(2);
+fn sinks_of(s: Setting, recording: Known, q: Asked) -> Sinks {
     let plain = files::regular(recording);
     let hundredth = hundredth_of(plain, recording.size, s.length);
     Sinks {
         fds: [-1i32; 10],
         hundredth: hundredth,
-        live: terminal == 1,
-        quiet: quiet,
+        quiet: q.totals,
+        table: q.units,
     }
 }
 
@@ -678,7 +337,7 @@ fn with_name(
     recording: &[u8],
     a: Known,
     b: Known,
-    quiet: bool,
+    q: Asked,
     name: &mut [u8],
     n: usize,
 )
@@ -694,9 +353,9 @@ fn with_name(
     let p = Plan {
         number: number,
         lanes: s.numbered,
-        table: false,
+        table: q.units,
     };
-    let sinks = sinks_of(s, b, quiet);
+    let sinks = sinks_of(s, b, q);
     let job = Job {
         plan: p,
         sinks: sinks,
@@ -750,7 +409,7 @@ fn with_prefix(s: Setting, q: Asked, fd: i32, recording: &[u8], a: Known, b: Kno
     if good {
         let mut name = [0u8; 4147];
         octets::copy(&mut name, &prefix[..n]);
-        with_name(s, fd, recording, a, b, q.totals, &mut name, n);
+        with_name(s, fd, recording, a, b, q, &mut name, n);
     }
 }
 
@@ -809,7 +468,6 @@ fn with_path(s: Setting, q: Asked, path: &[u8], a: Known)
         return;
     }
     with_recording(s, q, fd, path, a);
-    libc::close(fd);
 }
 
 // Takes the recording from the command line, and goes on.
@@ -896,14 +554,14 @@ fn say_unknown(i: usize) {
     console::say(
         b"unpack",
         &word[..n],
-        b"is no option; expected --totals, --help or --version",
+        b"is no option; expected --totals, --units, --help or --version",
     );
 }
 
 // Prints how the program is called.
 fn print_help() -> bool {
-    print(
-        b"unpack [--totals] SETTING RECORDING PREFIX\nReads the recording's frames and writes PREFIX.lane0 .., a lane's units each, and PREFIX.records. Prints a line a frame and totals.\n  --totals   prints the totals alone\n  --help     prints this\n  --version  prints which program this is\nA SETTING or a RECORDING of - is standard input. docs/PROGRAMS.md has the formats.\n",
+    unpack_frames::print(
+        b"unpack [--totals] [--units] SETTING RECORDING PREFIX\nReads the recording's frames and writes PREFIX.lane0 .., a lane's units each, and PREFIX.records. Prints a line a frame and totals.\n  --totals   prints the totals alone\n  --units    writes PREFIX.units.csv too, a table of the units\n  --help     prints this\n  --version  prints which program this is\nA SETTING or a RECORDING of - is standard input. docs/PROGRAMS.md has the formats.\n",
     )
 }
 
@@ -922,14 +580,14 @@ fn begin(start: Start, q: Asked) {
             say_printed(printed);
         }
         Start::Version => {
-            let printed = print(b"unpack 0.2 (Khachmuren, CCSDS 732.1-B-3)\n");
+            let printed = unpack_frames::print(b"unpack 0.2 (Khachmuren, CCSDS 732.1-B-3)\n");
             say_printed(printed);
         }
         Start::Unknown(i) => say_unknown(i),
         Start::Usage => console::say(
             b"unpack",
             b"usage",
-            b"unpack [--totals] SETTING RECORDING PREFIX",
+            b"unpack [--totals] [--units] SETTING RECORDING PREFIX",
         ),
         Start::Work => with_words(q),
     }

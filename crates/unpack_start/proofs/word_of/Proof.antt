@@ -21,10 +21,11 @@ same-word-requires c κs = search needs
 
 returns-2 : tie.Need-returns-2
 unfolding wordOf text
-returns-2 c = rw (
-  sym (c .before .before .before .before .is-option .ensures) ∙ c .before .before .before .if1 .taken,
-  sym (c .before .same-word .ensures) ∙ c .if2 .taken,
-)
+returns-2 c =
+    rw (
+      sym (c .before .before .before .before .is-option .ensures) ∙ c .before .before .before .if1 .taken,
+      sym (c .before .same-word .ensures) ∙ c .if2 .taken,
+    )
 
 slice-aggregate-same-word-2 : tie.Need-slice-aggregate-same-word-2
 slice-aggregate-same-word-2 c = search needs
@@ -34,11 +35,12 @@ same-word-requires-2 c κs = search needs
 
 returns-3 : tie.Need-returns-3
 unfolding wordOf text
-returns-3 c = rw (
-  sym (c .before .before .before .before .before .before .before .is-option .ensures) ∙ c .before .before .before .before .before .before .if1 .taken,
-  sym (c .before .before .before .before .same-word .ensures) ∙ c .before .before .before .if2 .left,
-  sym (c .before .same-word2 .ensures) ∙ c .if3 .taken,
-)
+returns-3 c =
+    rw (
+      sym (c .before .before .before .before .before .before .before .is-option .ensures) ∙ c .before .before .before .before .before .before .if1 .taken,
+      sym (c .before .before .before .before .same-word .ensures) ∙ c .before .before .before .if2 .left,
+      sym (c .before .same-word2 .ensures) ∙ c .if3 .taken,
+    )
 
 slice-aggregate-same-word-3 : tie.Need-slice-aggregate-same-word-3
 slice-aggregate-same-word-3 c = search needs
@@ -48,7 +50,8 @@ same-word-requires-3 c κs = search needs
 
 returns-4 : tie.Need-returns-4
 unfolding wordOf text
-returns-4 c = let c₈ = c .before .before .before .before .before .before .before .before in
+returns-4 c =
+    let c₈ = c .before .before .before .before .before .before .before .before in
     rw (
       sym (c₈ .before .before .is-option .ensures) ∙ c₈ .before .if1 .taken,
       sym (c .before .before .before .before .before .before .before .same-word .ensures) ∙ c .before .before .before .before .before .before .if2 .left,
@@ -56,14 +59,34 @@ returns-4 c = let c₈ = c .before .before .before .before .before .before .befo
       sym (c .before .same-word3 .ensures) ∙ c .if4 .taken,
     )
 
+slice-aggregate-same-word-4 : tie.Need-slice-aggregate-same-word-4
+slice-aggregate-same-word-4 c = search needs
+
+same-word-requires-4 : tie.Need-same-word-requires-4
+same-word-requires-4 c κs = search needs
+
 returns-5 : tie.Need-returns-5
 unfolding wordOf text
-returns-5 c = let c₈ = c .before .before .before .before .before .before .before .before in
+returns-5 c =
+    let c₈ = c .before .before .before .before .before .before .before .before in
     rw (
-      sym (c₈ .before .before .is-option .ensures) ∙ c₈ .before .if1 .taken,
-      sym (c .before .before .before .before .before .before .before .same-word .ensures) ∙ c .before .before .before .before .before .before .if2 .left,
-      sym (c .before .before .before .before .same-word2 .ensures) ∙ c .before .before .before .if3 .left,
-      sym (c .before .same-word3 .ensures) ∙ c .if4 .left,
+      sym (c₈ .before .before .before .before .before .is-option .ensures) ∙ c₈ .before .before .before .before .if1 .taken,
+      sym (c₈ .before .before .same-word .ensures) ∙ c₈ .before .if2 .left,
+      sym (c .before .before .before .before .before .before .before .same-word2 .ensures) ∙ c .before .before .before .before .before .before .if3 .left,
+      sym (c .before .before .before .before .same-word3 .ensures) ∙ c .before .before .before .if4 .left,
+      sym (c .before .same-word4 .ensures) ∙ c .if5 .taken,
+    )
+
+returns-6 : tie.Need-returns-6
+unfolding wordOf text
+returns-6 c =
+    let c₈ = c .before .before .before .before .before .before .before .before in
+    rw (
+      sym (c₈ .before .before .before .before .before .is-option .ensures) ∙ c₈ .before .before .before .before .if1 .taken,
+      sym (c₈ .before .before .same-word .ensures) ∙ c₈ .before .if2 .left,
+      sym (c .before .before .before .before .before .before .before .same-word2 .ensures) ∙ c .before .before .before .before .before .before .if3 .left,
+      sym (c .before .before .before .before .same-word3 .ensures) ∙ c .before .before .before .if4 .left,
+      sym (c .before .same-word4 .ensures) ∙ c .if5 .left,
     )
 
 pub word-of-spec : {M : Type 1} → statement M
@@ -81,4 +104,7 @@ word-of-spec =
     slice-aggregate-same-word-3
     same-word-requires-3
     returns-4
-    returns-5)
+    slice-aggregate-same-word-4
+    same-word-requires-4
+    returns-5
+    returns-6)
