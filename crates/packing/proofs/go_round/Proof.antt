@@ -1,7 +1,7 @@
 -- `packing::go_round` ends: turn by turn, each with a file that there is.
-use Prim.Native.Nat.{_-_, _<_}
+use Prim.Native.Nat.{ℕ, _-_, _<_}
 use mathlib.Core.Path.{_≡_}
-use lib.ListN.{length}
+use lib.ListN.{length, length-replicate}
 use borrow.Author.Needs.{needs}
 use Rattle.packing.proofs.go_round.Statement.{statement}
 use Rattle.packing.proofs.go_round.Tie as tie
@@ -13,7 +13,7 @@ abbrev μ-loop : tie.MeasureT-loop
 μ-loop way insert ocf areas₀ lists₀ f₀ course₀ k₀ turns₀ areas lists f course k turns = 18446744073709551615 - turns
 
 loop-holds : tie.Need-loop-holds Inv-loop μ-loop
-loop-holds c = search needs
+loop-holds c = (search needs , length-replicate {A = ℕ} 524288 0 , length-replicate {A = ℕ} 2048 0)
 
 mul-x : tie.Need-mul-x Inv-loop μ-loop
 mul-x c = search needs
