@@ -1,7 +1,7 @@
 -- Whose turn it is, what a lane's file has, and a round of turns.
 use Prim.Native.Nat.{ℕ, _+_}
 use mathlib.Core.Path.{_≡_}
-use mathlib.Core.Bool.{Bool, true, false, cond}
+use mathlib.Core.Bool.{Bool, false, cond}
 use mathlib.Core.List.{List}
 use lib.ListN.{getD, set, replicate}
 use lib.IntN.{pos}
@@ -11,7 +11,6 @@ use Rattle.rules.specs.declared.Kind.the-variants as kinds
 use Rattle.streams.specs.declared.Form.{Form}
 use Rattle.streams.specs.declared.Form.the-variants as forms
 use Rattle.intake.specs.declared.Window.{Window}
-use Rattle.streams.specs.declared.Stream.{Stream}
 use Rattle.turns.specs.declared.Course.{Course}
 use Rattle.turns.specs.declared.Source.{Source}
 use Rattle.turns.specs.declared.Move.{Move}
@@ -73,3 +72,8 @@ pub record Rounded (writing : Bool) (c₀ : Course) (f₀ : Files) (insert ocf :
   pub lists′ : List ℕ
   pub taken : TakenAt (r .last) writing before (fileOf files (r .last)) insert ocf areas lists move areas′ lists′
   pub course : r .course ≡ move .course
+
+-- These files were gone through, in a round from one course to the other.
+pub record Passed (writing : Bool) (c : Course) (f : Files) (insert ocf : List ℕ) (c′ : Course) : Type 0 where
+  pub last : ℕ
+  pub rounded : Rounded writing c f insert ocf (record { course = c′; last = last })
