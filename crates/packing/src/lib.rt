@@ -7,7 +7,7 @@ ghost use mathlib.Core.Path.{_≡_};
 ghost use Prim.Native.Nat.{_<_};
 ghost use lib.ListN.{length};
 ghost use Rattle.rules.specs.Settings.{lane, channel, ocfOctets};
-ghost use Rattle.packing.specs.Rounds.{formOf, nextPlace};
+ghost use Rattle.packing.specs.Rounds.{formOf, nextPlace, Rounded, Passed};
 use file_batches::Wrong;
 use files::Known;
 use intake::Window;
@@ -408,30 +408,24 @@ struct Round {
     last: usize,
 }
 
-// Deals out turns, a frame each, until all files are at their end. A proved loop has to end: this one goes to a number of turns that no run
-// reaches.
+// Deals out turns, a frame each, until all files are at their end: each is handed what the one before left. A proved loop has to end: this one
+// goes to a number of turns that no run reaches.
 fn go_round(way: Way, c: Course, files: Files, insert: &[u8], ocf: &[u8]) -> Round
-    ensures { λ r. ⌜ r .last < 8 ⌝ }
+    ensures { λ r. ⌜ (r .last < 8) × Rounded (way .writing) c files (now (insert .entry)) (now (ocf .entry)) r ⌝ }
 {
     let mut areas = [0u8; 524288];
     let mut lists = [0u8; 2048];
     let mut f = files;
     let mut course = c;
     let mut k: usize = 0;
+    let mut last: usize = 0;
     let mut turns: u64 = 0;
     while turns < 18446744073709551615 {
+        last = k;
         let before = course.frames;
         let x = f.sources[k];
-        let t = turns::turn_at(
-            k,
-            way.writing,
-            course,
-            x,
-            &mut areas,
-            &mut lists,
-            insert,
-            ocf,
-        );
+        let writing = way.writing;
+        let t = turns::turn_at(k, writing, course, x, &mut areas, &mut lists, insert, ocf);
         course = t.course;
         let y = t.source;
         f.sources[k] = y;
@@ -445,7 +439,7 @@ fn go_round(way: Way, c: Course, files: Files, insert: &[u8], ocf: &[u8]) -> Rou
     }
     Round {
         course: course,
-        last: k,
+        last: last,
     }
 }
 
@@ -480,6 +474,7 @@ fn say_of(f: Files, k: usize, names: &[u8], fault: Fault)
 // A round with these files, whose names stand in this area: says what went wrong, and closes them.
 fn round_on(way: Way, c: Course, f: Files, names: &[u8], insert: &[u8], ocf: &[u8]) -> Course
     requires { ⌜ length (now names) ≡ 65536 ⌝ }
+    ensures { λ r. ⌜ Passed (way .writing) c f (now (insert .entry)) (now (ocf .entry)) r ⌝ }
 {
     let r = go_round(way, c, f, insert, ocf);
     let d = r.course;

@@ -1,19 +1,44 @@
--- `packing::go_round` ends: turn by turn, each with a file that there is.
+-- `packing::go_round` meets its contract: turn by turn, each with a file that there is, and handed what the one before left.
 use Prim.Native.Nat.{ℕ, _-_, _<_}
-use mathlib.Core.Path.{_≡_}
+use mathlib.Core.Path.{_≡_, refl}
+use mathlib.Core.Bool.{Bool}
+use mathlib.Core.List.{List}
+use native.Mathlib.Omega.{arith}
 use lib.ListN.{length, length-replicate}
+use Rattle.turns.specs.declared.Course.{Course}
+use Rattle.turns.specs.declared.Move.{Move}
+use Rattle.turns.specs.Turns.{TakenAt}
+use Rattle.packing.specs.declared.Files.{Files}
+use Rattle.packing.specs.Rounds.{nextPlace, fileOf, withFile, Dealt, begun, turn, Rounded}
 use borrow.Author.Needs.{needs}
 use Rattle.packing.proofs.go_round.Statement.{statement}
 use Rattle.packing.proofs.go_round.Tie as tie
 
+-- Whose turn is next goes by the place that was worked out.
+turn-to :
+    {writing : Bool} {c₀ c : Course} {f₀ f : Files} {insert ocf areas lists areas′ lists′ : List ℕ} {k j : ℕ} {m : Move}
+    → Dealt writing c₀ f₀ insert ocf k c f areas lists → TakenAt k writing c (fileOf f k) insert ocf areas lists m areas′ lists′
+    → j ≡ nextPlace k (f .count) → Dealt writing c₀ f₀ insert ocf j (m .course) (withFile f k (m .source)) areas′ lists′
+turn-to d t e = rw e (turn d t)
+
 abbrev Inv-loop : tie.InvT-loop
-Inv-loop way insert ocf areas₀ lists₀ f₀ course₀ k₀ turns₀ areas lists f course k turns = (k < 8) × (length areas ≡ 524288) × (length lists ≡ 2048)
+Inv-loop way insert ocf areas₀ lists₀ f₀ course₀ k₀ last₀ turns₀ areas lists f course k last turns =
+    (k < 8) × (length areas ≡ 524288) × (length lists ≡ 2048) × (last < 8)
+    × Dealt (way .writing) course₀ f₀ insert ocf k course f areas lists
+    × ((turns ≡ 0 → ⊥) → Rounded (way .writing) course₀ f₀ insert ocf (record { course = course; last = last }))
 
 abbrev μ-loop : tie.MeasureT-loop
-μ-loop way insert ocf areas₀ lists₀ f₀ course₀ k₀ turns₀ areas lists f course k turns = 18446744073709551615 - turns
+μ-loop way insert ocf areas₀ lists₀ f₀ course₀ k₀ last₀ turns₀ areas lists f course k last turns = 18446744073709551615 - turns
 
 loop-holds : tie.Need-loop-holds Inv-loop μ-loop
-loop-holds c = (search needs , length-replicate {A = ℕ} 524288 0 , length-replicate {A = ℕ} 2048 0)
+loop-holds c = (
+  search needs,
+  length-replicate {A = ℕ} 524288 0,
+  length-replicate {A = ℕ} 2048 0,
+  search needs,
+  begun,
+  λ h. absurd (h refl),
+)
 
 mul-x : tie.Need-mul-x Inv-loop μ-loop
 mul-x c = search needs
@@ -52,13 +77,50 @@ loop-less : tie.Need-loop-less Inv-loop μ-loop
 loop-less c = search needs
 
 loop-again : tie.Need-loop-again Inv-loop μ-loop
-loop-again c = search needs
+loop-again c =
+    let c₈ = c .before .before .before .before .before .before .before .before in
+    let l = c₈ .before .before .before .before .before .loop .inv in (
+      search needs,
+      search needs,
+      search needs,
+      search needs,
+      turn-to (l .4) (c₈ .turn-at .ensures) (c .next-place .ensures .0),
+      λ h. record {
+        before = _;
+        files = _;
+        areas = _;
+        lists = _;
+        dealt = l .4;
+        move = _;
+        areas′ = _;
+        lists′ = _;
+        taken = c₈ .turn-at .ensures;
+        course = refl;
+      },
+    )
 
 returns : tie.Need-returns Inv-loop μ-loop
-returns c = search needs
+returns c =
+    let l = c .before .loop .inv in (l .3, l .5 (λ e. omega (arith, e, c .loop-test .left)))
 
 returns-2 : tie.Need-returns-2 Inv-loop μ-loop
-returns-2 c = search needs
+returns-2 c =
+    let c₇ = c .before .before .before .before .before .before .before in
+    let l = c₇ .before .before .before .before .before .loop .inv in (
+      l .0,
+      record {
+        before = _;
+        files = _;
+        areas = _;
+        lists = _;
+        dealt = l .4;
+        move = _;
+        areas′ = _;
+        lists′ = _;
+        taken = c₇ .turn-at .ensures;
+        course = refl;
+      },
+    )
 
 pub go-round-spec : {M : Type 1} → statement M
 go-round-spec =
