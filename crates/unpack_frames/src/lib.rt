@@ -256,25 +256,14 @@ fn put_out(
     went
 }
 
-// Says how far the program is, without the percent where that is not known.
-fn say_far(o: Sinks, count: u64) {
-    let h = o.hundredth;
-    if h == 0 {
-        console::say_count(b"unpack", b"", count, b" frames");
-        return;
-    }
-    let p = progress::percent(h, count);
-    let live = progress::is_live();
-    progress::say_far(b"unpack", count, p, live);
-}
-
-// The same, where it is due and all went well.
+// Says how far the program is, where that is due and all went well.
 fn say_progress(went: Went, count: u64, o: Sinks) {
     let good = well(went);
     if good {
-        let now = progress::is_due(count);
-        if now {
-            say_far(o, count);
+        let due = progress::is_due(count);
+        if due {
+            let live = progress::is_live();
+            progress::say_far(b"unpack", count, o.hundredth, count, live);
         }
     }
 }
