@@ -353,8 +353,7 @@ fn say_progress(way: Way, before: u64, c: Course) {
     }
     let due = progress::is_due(c.frames);
     if due {
-        let p = progress::percent(way.hundredth, c.octets);
-        progress::say_far(b"pack", c.frames, p, way.live);
+        progress::say_far(b"pack", c.frames, way.hundredth, c.octets, way.live);
     }
 }
 

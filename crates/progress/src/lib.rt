@@ -12,7 +12,7 @@ pub fn is_due(count: u64) -> bool
 }
 
 // How far a run is in percent, where so much of its input is a hundredth; 0 where that is not known.
-pub fn percent(hundredth: u64, done: u64) -> u64
+fn percent(hundredth: u64, done: u64) -> u64
     ensures { λ r. ⌜ r ≡ percentOf hundredth done ⌝ }
 {
     if hundredth == 0 {
@@ -25,22 +25,34 @@ pub fn percent(hundredth: u64, done: u64) -> u64
     p
 }
 
+// Says how far that is, unless it is not known.
+fn say_percent(hundredth: u64, done: u64) {
+    if hundredth == 0 {
+        return;
+    }
+    let p = percent(hundredth, done);
+    io::write_all(2, b", ");
+    io::print_decimal(2, p);
+    io::write_all(2, b" %");
+}
+
 // Ends the line; on a terminal the next one is written over it.
 fn end_far(live: bool) {
     if live {
-        io::write_all(2, b" %\r");
+        io::write_all(2, b"\r");
         return;
     }
-    io::write_all(2, b" %\n");
+    io::write_all(2, b"\n");
 }
 
-// Says how many frames are done, and how far that is.
-pub fn say_far(program: &[u8], count: u64, percent: u64, live: bool) {
+// Says how many frames are done, and how far that is, where so much of the input is done and so much is a hundredth of it, 0 where that is
+// not known.
+pub fn say_far(program: &[u8], count: u64, hundredth: u64, done: u64, live: bool) {
     io::write_all(2, program);
     io::write_all(2, b": ");
     io::print_decimal(2, count);
-    io::write_all(2, b" frames, ");
-    io::print_decimal(2, percent);
+    io::write_all(2, b" frames");
+    say_percent(hundredth, done);
     end_far(live);
 }
 

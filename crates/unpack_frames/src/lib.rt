@@ -7,9 +7,8 @@
 // titles, and the text of all totals (`hand_totals`). Shown by runs: what no contract can follow into the system.
 ghost use mathlib.Core.Path.{_≡_};
 ghost use mathlib.Core.Bool.{true};
-ghost use Prim.Native.Nat.{_%_, _≤_};
+ghost use Prim.Native.Nat.{_≤_};
 ghost use lib.ListN.{length};
-ghost use Rattle.rules.specs.Tests.{_=?_};
 ghost use Rattle.rules.specs.Settings.{settingOk, readerOk};
 ghost use Rattle.unpack_text.specs.Lines.{title};
 ghost use Rattle.refusals.specs.Words.{totalsText};
@@ -257,35 +256,14 @@ fn put_out(
     went
 }
 
-// Whether the program says how far it is: every 65,536 frames.
-fn due(count: u64) -> bool
-    ensures { λ r. ⌜ r ≡ (count % 65536) =? 0 ⌝ }
-{
-    count % 65536 == 0
-}
-
-// Says how far the program is.
-fn say_far(o: Sinks, count: u64) {
-    let h = o.hundredth;
-    if h == 0 {
-        console::say_count(b"unpack", b"", count, b" frames");
-        return;
-    }
-    let p = unpack_start::percent(h, count);
-    io::write_all(2, b"unpack: ");
-    io::print_decimal(2, count);
-    io::write_all(2, b" frames, ");
-    io::print_decimal(2, p);
-    io::write_all(2, b" %\n");
-}
-
-// The same, where it is due and all went well.
+// Says how far the program is, where that is due and all went well.
 fn say_progress(went: Went, count: u64, o: Sinks) {
     let good = well(went);
     if good {
-        let now = due(count);
-        if now {
-            say_far(o, count);
+        let due = progress::is_due(count);
+        if due {
+            let live = progress::is_live();
+            progress::say_far(b"unpack", count, o.hundredth, count, live);
         }
     }
 }

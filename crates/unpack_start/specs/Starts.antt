@@ -1,5 +1,5 @@
 -- What unpack decides beside its frames.
-use Prim.Native.Nat.{ℕ, _-_, _/_}
+use Prim.Native.Nat.{ℕ, _-_}
 use mathlib.Core.Bool.{Bool, true, false, cond}
 use mathlib.Core.List.{List}
 use lib.ListN.{length, getD}
@@ -19,10 +19,6 @@ prefixOf xs k =
 -- What is printed would go into a regular file that is an input.
 unfoldable pub spoils : Known → Known → Known → Bool
 spoils k a b = cond (isRegular k) (cond (sameFile k a) true (sameFile k b)) false
-
--- How far a run is in percent, where a hundredth of the recording is h frames.
-unfoldable pub percentOf : ℕ → ℕ → ℕ
-percentOf h n = cond (h =? 0) 0 (cond (100 <? n / h) 100 (n / h))
 
 -- "When nothing was read, or more frames were refused than read."
 unfoldable pub littleOf : ℕ → ℕ → Little

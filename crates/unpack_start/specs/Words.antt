@@ -1,39 +1,24 @@
 -- What the words of unpack's command line ask for.
 use Prim.Native.Nat.{ℕ}
-use mathlib.Core.Bool.{Bool, true, false, cond, _&&_}
-use mathlib.Core.List.{List, [], _∷_}
-use lib.ListN.{length, getD}
-use Rattle.rules.specs.Tests.{_=?_, _<?_}
+use mathlib.Core.Bool.{true, false, cond}
+use mathlib.Core.List.{List}
+use Rattle.rules.specs.Tests.{_=?_}
 use Rattle.rules.specs.Listing.{text}
+use Rattle.words.specs.Words.{isWord, isOption}
 use Rattle.unpack_start.specs.declared.Word.{Word}
 use Rattle.unpack_start.specs.declared.Word.the-variants as word
 use Rattle.unpack_start.specs.declared.Asked.{Asked}
 use Rattle.unpack_start.specs.declared.Start.{Start}
 use Rattle.unpack_start.specs.declared.Start.the-variants as start
 
--- Octet by octet, as far as both go.
-unfoldable pub alike : List ℕ → List ℕ → Bool
-alike [] ys = true
-alike (x ∷ xs) [] = true
-alike (x ∷ xs) (y ∷ ys) = x =? y && alike xs ys
-
-unfoldable pub sameWord : List ℕ → List ℕ → Bool
-sameWord a b = cond (length a =? length b) (alike a b) false
-
-unfoldable pub isDash : List ℕ → Bool
-isDash w = sameWord w (text "-")
-
--- A word that begins with two dashes is an option.
-unfoldable pub isOption : List ℕ → Bool
-isOption w = cond (length w <? 2) false (cond (getD w 0 0 =? 45) (getD w 1 0 =? 45) false)
-
+-- "Words that begin with two dashes are options, wherever they stand; the others are the three names in order."
 unfoldable pub wordOf : List ℕ → Word
 wordOf w =
     cond (isOption w)
-    (cond (sameWord w (text "--totals")) word.Totals
-    (cond (sameWord w (text "--units")) word.Units
-    (cond (sameWord w (text "--help")) word.Help
-    (cond (sameWord w (text "--version")) word.Version word.Unknown))))
+    (cond (isWord (text "--totals") w) word.Totals
+    (cond (isWord (text "--units") w) word.Units
+    (cond (isWord (text "--help") w) word.Help
+    (cond (isWord (text "--version") w) word.Version word.Unknown))))
     word.Name
 
 unfoldable pub noAsked : Asked

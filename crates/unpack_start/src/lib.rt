@@ -1,8 +1,8 @@
 // What unpack decides beside its frames: what its words ask for, whether names of files can begin with a prefix, whether what is printed would
-// go into an input, how far it is, and whether little was read.
+// go into an input, and whether little was read.
 ghost use mathlib.Core.Path.{_≡_};
-ghost use Rattle.unpack_start.specs.Starts.{prefixOf, spoils, percentOf, littleOf};
-ghost use Rattle.unpack_start.specs.Words.{sameWord, isOption, wordOf, named, askedNext, startOf, noAsked, isDash};
+ghost use Rattle.unpack_start.specs.Starts.{prefixOf, spoils, littleOf};
+ghost use Rattle.unpack_start.specs.Words.{wordOf, named, askedNext, startOf, noAsked};
 use files::Known;
 
 // What a prefix is: one that names can begin with, nothing, or a folder.
@@ -45,27 +45,13 @@ pub fn is_spoiled(k: Known, a: Known, b: Known) -> bool
     false
 }
 
-// ---- how far, and how much
+// ---- how much was read
 
 // How much was read: enough, nothing, or fewer frames than were refused.
 pub enum Little {
     Enough,
     Nothing,
     Fewer,
-}
-
-// How far a run is in percent, where a hundredth of the recording is this many frames; 0 where that is not known.
-pub fn percent(hundredth: u64, count: u64) -> u64
-    ensures { λ r. ⌜ r ≡ percentOf hundredth count ⌝ }
-{
-    if hundredth == 0 {
-        return 0;
-    }
-    let p = count / hundredth;
-    if 100 < p {
-        return 100;
-    }
-    p
 }
 
 // How much was read.
@@ -116,64 +102,27 @@ pub enum Start {
     Work,
 }
 
-// Whether two words are the same.
-fn same_word(a: &[u8], b: &[u8]) -> bool
-    ensures { λ r. ⌜ r ≡ sameWord (now (a .entry)) (now (b .entry)) ⌝ }
-{
-    if a.len() != b.len() {
-        return false;
-    }
-    let mut i: usize = 0;
-    while i < a.len() {
-        if a[i] != b[i] {
-            return false;
-        }
-        i += 1;
-    }
-    true
-}
-
-// Whether a word stands for standard input.
-pub fn is_dash(word: &[u8]) -> bool
-    ensures { λ r. ⌜ r ≡ isDash (now (word .entry)) ⌝ }
-{
-    same_word(word, b"-")
-}
-
-// Whether a word begins as options do.
-fn is_option(word: &[u8]) -> bool
-    ensures { λ r. ⌜ r ≡ isOption (now (word .entry)) ⌝ }
-{
-    if word.len() < 2 {
-        return false;
-    }
-    if word[0] == b'-' {
-        return word[1] == b'-';
-    }
-    false
-}
-
 // What a word is.
 pub fn word_of(word: &[u8]) -> Word
     ensures { λ r. ⌜ r ≡ wordOf (now (word .entry)) ⌝ }
 {
-    let option = is_option(word);
+    let option = words::is_option(word);
     if option {} else {
         return Word::Name;
     }
-    let totals = same_word(word, b"--totals");
+    let totals = words::is_word(word, b"--totals");
     if totals {
         return Word::Totals;
     }
-    let units = same_word(word, b"--units");
+    let units = words::is_word(word, b"--units");
     if units {
         return Word::Units;
     }
-    let help = same_word(word, b"--help");
+    let help = words::is_word(word, b"--help");
     if help {
         return Word::Help;
     }
-    let version = same_word(word, b"--version");
+    let version = words::is_word(word, b"--version");
     if version {
         return Word::Version;
     }

@@ -457,7 +457,7 @@ fn with_recording(s: Setting, q: Asked, fd: i32, recording: &[u8], a: Known)
 fn with_path(s: Setting, q: Asked, path: &[u8], a: Known)
     requires { ⌜ settingOk s ≡ true ⌝ }
 {
-    let dash = unpack_start::is_dash(path);
+    let dash = words::is_dash(path);
     if dash {
         with_recording(s, q, 0, b"standard input", a);
         return;
@@ -500,7 +500,7 @@ fn open_ends() -> bool {
 fn load_from(path: &[u8], area: &mut [u8]) -> Loaded
     ensures { λ r. ⌜ r .judged ≡ judged (r .filled) (now (area .exit)) ⌝ }
 {
-    let dash = unpack_start::is_dash(path);
+    let dash = words::is_dash(path);
     if dash {
         return setting_file::load_open(b"unpack", b"standard input", 0, area);
     }
