@@ -1,42 +1,15 @@
-// What pack decides before it reads a lane's file: what its words ask for, what the words after the setting come to, and which files may be read.
+// What pack decides before it reads a lane's file: what a word of its command line is, what the words after the setting come to, and
+// which files may be read.
 ghost use mathlib.Core.Path.{_≡_};
 ghost use mathlib.Core.Bool.{false, cond};
-ghost use Rattle.pack_start.specs.Words.{wordOf, noAsked, named, askedNext, startOf, lane as laneNamed, nameOf};
+ghost use Rattle.pack_start.specs.Words.{wordOf, lane as laneNamed, nameOf};
 ghost use Rattle.pack_start.specs.Plans.{noPlan, badPlan, lanePlan, planOn, fine, objectionTo};
 use files::Known;
+use words::Word;
 
 // ---- options and names
 
-// What a word of the command line is: one of the options, an option that there is not, or a name.
-pub enum Word {
-    Interleave,
-    Help,
-    Version,
-    Unknown,
-    Name,
-}
-
-// What the command line asks for: how many names there are, up to two, and which word is the first; the first option that there is not, 0 for
-// none; and which options stand there.
-pub struct Asked {
-    pub names: usize,
-    pub setting: usize,
-    pub unknown: usize,
-    pub interleave: bool,
-    pub help: bool,
-    pub version: bool,
-}
-
-// What a run of the program does: it prints its help or its version, refuses an option or the number of names, or packs.
-pub enum Start {
-    Help,
-    Version,
-    Unknown(usize),
-    Usage,
-    Work,
-}
-
-// What a word is.
+// What a word is: its one option is --interleave.
 pub fn word_of(word: &[u8]) -> Word
     ensures { λ r. ⌜ r ≡ wordOf (now (word .entry)) ⌝ }
 {
@@ -46,7 +19,7 @@ pub fn word_of(word: &[u8]) -> Word
     }
     let interleave = words::is_word(word, b"--interleave");
     if interleave {
-        return Word::Interleave;
+        return Word::First;
     }
     let help = words::is_word(word, b"--help");
     if help {
@@ -57,81 +30,6 @@ pub fn word_of(word: &[u8]) -> Word
         return Word::Version;
     }
     Word::Unknown
-}
-
-// Nothing is asked for.
-pub fn no_asked() -> Asked
-    ensures { λ r. ⌜ r ≡ noAsked ⌝ }
-{
-    Asked {
-        names: 0,
-        setting: 0,
-        unknown: 0,
-        interleave: false,
-        help: false,
-        version: false,
-    }
-}
-
-// With one name more, word i.
-fn name_at(a: Asked, i: usize) -> Asked
-    ensures { λ r. ⌜ r ≡ named a i ⌝ }
-{
-    let mut b = a;
-    if a.names == 0 {
-        b.names = 1;
-        b.setting = i;
-        return b;
-    }
-    b.names = 2;
-    b
-}
-
-// With one word more, word i.
-pub fn next_word(a: Asked, i: usize, w: Word) -> Asked
-    ensures { λ r. ⌜ r ≡ askedNext a i w ⌝ }
-{
-    let mut b = a;
-    match w {
-        Word::Interleave => {
-            b.interleave = true;
-            b
-        }
-        Word::Help => {
-            b.help = true;
-            b
-        }
-        Word::Version => {
-            b.version = true;
-            b
-        }
-        Word::Unknown => {
-            if a.unknown == 0 {
-                b.unknown = i;
-            }
-            b
-        }
-        Word::Name => name_at(a, i),
-    }
-}
-
-// What a run does that is asked for this.
-pub fn start_of(a: Asked) -> Start
-    ensures { λ r. ⌜ r ≡ startOf a ⌝ }
-{
-    if a.help {
-        return Start::Help;
-    }
-    if a.version {
-        return Start::Version;
-    }
-    if a.unknown != 0 {
-        return Start::Unknown(a.unknown);
-    }
-    if a.names == 2 {
-        return Start::Work;
-    }
-    Start::Usage
 }
 
 // ---- what a word after the setting names

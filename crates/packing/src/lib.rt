@@ -11,12 +11,10 @@ ghost use Rattle.packing.specs.Rounds.{formOf, nextPlace, Rounded, Passe
 use file_batches::Wrong;
 use files::Known;
 use intake::Window;
-use pack_start::Asked;
 use pack_start::Bad;
 use pack_start::Named;
 use pack_start::Objection;
 use pack_start::Plan;
-use pack_start::Start;
 use rules::Kind;
 use rules::Lane;
 use rules::Setting;
@@ -26,6 +24,8 @@ use streams::Form;
 use streams::Stream;
 use turns::Course;
 use turns::Source;
+use words::Asked;
+use words::Start;
 
 // ---- what is said
 
@@ -820,7 +820,7 @@ fn load_octets(i: usize, from: usize, n: usize, area: &mut [u8]) -> bool {
 // Writes the frames, once all files are good. Of the insert octets the setting's are taken.
 fn pack_files(s: Setting, q: Asked, n: usize, insert: &[u8], ocf: &[u8]) {
     let i = streams::within(s.insert, insert);
-    let from = after(q.setting, n);
+    let from = after(q.one, n);
     let look = Way {
         writing: false,
         together: false,
@@ -834,7 +834,7 @@ fn pack_files(s: Setting, q: Asked, n: usize, insert: &[u8], ocf: &[u8]) {
         let live = progress::is_live();
         let way = Way {
             writing: true,
-            together: q.interleave,
+            together: q.first,
             live: live,
             hundredth: looked.octets / 100,
         };
@@ -870,8 +870,8 @@ fn pack_planned(s: Setting, q: Asked, n: usize, p: Plan) {
 
 // Packs by this setting, with n words.
 fn pack_all(s: Setting, q: Asked, n: usize) {
-    let from = after(q.setting, n);
-    let p = plan_all(from, n, s, q.interleave);
+    let from = after(q.one, n);
+    let p = plan_all(from, n, s, q.first);
     let bad = p.bad;
     let good = pack_start::is_fine(bad);
     if good {
@@ -918,7 +918,7 @@ fn pack_by(path: &[u8], q: Asked, n: usize) {
 // Takes the setting from the command line, and goes on.
 fn with_words(q: Asked, n: usize) {
     let mut path = io::buffer();
-    let k = os::arg(q.setting, &mut path);
+    let k = os::arg(q.one, &mut path);
     if os::errno() != 0 {
         console::say_failed(b"pack", b"SETTING");
         return;
@@ -938,12 +938,12 @@ fn add_word(q: Asked, i: usize) -> Asked {
     let mut word = io::buffer();
     let n = os::arg(i, &mut word);
     let w = pack_start::word_of(&word[..n]);
-    pack_start::next_word(q, i, w)
+    words::next_word(q, i, w)
 }
 
 // What n words ask for.
 fn read_words(n: usize) -> Asked {
-    let mut q = pack_start::no_asked();
+    let mut q = words::no_asked();
     let mut i: usize = 1;
     while i < n {
         q = add_word(q, i);
@@ -995,6 +995,6 @@ fn begin(start: Start, q: Asked, n: usize) {
 pub fn run() {
     let n = os::arg_count();
     let q = read_words(n);
-    let start = pack_start::start_of(q);
+    let start = words::start_of(q, 2, 4);
     begin(start, q, n);
 }

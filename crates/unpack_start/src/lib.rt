@@ -1,9 +1,10 @@
-// What unpack decides beside its frames: what its words ask for, whether names of files can begin with a prefix, whether what is printed would
-// go into an input, and whether little was read.
+// What unpack decides beside its frames: what a word of its command line is, whether names of files can begin with a prefix, whether what is
+// printed would go into an input, and whether little was read.
 ghost use mathlib.Core.Path.{_≡_};
 ghost use Rattle.unpack_start.specs.Starts.{prefixOf, spoils, littleOf};
-ghost use Rattle.unpack_start.specs.Words.{wordOf, named, askedNext, startOf, noAsked};
+ghost use Rattle.unpack_start.specs.Words.{wordOf};
 use files::Known;
+use words::Word;
 
 // What a prefix is: one that names can begin with, nothing, or a folder.
 pub enum Prefix {
@@ -69,40 +70,7 @@ pub fn little_of(read: u64, refused: u64) -> Little
 
 // ---- words
 
-// What a word of the command line is: one of the options, an option that there is not, or a name.
-pub enum Word {
-    Totals,
-    Units,
-    Help,
-    Version,
-    Unknown,
-    Name,
-}
-
-// What the command line asks for: how many names there are and which words the first three are; the first option that there is not, 0 for none;
-// and which options stand there.
-pub struct Asked {
-    pub names: usize,
-    pub setting: usize,
-    pub recording: usize,
-    pub prefix: usize,
-    pub unknown: usize,
-    pub totals: bool,
-    pub units: bool,
-    pub help: bool,
-    pub version: bool,
-}
-
-// What a run of the program does: it prints its help or its version, refuses an option or the number of names, or unpacks.
-pub enum Start {
-    Help,
-    Version,
-    Unknown(usize),
-    Usage,
-    Work,
-}
-
-// What a word is.
+// What a word is: its first option is --totals, its second --units.
 pub fn word_of(word: &[u8]) -> Word
     ensures { λ r. ⌜ r ≡ wordOf (now (word .entry)) ⌝ }
 {
@@ -112,11 +80,11 @@ pub fn word_of(word: &[u8]) -> Word
     }
     let totals = words::is_word(word, b"--totals");
     if totals {
-        return Word::Totals;
+        return Word::First;
     }
     let units = words::is_word(word, b"--units");
     if units {
-        return Word::Units;
+        return Word::Second;
     }
     let help = words::is_word(word, b"--help");
     if help {
@@ -127,96 +95,4 @@ pub fn word_of(word: &[u8]) -> Word
         return Word::Version;
     }
     Word::Unknown
-}
-
-// Nothing is asked for.
-pub fn no_asked() -> Asked
-    ensures { λ r. ⌜ r ≡ noAsked ⌝ }
-{
-    Asked {
-        names: 0,
-        setting: 0,
-        recording: 0,
-        prefix: 0,
-        unknown: 0,
-        totals: false,
-        units: false,
-        help: false,
-        version: false,
-    }
-}
-
-// With one name more, word i.
-fn name_at(a: Asked, i: usize) -> Asked
-    ensures { λ r. ⌜ r ≡ named a i ⌝ }
-{
-    let mut b = a;
-    if a.names == 0 {
-        b.names = 1;
-        b.setting = i;
-        return b;
-    }
-    if a.names == 1 {
-        b.names = 2;
-        b.recording = i;
-        return b;
-    }
-    if a.names == 2 {
-        b.names = 3;
-        b.prefix = i;
-        return b;
-    }
-    b.names = 4;
-    b
-}
-
-// With one word more, word i.
-pub fn next_word(a: Asked, i: usize, w: Word) -> Asked
-    ensures { λ r. ⌜ r ≡ askedNext a i w ⌝ }
-{
-    let mut b = a;
-    match w {
-        Word::Totals => {
-            b.totals = true;
-            b
-        }
-        Word::Units => {
-            b.units = true;
-            b
-        }
-        Word::Help => {
-            b.help = true;
-            b
-        }
-        Word::Version => {
-            b.version = true;
-            b
-        }
-        Word::Unknown => {
-            if a.unknown == 0 {
-                b.unknown = i;
-            }
-            b
-        }
-        Word::Name => name_at(a, i),
-    }
-}
-
-// What a run does that is asked for this.
-pub fn start_of(a: Asked) -> Start
-    ensures { λ r. ⌜ r ≡ startOf a ⌝ }
-{
-    if a.help {
-        return Start::Help;
-    }
-    if a.version {
-        return Start::Version;
-    }
-    if a.unknown != 0 {
-        return Start::Unknown(a.unknown);
-    }
-    if a.names == 3 {
-        return Start::Work;
-    }
-    Start::Usage
 }

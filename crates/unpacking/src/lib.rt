@@ -18,10 +18,10 @@ use rules::Setting;
 use setting_file::Loaded;
 use unpack_frames::Sinks;
 use unpack_frames::Went;
-use unpack_start::Asked;
 use unpack_start::Little;
 use unpack_start::Prefix;
-use unpack_start::Start;
+use words::Asked;
+use words::Start;
 
 // What a run has: the plan of its outputs, where its octets go, and its inputs as the system knows them.
 struct Job {
@@ -325,8 +325,8 @@ fn sinks_of(s: Setting, recording: Known, q: Asked) -> Sinks {
     Sinks {
         fds: [-1i32; 10],
         hundredth: hundredth,
-        quiet: q.totals,
-        table: q.units,
+        quiet: q.first,
+        table: q.second,
     }
 }
 
@@ -353,7 +353,7 @@ fn with_name(
     let p = Plan {
         number: number,
         lanes: s.numbered,
-        table: q.units,
+        table: q.second,
     };
     let sinks = sinks_of(s, b, q);
     let job = Job {
@@ -400,7 +400,7 @@ fn with_prefix(s: Setting, q: Asked, fd: i32, recording: &[u8], a: Known, b: Kno
     requires { ⌜ settingOk s ≡ true ⌝ }
 {
     let mut prefix = io::buffer();
-    let n = os::arg(q.prefix, &mut prefix);
+    let n = os::arg(q.three, &mut prefix);
     if os::errno() != 0 {
         console::say_failed(b"unpack", b"PREFIX");
         return;
@@ -475,7 +475,7 @@ fn with_setting(s: Setting, q: Asked, a: Known)
     requires { ⌜ settingOk s ≡ true ⌝ }
 {
     let mut path = io::buffer();
-    let n = os::arg(q.recording, &mut path);
+    let n = os::arg(q.two, &mut path);
     if os::errno() != 0 {
         console::say_failed(b"unpack", b"RECORDING");
         return;
@@ -510,7 +510,7 @@ fn load_from(path: &[u8], area: &mut [u8]) -> Loaded
 // Reads the setting, and goes on.
 fn with_words(q: Asked) {
     let mut path = io::buffer();
-    let n = os::arg(q.setting, &mut path);
+    let n = os::arg(q.one, &mut path);
     if os::errno() != 0 {
         console::say_failed(b"unpack", b"SETTING");
         return;
@@ -532,13 +532,13 @@ fn add_word(q: Asked, i: usize) -> Asked {
     let mut word = io::buffer();
     let n = os::arg(i, &mut word);
     let w = unpack_start::word_of(&word[..n]);
-    unpack_start::next_word(q, i, w)
+    words::next_word(q, i, w)
 }
 
 // What all words ask for.
 fn read_words() -> Asked {
     let n = os::arg_count();
-    let mut q = unpack_start::no_asked();
+    let mut q = words::no_asked();
     let mut i: usize = 1;
     while i < n {
         q = add_word(q, i);
@@ -598,7 +598,7 @@ pub fn run() {
     let open = open_ends();
     if open {
         let q = read_words();
-        let start = unpack_start::start_of(q);
+        let start = words::start_of(q, 3, 3);
         begin(start, q);
     }
 }

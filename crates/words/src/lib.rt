@@ -1,6 +1,8 @@
-// Words of a command line: what they begin with, whether they are a given word, an option, or stand for standard input.
+// Words of a command line: what they begin with, whether they are a given word, an option, or stand for standard input; and what all of them ask
+// for.
 ghost use mathlib.Core.Path.{_≡_};
 ghost use Rattle.words.specs.Words.{begins as beginsWith, isWord, isOption, isDash};
+ghost use Rattle.words.specs.Asked.{noAsked, named, askedNext, startOf};
 
 // Whether these octets begin with that word.
 pub fn begins(s: &[u8], word: &[u8]) -> bool
@@ -42,4 +44,135 @@ pub fn is_dash(s: &[u8]) -> bool
     ensures { λ r. ⌜ r ≡ isDash (now (s .entry)) ⌝ }
 {
     is_word(s, b"-")
+}
+
+// ---- what all words ask for
+
+// What a word of the command line is: one of the program's own two options, one of those that every program has, an option that there is not, or
+// a name.
+pub enum Word {
+    First,
+    Second,
+    Help,
+    Version,
+    Unknown,
+    Name,
+}
+
+// What the command line asks for: how many names there are, up to four, and which words the first three are; the first option that there is not,
+// 0 for none; and which options stand there.
+pub struct Asked {
+    pub names: usize,
+    pub one: usize,
+    pub two: usize,
+    pub three: usize,
+    pub unknown: usize,
+    pub first: bool,
+    pub second: bool,
+    pub help: bool,
+    pub version: bool,
+}
+
+// What a run of the program does: it prints its help or its version, refuses an option or the number of names, or does its work.
+pub enum Start {
+    Help,
+    Version,
+    Unknown(usize),
+    Usage,
+    Work,
+}
+
+// Nothing is asked for.
+pub fn no_asked() -> Asked
+    ensures { λ r. ⌜ r ≡ noAsked ⌝ }
+{
+    Asked {
+        names: 0,
+        one: 0,
+        two: 0,
+        three: 0,
+        unknown: 0,
+        first: false,
+        second: false,
+        help: false,
+        version: false,
+    }
+}
+
+// With one name more, word i.
+fn name_at(a: Asked, i: usize) -> Asked
+    ensures { λ r. ⌜ r ≡ named a i ⌝ }
+{
+    let mut b = a;
+    if a.names == 0 {
+        b.names = 1;
+        b.one = i;
+        return b;
+    }
+    if a.names == 1 {
+        b.names = 2;
+        b.two = i;
+        return b;
+    }
+    if a.names == 2 {
+        b.names = 3;
+        b.three = i;
+        return b;
+    }
+    b.names = 4;
+    b
+}
+
+// With one word more, word i.
+pub fn next_word(a: Asked, i: usize, w: Word) -> Asked
+    ensures { λ r. ⌜ r ≡ askedNext a i w ⌝ }
+{
+    let mut b = a;
+    match w {
+        Word::First => {
+            b.first = true;
+            b
+        }
+        Word::Second => {
+            b.second = true;
+            b
+        }
+        Word::Help => {
+            b.help = true;
+            b
+        }
+        Word::Version => {
+            b.version = true;
+            b
+        }
+        Word::Unknown => {
+            if a.unknown == 0 {
+                b.unknown = i;
+            }
+            b
+        }
+        Word::Name => name_at(a, i),
+    }
+}
+
+// What a run does that is asked for this, of a program that takes so many names, at least and at most.
+pub fn start_of(a: Asked, least: usize, most: usize) -> Start
+    ensures { λ r. ⌜ r ≡ startOf a least most ⌝ }
+{
+    if a.help {
+        return Start::Help;
+    }
+    if a.version {
+        return Start::Version;
+    }
+    if a.unknown != 0 {
+        return Start::Unknown(a.unknown);
+    }
+    if a.names < least {
+        return Start::Usage;
+    }
+    if most < a.names {
+        return Start::Usage;
+    }
+    Start::Work
 }

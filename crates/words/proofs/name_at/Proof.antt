@@ -1,8 +1,8 @@
--- `unpack_start::name_at`: by how many names there were.
-use Rattle.unpack_start.specs.Words.{named}
+-- `words::name_at`: by how many names there were.
+use Rattle.words.specs.Asked.{named}
 use borrow.Author.Tests.{eq-eqb, ne-eqb}
-use Rattle.unpack_start.proofs.name_at.Statement.{statement}
-use Rattle.unpack_start.proofs.name_at.Tie as tie
+use Rattle.words.proofs.name_at.Statement.{statement}
+use Rattle.words.proofs.name_at.Tie as tie
 
 returns : tie.Need-returns
 unfolding named

@@ -1,7 +1,7 @@
-use Rattle.pack_start.specs.Words.{noAsked}
+use Rattle.words.specs.Asked.{noAsked}
 use mathlib.Core.Path.{refl}
-use Rattle.pack_start.proofs.no_asked.Statement.{statement}
-use Rattle.pack_start.proofs.no_asked.Tie as tie
+use Rattle.words.proofs.no_asked.Statement.{statement}
+use Rattle.words.proofs.no_asked.Tie as tie
 
 returns : tie.Need-returns
 unfolding noAsked
