@@ -13,17 +13,36 @@ use Rattle.lengths.specs.declared.Length.the-variants.{End, Of, Other}
 use Rattle.lengths.specs.Lengths.{isBlank, isDigit, front, valueFrom, endsAt, wordOf, nextOf}
 
 module _ (p : ℕ → Bool) (xs : List ℕ) (i : ℕ) where
-  pub front-more : i < length xs → p (getD xs i 0) ≡ true → front p (drop i xs) ≡ front p (drop (i + 1) xs) + 1
+  front-more : i < length xs → p (getD xs i 0) ≡ true → front p (drop i xs) ≡ front p (drop (i + 1) xs) + 1
   unfolding front
   front-more h t = rw (drop-cons xs i 0 h, t, add-one i) (sym (add-one (front p (drop (suc i) xs))))
 
-  pub front-stops : i < length xs → p (getD xs i 0) ≡ false → front p (drop i xs) ≡ 0
+  front-stops : i < length xs → p (getD xs i 0) ≡ false → front p (drop i xs) ≡ 0
   unfolding front
   front-stops h t = rw (drop-cons xs i 0 h, t)
 
-  pub front-ends : length xs ≤ i → front p (drop i xs) ≡ 0
+  front-ends : length xs ≤ i → front p (drop i xs) ≡ 0
   unfolding front
   front-ends h = rw (drop-of-length-le xs h)
+
+-- How far a count of the front has come: i octets, and the front of the rest.
+pub record Counted (p : ℕ → Bool) (xs : List ℕ) (i : ℕ) : Type 0 where
+  pub within : i ≤ length xs
+  pub sum : front p xs ≡ i + front p (drop i xs)
+
+pub counted-none : {p : ℕ → Bool} {xs : List ℕ} → Counted p xs 0
+counted-none = record { within = omega arith; sum = omega arith }
+
+module _ {p : ℕ → Bool} {xs : List ℕ} {i : ℕ} (k : Counted p xs i) where
+  pub counted-all : length xs ≤ i → (i ≡ front p xs) × (i ≤ length xs)
+  counted-all h = (omega (arith, k .sum, front-ends p xs i h), k .within)
+
+  module _ (h : i < length xs) {w : Bool} (e : w ≡ p (getD xs i 0)) where
+    pub counted-more : w ≡ true → Counted p xs (i + 1)
+    counted-more t = record { within = omega (arith, h); sum = omega (arith, k .sum, front-more p xs i h (sym e ∙ t)) }
+
+    pub counted-here : w ≡ false → (i ≡ front p xs) × (i ≤ length xs)
+    counted-here t = (omega (arith, k .sum, front-stops p xs i h (sym e ∙ t)), k .within)
 
 module _ (v : ℕ) (xs : List ℕ) (i : ℕ) where
   pub value-more : i < length xs → valueFrom v (drop i xs) ≡ valueFrom (min (v * 10 + (getD xs i 0 - 48)) 10000) (drop (i + 1) xs)

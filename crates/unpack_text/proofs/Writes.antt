@@ -86,3 +86,9 @@ wrote-all line k {area = area} {from = from} {area′ = area′} {end = end} w e
 pub wrote-length : {n : ℕ} {xs area : List ℕ} {from : ℕ} {area′ : List ℕ} {end : ℕ} → Wrote n xs area from area′ end → from + n ≤ length area → length
     area′ ≡ length area
 wrote-length {n} {xs} {area} {from} w room = ap length (w .put .octets) ∙ length-laid area from xs (omega (arith, w .most))
+
+-- ---- what is left for the text that comes next
+
+pub room-after : (m : ℕ) {n : ℕ} {xs area : List ℕ} {from : ℕ} {area′ : List ℕ} {end : ℕ} → Wrote n xs area from area′ end
+    → from + (n + m) ≤ length area → end + m ≤ length area′
+room-after m w room = omega (arith, w .most, w .put .ends, wrote-length w (omega (arith, room)), room)

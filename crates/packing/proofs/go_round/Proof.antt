@@ -21,6 +21,14 @@ turn-to :
     → j ≡ nextPlace k (f .count) → Dealt writing c₀ f₀ insert ocf j (m .course) (withFile f k (m .source)) areas′ lists′
 turn-to d t e = rw e (turn d t)
 
+-- A round may end with any turn that it came to.
+ends-with :
+    {writing : Bool} {c₀ c : Course} {f₀ f : Files} {insert ocf areas lists areas′ lists′ : List ℕ} {k : ℕ} {m : Move}
+    → Dealt writing c₀ f₀ insert ocf k c f areas lists → TakenAt k writing c (fileOf f k) insert ocf areas lists m areas′ lists′
+    → Rounded writing c₀ f₀ insert ocf (record { course = m .course; last = k })
+ends-with d t =
+    record { before = _; files = _; areas = _; lists = _; dealt = d; move = _; areas′ = _; lists′ = _; taken = t; course = refl }
+
 abbrev Inv-loop : tie.InvT-loop
 Inv-loop way insert ocf areas₀ lists₀ f₀ course₀ k₀ last₀ turns₀ areas lists f course k last turns =
     (k < 8) × (length areas ≡ 524288) × (length lists ≡ 2048) × (last < 8)
@@ -85,18 +93,7 @@ loop-again c =
       search needs,
       search needs,
       turn-to (l .4) (c₈ .turn-at .ensures) (c .next-place .ensures .0),
-      λ h. record {
-        before = _;
-        files = _;
-        areas = _;
-        lists = _;
-        dealt = l .4;
-        move = _;
-        areas′ = _;
-        lists′ = _;
-        taken = c₈ .turn-at .ensures;
-        course = refl;
-      },
+      λ h. ends-with (l .4) (c₈ .turn-at .ensures),
     )
 
 returns : tie.Need-returns Inv-loop μ-loop
@@ -108,18 +105,7 @@ returns-2 c =
     let c₇ = c .before .before .before .before .before .before .before in
     let l = c₇ .before .before .before .before .before .loop .inv in (
       l .0,
-      record {
-        before = _;
-        files = _;
-        areas = _;
-        lists = _;
-        dealt = l .4;
-        move = _;
-        areas′ = _;
-        lists′ = _;
-        taken = c₇ .turn-at .ensures;
-        course = refl;
-      },
+      ends-with (l .4) (c₇ .turn-at .ensures),
     )
 
 pub go-round-spec : {M : Type 1} → statement M

@@ -1,10 +1,8 @@
 -- Number by number; 0 has none.
 use lib.Dec.{lit≤}
-use native.Mathlib.Omega.{arith}
 use Rattle.rules.specs.Listing.{text}
 use Rattle.refusals.specs.Words.{wordsOf}
-use Rattle.unpack_text.proofs.Writes.{wrote-text, wrote-more}
-use Rattle.refusals.proofs.Laws.{words-none, wrote-words, wrote-nothing}
+use Rattle.refusals.proofs.Laws.{wrote-words, none-first}
 use borrow.Author.Needs.{needs}
 use Rattle.refusals.proofs.put_first_words.Statement.{statement}
 use Rattle.refusals.proofs.put_first_words.Tie as tie
@@ -21,7 +19,7 @@ same-length c = search needs
 returns : tie.Need-returns
 unfolding wordsOf text
 returns c = wrote-words 1 (c .before .before .before .before .before .if1 .taken)
-    (wrote-more 128 (lit≤ tt) (wrote-text (c .before .before .put-text .ensures)))
+    (lit≤ tt) (c .before .before .put-text .ensures)
 
 slice-aggregate-put-text-2 : tie.Need-slice-aggregate-put-text-2
 slice-aggregate-put-text-2 c = search needs
@@ -35,7 +33,7 @@ same-length-2 c = search needs
 returns-2 : tie.Need-returns-2
 unfolding wordsOf text
 returns-2 c = wrote-words 2 (c .before .before .before .before .before .if2 .taken)
-    (wrote-more 128 (lit≤ tt) (wrote-text (c .before .before .put-text2 .ensures)))
+    (lit≤ tt) (c .before .before .put-text2 .ensures)
 
 slice-aggregate-put-text-3 : tie.Need-slice-aggregate-put-text-3
 slice-aggregate-put-text-3 c = search needs
@@ -49,7 +47,7 @@ same-length-3 c = search needs
 returns-3 : tie.Need-returns-3
 unfolding wordsOf text
 returns-3 c = wrote-words 3 (c .before .before .before .before .before .if3 .taken)
-    (wrote-more 128 (lit≤ tt) (wrote-text (c .before .before .put-text3 .ensures)))
+    (lit≤ tt) (c .before .before .put-text3 .ensures)
 
 slice-aggregate-put-text-4 : tie.Need-slice-aggregate-put-text-4
 slice-aggregate-put-text-4 c = search needs
@@ -63,18 +61,12 @@ same-length-4 c = search needs
 returns-4 : tie.Need-returns-4
 unfolding wordsOf text
 returns-4 c = wrote-words 4 (c .before .before .before .before .before .if4 .taken)
-    (wrote-more 128 (lit≤ tt) (wrote-text (c .before .before .put-text4 .ensures)))
+    (lit≤ tt) (c .before .before .put-text4 .ensures)
 
 returns-5 : tie.Need-returns-5
-returns-5 c = wrote-nothing 128 _ _ (words-none _
-    (omega (
-      arith,
-      c .if4 .left,
-      c .before .if3 .left,
-      c .before .before .if2 .left,
-      c .before .before .before .if1 .left,
-      c .before .before .before .before .before .pre .0,
-    )))
+returns-5 c =
+    none-first (c .before .before .before .before .before .pre .0) (c .before .before .before .if1 .left) (c .before .before .if2 .left)
+    (c .before .if3 .left) (c .if4 .left)
 
 pub put-first-words-spec : {M : Type 1} → statement M
 put-first-words-spec =

@@ -3,7 +3,6 @@ use lib.Dec.{lit≤}
 use native.Mathlib.Omega.{arith}
 use Rattle.rules.specs.Listing.{text}
 use Rattle.refusals.specs.Words.{wordsOf}
-use Rattle.unpack_text.proofs.Writes.{wrote-text, wrote-more}
 use Rattle.refusals.proofs.Laws.{wrote-words}
 use borrow.Author.Needs.{needs}
 use Rattle.refusals.proofs.put_header_words.Statement.{statement}
@@ -21,7 +20,7 @@ same-length c = search needs
 returns : tie.Need-returns
 unfolding wordsOf text
 returns c = wrote-words 5 (c .before .before .before .before .before .if1 .taken)
-    (wrote-more 128 (lit≤ tt) (wrote-text (c .before .before .put-text .ensures)))
+    (lit≤ tt) (c .before .before .put-text .ensures)
 
 slice-aggregate-put-text-2 : tie.Need-slice-aggregate-put-text-2
 slice-aggregate-put-text-2 c = search needs
@@ -35,7 +34,7 @@ same-length-2 c = search needs
 returns-2 : tie.Need-returns-2
 unfolding wordsOf text
 returns-2 c = wrote-words 6 (c .before .before .before .before .before .if2 .taken)
-    (wrote-more 128 (lit≤ tt) (wrote-text (c .before .before .put-text2 .ensures)))
+    (lit≤ tt) (c .before .before .put-text2 .ensures)
 
 slice-aggregate-put-text-3 : tie.Need-slice-aggregate-put-text-3
 slice-aggregate-put-text-3 c = search needs
@@ -49,7 +48,7 @@ same-length-3 c = search needs
 returns-3 : tie.Need-returns-3
 unfolding wordsOf text
 returns-3 c = wrote-words 7 (c .before .before .before .before .before .if3 .taken)
-    (wrote-more 128 (lit≤ tt) (wrote-text (c .before .before .put-text3 .ensures)))
+    (lit≤ tt) (c .before .before .put-text3 .ensures)
 
 slice-aggregate-put-text-4 : tie.Need-slice-aggregate-put-text-4
 slice-aggregate-put-text-4 c = search needs
@@ -72,7 +71,7 @@ returns-4 c =
       c .before .before .before .before .before .before .before .if1 .left,
       c₈ .before .pre .0,
       c₈ .before .pre .1,
-    )) (wrote-more 128 (lit≤ tt) (wrote-text (c .before .before .put-text4 .ensures)))
+    )) (lit≤ tt) (c .before .before .put-text4 .ensures)
 
 pub put-header-words-spec : {M : Type 1} → statement M
 put-header-words-spec =

@@ -1,7 +1,7 @@
 -- Lanes and channels, refusals, and the last line.
 use native.Mathlib.Omega.{arith}
 use Rattle.refusals.specs.Words.{totalsText}
-use Rattle.unpack_text.proofs.Writes.{wrote-three, wrote-length}
+use Rattle.unpack_text.proofs.Writes.{wrote-three, room-after}
 use borrow.Author.Needs.{needs}
 use Rattle.refusals.proofs.put_totals.Statement.{statement}
 use Rattle.refusals.proofs.put_totals.Tie as tie
@@ -17,26 +17,14 @@ put-places-requires c κs = (
 put-refusals-requires : tie.Need-put-refusals-requires
 put-refusals-requires c κs =
     let c₈ = c .before .before .before .before .before .before .before .before in
-    let w = c .before .before .before .put-places .ensures in
-    omega (arith, w .most, w .put .ends, wrote-length w (omega (arith, c₈ .before .pre .2)), c₈ .before .pre .2)
+    room-after 2244 (c .before .before .before .put-places .ensures) (omega (arith, c₈ .before .pre .2))
 
 put-last-requires : tie.Need-put-last-requires
 put-last-requires c κs =
     let c₈ = c .before .before .before .before .before .before .before .before in
-    let v = c .before .before .before .put-refusals .ensures in
-    let w = c .before .before .before .before .before .before .before .put-places .ensures in
-    let k = wrote-length w (omega (arith, c₈ .before .before .before .before .before .pre .2)) in
-    omega (
-      arith,
-      v .most,
-      v .put .ends,
-      w .most,
-      w .put .ends,
-      k,
-      wrote-length v
-          (omega (arith, w .most, w .put .ends, k, c₈ .before .before .before .before .before .pre .2)),
-      c₈ .before .before .before .before .before .pre .2,
-    )
+    room-after 306 (c .before .before .before .put-refusals .ensures)
+    (room-after 2550 (c .before .before .before .before .before .before .before .put-places .ensures)
+    (omega (arith, c₈ .before .before .before .before .before .pre .2)))
 
 same-length : tie.Need-same-length
 same-length c = search needs

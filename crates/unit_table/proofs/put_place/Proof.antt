@@ -2,7 +2,7 @@
 use native.Mathlib.Omega.{arith}
 use Rattle.rules.specs.Listing.{text}
 use Rattle.unit_table.specs.Rows.{placeText}
-use Rattle.unpack_text.proofs.Writes.{wrote-decimal, wrote-three, wrote-length}
+use Rattle.unpack_text.proofs.Writes.{wrote-decimal, wrote-three, room-after}
 use borrow.Author.Needs.{needs}
 use Rattle.unit_table.proofs.put_place.Statement.{statement}
 use Rattle.unit_table.proofs.put_place.Tie as tie
@@ -14,14 +14,9 @@ slice-aggregate-put-named : tie.Need-slice-aggregate-put-named
 slice-aggregate-put-named c = search needs
 
 put-named-requires : tie.Need-put-named-requires
-put-named-requires c κs = let w = wrote-decimal _ (c .before .before .before .before .put-decimal .ensures) in omega (
-  arith,
-  w .most,
-  w .put .ends,
-  wrote-length w
-      (omega (arith, c .before .before .before .before .before .before .before .pre)),
-  c .before .before .before .before .before .before .before .pre,
-)
+put-named-requires c κs =
+    let c₇ = c .before .before .before .before .before .before .before in
+    omega (arith, room-after 21 (wrote-decimal _ (c .before .before .before .before .put-decimal .ensures)) (omega (arith, c₇ .pre)))
 
 slice-aggregate-put-named-2 : tie.Need-slice-aggregate-put-named-2
 slice-aggregate-put-named-2 c = search needs
@@ -29,20 +24,8 @@ slice-aggregate-put-named-2 c = search needs
 put-named-requires-2 : tie.Need-put-named-requires-2
 put-named-requires-2 c κs =
     let c₈ = c .before .before .before .before .before .before .before .before in
-    let w = wrote-decimal _ (c₈ .before .put-decimal .ensures) in
-    let v = c .before .before .before .before .put-named .ensures in
-    let k = wrote-length w (omega (arith, c₈ .before .before .before .before .pre)) in
-    omega (
-      arith,
-      v .most,
-      v .put .ends,
-      w .most,
-      w .put .ends,
-      k,
-      wrote-length v
-          (omega (arith, w .most, w .put .ends, k, c₈ .before .before .before .before .pre)),
-      c₈ .before .before .before .before .pre,
-    )
+    let k = room-after 42 (wrote-decimal _ (c₈ .before .put-decimal .ensures)) (omega (arith, c₈ .before .before .before .before .pre)) in
+    omega (arith, room-after 21 (c .before .before .before .before .put-named .ensures) (omega (arith, k)))
 
 same-length : tie.Need-same-length
 same-length c = search needs
