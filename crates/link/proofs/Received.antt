@@ -11,14 +11,14 @@ use lib.Seq.{take-take, getD-take, getD-set-same, getD-set-other}
 use borrow.Author.Tests.{leb-true, le-ltb, eq-eqb, ne-eqb}
 use Rattle.rules.specs.declared.Lane.{Lane}
 use Rattle.rules.specs.declared.Setting.{Setting}
-use Rattle.rules.specs.declared.Expect.{Expect}
+use Rattle.rules.specs.declared.Expects.{Expects}
 use Rattle.rules.specs.declared.Slot.{Slot}
 use Rattle.rules.specs.declared.Reader.{Reader}
 use Rattle.rules.specs.declared.Gap.{Gap}
 use Rattle.rules.specs.declared.Verdict.{Verdict}
 use Rattle.rules.specs.Tests.{_≤?_, _=?_, _≠?_, given}
 use Rattle.rules.specs.Areas.{laid, joined, part, heldSize, partSize, recordsSize, unitsSize}
-use Rattle.rules.specs.Settings.{noLane, noExpect, noSlot, lane, channelOf, zone, readerOk}
+use Rattle.rules.specs.Settings.{noLane, noSlot, lane, expectOn, expecting, channelOf, zone, readerOk}
 use Rattle.rules.specs.Frames.{ruleIn, pointerIn, zoneIn, pointsTo}
 use Rattle.rules.specs.Writing.{zoneOf, ruleOf, pointerOf}
 use Rattle.rules.specs.Reading.{missing, expected, emptied, lanesOf, gapBy, gap, octetsOf, Made, keeps, laneStep}
@@ -61,7 +61,7 @@ module _ (r : Reader) (f h : List ℕ) (a : Lent) (no : inert (r .setting) f ≡
 
 -- ---- the reader's state by its parts
 
-abbrev pub reader : Setting → List Expect → List Slot → Reader
+abbrev pub reader : Setting → Expects → List Slot → Reader
 reader s es hs = record { setting = s; expects = es; slots = hs }
 
 -- What lane l holds: the first octets of its part of the held area.
@@ -166,28 +166,28 @@ enough-areas h a e q =
     rw (eq-eqb (length h) 65536 e, le-ltb _ _ u, le-ltb _ _ c)
 
 -- The slots once the count v of a frame of lane i is taken.
-abbrev pub gapped : Setting → List Expect → List Slot → ℕ → ℕ → List Slot
-gapped s es hs i v = left s (placeOf s i) (missing ((channelOf s i) .octets) (getD es (placeOf s i) noExpect) v) hs
+abbrev pub gapped : Setting → Expects → List Slot → ℕ → ℕ → List Slot
+gapped s es hs i v = left s (placeOf s i) (missing ((channelOf s i) .octets) (expectOn es (placeOf s i)) v) hs
 
 -- What lane i makes of frame k of the batch b.
-unfoldable pub makes : Setting → List Expect → List Slot → List ℕ → ℕ → ℕ → List ℕ → ℕ → Made
+unfoldable pub makes : Setting → Expects → List Slot → List ℕ → ℕ → ℕ → List ℕ → ℕ → Made
 makes s es hs h i v b k =
     laneStep ((lane s i) .kind) ((lane s i) .longest) (ruleOf ((lane s i) .kind) k) (holds (gapped s es hs i v) h i)
     (pointsTo (pointerOf ((lane s i) .kind) (zone s (channelOf s i)) b k)) (zoneOf ((lane s i) .kind) (zone s (channelOf s i)) b k)
 
 -- The reader once lane i has made this of a frame with count v.
-abbrev pub readerAfter : Setting → List Expect → List Slot → ℕ → ℕ → Made → Reader
+abbrev pub readerAfter : Setting → Expects → List Slot → ℕ → ℕ → Made → Reader
 readerAfter s es hs i v m =
-    reader s (set es (placeOf s i) (expected ((channelOf s i) .octets) v)) (set (gapped s es hs i v) i (keeps m))
+    reader s (expecting es (placeOf s i) (expected ((channelOf s i) .octets) v)) (set (gapped s es hs i v) i (keeps m))
 
 -- What a read of it gives.
-pub record Taken (s : Setting) (es : List Expect) (hs : List Slot) (h : List ℕ) (i v : ℕ) (m : Made) (o : Got) : Type 0 where
+pub record Taken (s : Setting) (es : Expects) (hs : List Slot) (h : List ℕ) (i v : ℕ) (m : Made) (o : Got) : Type 0 where
   pub state : o .taken .state ≡ readerAfter s es hs i v m
   pub area : o .heldArea ≡ laid h (partSize * i) (m .held)
   pub units : (l : ℕ) → handed l o ≡ cond (i =? l) ((yield m) .units) []
   pub small : length (m .held) ≤ 8192
 
-module _ (s : Setting) (es : List Expect) (hs : List Slot) (h : List ℕ) (a : Lent) (i v : ℕ) where
+module _ (s : Setting) (es : Expects) (hs : List Slot) (h : List ℕ) (a : Lent) (i v : ℕ) where
   abbrev c : ℕ
   c = placeOf s i
 
@@ -200,12 +200,12 @@ module _ (s : Setting) (es : List Expect) (hs : List Slot) (h : List ℕ) (a : L
   abbrev made : List ℕ → ℕ → Made
   made b k = makes s es hs h i v b k
 
-  gap-state : (gap (reader s es hs) c v) .state ≡ reader s (set es c (expected n v)) after
+  gap-state : (gap (reader s es hs) c v) .state ≡ reader s (expecting es c (expected n v)) after
   unfolding gap left
-  gap-state = go (missing n (getD es c noExpect) v)
+  gap-state = go (missing n (expectOn es c) v)
     where
-      go : (m : ℕ) → (gapBy (reader s (set es c (expected n v)) hs) c m) .state
-          ≡ reader s (set es c (expected n v)) (cond (m =? 0) hs (emptied (λ (l : Lane). l .channel =? c) (lanesOf s) hs))
+      go : (m : ℕ) → (gapBy (reader s (expecting es c (expected n v)) hs) c m) .state
+          ≡ reader s (expecting es c (expected n v)) (cond (m =? 0) hs (emptied (λ (l : Lane). l .channel =? c) (lanesOf s) hs))
       go zero = unfold gapBy in refl
       go (suc m) = unfold gapBy in rw (ne-eqb (suc m) 0 (suc-ne-zero m))
 

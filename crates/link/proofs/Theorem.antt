@@ -8,18 +8,17 @@ use mathlib.Core.List.{List, [], _∷_, _++_}
 use lib.ListN.{length, getD, take, replicate, getD-replicate, length-replicate, List·getD-eq-default}
 use Rattle.rules.specs.declared.Setting.{Setting}
 use Rattle.rules.specs.declared.Slot.{Slot}
-use Rattle.rules.specs.declared.Expect.{Expect}
 use Rattle.rules.specs.declared.Writer.{Writer}
 use Rattle.rules.specs.declared.Listener.{Listener}
 use Rattle.rules.specs.declared.Sender.{Sender}
 use Rattle.rules.specs.declared.Outcome.the-variants.{Done, Refused}
 use Rattle.rules.specs.Areas.{part, heldSize}
-use Rattle.rules.specs.Settings.{noExpect, noSlot, channelOf, zone, settingOk, freshReader, freshWriter, noWriter}
+use Rattle.rules.specs.Settings.{noSlot, channelOf, zone, settingOk, freshReader, freshWriter, noWriter}
 use Rattle.rules.specs.Calls.{setUpReader, setUpWriter}
 use Rattle.rules.proofs.Tests.{split, and-left, and-right}
 use Rattle.rules.proofs.Octets.{pow256-pos}
 use Rattle.rules.proofs.Valid.{good}
-use Rattle.rules.proofs.States.{fresh-reader}
+use Rattle.rules.proofs.States.{fresh-reader, none-expected}
 use Rattle.rules.proofs.Calls.{setup-accepted}
 use Rattle.link.specs.Link.{Arrival, Passage, Kept, Gone, Call, Frame, placeOf, frameBy, sent, arrivals, reads, handedOut}
 use Rattle.link.specs.Due.{due}
@@ -80,16 +79,13 @@ module _ (s : Setting) (h : List ℕ) (full : length h ≡ heldSize) where
   fresh ok =
       record {
         writer = record { setting = refl; counts = refl; next = refl };
-        hearer = record { setting = refl; expects = refl; slots = refl; area = full; valid = fresh-reader s ok };
+        hearer = record { setting = refl; counts = refl; known = refl; slots = refl; area = full; valid = fresh-reader s ok };
         start = λ l b. ap (λ (i : ℕ). i * zone s (channelOf s l)) (zeros 8 l) ∙ zero-mul _;
-        unknown = λ l lh. ap (λ (x : Expect). x .known) (none l lh);
-        below = λ l lh. rw (none l lh) (pow256-pos ((channelOf s l) .octets));
+        unknown = λ l lh. none-expected (placeOf s l) (channel-8 s (good s ok) l lh);
+        below = λ l lh. rw (zeros 8 (placeOf s l)) (pow256-pos ((channelOf s l) .octets));
         held = λ l lh. ap (λ (x : Slot). take (x .held) (part l h)) (empty l lh);
       }
     where
-      none : (l : ℕ) → l < s .numbered → getD (replicate 8 noExpect) (placeOf s l) noExpect ≡ noExpect
-      none l lh = getD-replicate 8 (placeOf s l) noExpect noExpect (channel-8 s (good s ok) l lh)
-
       empty : (l : ℕ) → l < s .numbered → getD (replicate 8 noSlot) l noSlot ≡ noSlot
       empty l lh = getD-replicate 8 l noSlot noSlot (omega (arith, good s ok .numbered))
 

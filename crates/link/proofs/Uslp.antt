@@ -12,18 +12,19 @@ use lib.Seq.{getD-set-same, getD-set-other}
 use borrow.Author.Tests.{ne-eqb, eq-eqb}
 use Rattle.rules.specs.declared.Kind.{Kind}
 use Rattle.rules.specs.declared.Setting.{Setting}
-use Rattle.rules.specs.declared.Expect.{Expect}
+use Rattle.rules.specs.declared.Expects.{Expects}
 use Rattle.rules.specs.declared.Slot.{Slot}
 use Rattle.rules.specs.declared.Reader.{Reader}
 use Rattle.rules.specs.declared.Writer.{Writer}
 use Rattle.rules.specs.declared.Outcome.the-variants.{Done}
 use Rattle.rules.specs.Tests.{given}
 use Rattle.rules.specs.Areas.{laid, heldSize, partSize}
-use Rattle.rules.specs.Settings.{noExpect, channel, lane, channelOf, expect, count, number, zone, readerOk}
+use Rattle.rules.specs.Settings.{channel, lane, channelOf, expectOn, expect, expecting, count, number, zone, readerOk}
 use Rattle.rules.specs.Writing.{unitsOf, countAfter, writerAfter}
 use Rattle.rules.specs.Reading.{missing, expected, Made, keeps}
 use Rattle.rules.specs.Calls.{writeRefusals, written, write, Got, read}
 use Rattle.rules.specs.Valid.{Good}
+use Rattle.rules.proofs.States
 use Rattle.rules.proofs.Valid.{good-channelOf}
 use Rattle.rules.proofs.Calls.{Accepted, none-refused, accepted}
 use Rattle.rules.proofs.Written.{FrameBack, write-back, zone-small}
@@ -57,7 +58,8 @@ module _ (s : Setting) where
 
   pub record SoundHearer (r : Hearer) : Type 0 where
     pub setting : r .reader .setting ≡ s
-    pub expects : length (r .reader .expects) ≡ 8
+    pub counts : length (r .reader .expects .counts) ≡ 8
+    pub known : length (r .reader .expects .known) ≡ 8
     pub slots : length (r .reader .slots) ≡ 8
     pub area : length (r .area) ≡ heldSize
     pub valid : readerOk (r .reader) ≡ true
@@ -172,7 +174,7 @@ module _ (w : Writer) (last : ℕ → List ℕ) (x : Call) (go : (uslp (w .setti
 
   -- ---- a kept frame, read by a reader of the same setting
 
-  module _ (es : List Expect) (hs : List Slot) (h : List ℕ) (lent : Lent) (r : SoundHearer s (record { reader = reader s es hs; area = h }))
+  module _ (es : Expects) (hs : List Slot) (h : List ℕ) (lent : Lent) (r : SoundHearer s (record { reader = reader s es hs; area = h }))
       (fits : enough lent ≡ true) where
     abbrev v : ℕ
     v = count w (placeOf s i)
@@ -199,7 +201,8 @@ module _ (w : Writer) (last : ℕ → List ℕ) (x : Call) (go : (uslp (w .setti
     sound =
         record {
           setting = refl;
-          expects = rw length-set (r .expects);
+          counts = rw length-set (r .counts);
+          known = rw length-set (r .known);
           slots = rw length-set gap-8;
           area = stored-length hs h (made .held) (keeps made) refl i lane-8 (r .slots) (r .area) (took .small);
           valid =
@@ -210,16 +213,16 @@ module _ (w : Writer) (last : ℕ → List ℕ) (x : Call) (go : (uslp (w .setti
     expect-same : (l : ℕ) → l < s .numbered → placeOf s i ≡ placeOf s l
         → expect (after .reader) (placeOf s l) ≡ expected ((channelOf s l) .octets) (count w (placeOf s l))
     expect-same l lh e =
-        ap (λ (c : ℕ). getD (set es c (expected ((channel s c) .octets) (count w c))) (placeOf s l) noExpect) e
-        ∙ getD-set-same es (placeOf s l) _ noExpect (omega (arith, r .expects, channel-8 s g l lh))
+        ap (λ (c : ℕ). expectOn (expecting es c (expected ((channel s c) .octets) (count w c))) (placeOf s l)) e
+        ∙ States.expect-same es (placeOf s l) _ (omega (arith, r .counts, channel-8 s g l lh)) (omega (arith, r .known, channel-8 s g l lh))
 
     abbrev holding : ℕ → List ℕ
-    holding l = heldAfter ((channelOf s l) .octets) (getD es (placeOf s l) noExpect) (count w (placeOf s l)) (holds hs h l)
+    holding l = heldAfter ((channelOf s l) .octets) (expectOn es (placeOf s l)) (count w (placeOf s l)) (holds hs h l)
 
     gap-same : (l : ℕ) → l < s .numbered → placeOf s i ≡ placeOf s l → holds gap h l ≡ holding l
     unfolding heldAfter
     gap-same l lh e =
-        ap (λ (c : ℕ). holds (left s c (missing ((channel s c) .octets) (getD es c noExpect) (count w c)) hs) h l) e ∙ holds-gap s g l lh _ hs h
+        ap (λ (c : ℕ). holds (left s c (missing ((channel s c) .octets) (expectOn es c) (count w c)) hs) h l) e ∙ holds-gap s g l lh _ hs h
 
     held-apart : (l : ℕ) → (i ≡ l → ⊥) → holds (after .reader .slots) (after .area) l ≡ holds gap h l
     held-apart l n = stored-other gap h (made .held) (keeps made) refl i lane-8 gap-8 (r .area) (took .small) l (λ e. n (sym e))
@@ -242,7 +245,7 @@ module _ (w : Writer) (last : ℕ → List ℕ) (x : Call) (go : (uslp (w .setti
         record {
           sound = sound;
           expect-on = expect-same;
-          expect-other = λ l n. getD-set-other es (placeOf s i) (placeOf s l) _ noExpect (λ e. n (sym e));
+          expect-other = λ l n. States.expect-other es (placeOf s i) _ (placeOf s l) (λ e. n (sym e));
           held-beside = λ l lh e n. held-apart l n ∙ gap-same l lh e;
           held-other = λ l lh e n. held-apart l n ∙ holds-other s g l lh (placeOf s i) _ hs h (λ q. e (sym q));
           none = λ l n. took .units l ∙ ap (λ (t : Bool). cond t ((yield made) .units) []) (ne-eqb i l n);

@@ -1,6 +1,6 @@
 -- States: fresh ones are valid, those of zeros are not, and a valid one stays valid when a count is taken, lanes drop what they hold,
 -- a lane holds something else, or a frame is written.
-use mathlib.Core.Path.{_≡_, refl, ap}
+use mathlib.Core.Path.{_≡_, refl, ap, ap₂}
 use mathlib.Core.Logic.{_≢_}
 use Prim.Native.Nat.{ℕ, zero, suc, _+_, _-_, _*_, _^_, _≤_, _<_}
 use native.Mathlib.Nat.{mod-lt, not-suc-le-zero, div-le-of-le-mul}
@@ -8,21 +8,23 @@ use native.Mathlib.Omega.{arith}
 use mathlib.Core.Bool.{Bool, true, false, cond}
 use mathlib.Core.List.{List, [], _∷_}
 use lib.ListN.{length, getD, set, replicate, getD-replicate}
+use lib.Seq.{getD-set-same, getD-set-other}
 use borrow.Author.Tests.{lt-ltb, le-leb, leb-true, eqb-false}
 use Rattle.rules.specs.declared.Kind.{Kind}
 use Rattle.rules.specs.declared.Kind.the-variants.{Packets, Access}
 use Rattle.rules.specs.declared.Lane.{Lane}
 use Rattle.rules.specs.declared.Setting.{Setting}
 use Rattle.rules.specs.declared.Expect.{Expect}
+use Rattle.rules.specs.declared.Expects.{Expects}
 use Rattle.rules.specs.declared.Slot.{Slot}
 use Rattle.rules.specs.declared.Reader.{Reader}
 use Rattle.rules.specs.declared.Writer.{Writer}
 use Rattle.rules.specs.Tests.{_<?_, _=?_, all, every}
 use Rattle.rules.specs.Settings
-use Rattle.rules.specs.Settings.{channel, lane, channelOf, expect, countsOf, noSlot, withExpect, withSlot, number, zone, settingOk, readerOk, writerOk, freshReader, freshWriter, noReader, noWriter, noExpect}
+use Rattle.rules.specs.Settings.{channel, lane, channelOf, expectOn, expect, expecting, noExpects, noSlot, withExpect, withSlot, number, zone, settingOk, readerOk, writerOk, freshReader, freshWriter, noReader, noWriter}
 use Rattle.rules.specs.Writing.{batchOk, frames, numberAfter, countAfter, writerAfter}
 use Rattle.rules.specs.Reading.{missing, expected, emptied, lanesOf, gapBy, gap}
-use Rattle.rules.proofs.Tests.{all-at, all-cons, all-nil, at-every, every-same}
+use Rattle.rules.proofs.Tests.{all-at, all-cons, all-nil, at-every}
 use Rattle.rules.proofs.Octets.{pow256-pos}
 use Rattle.rules.proofs.Counts.{expected-below}
 use Rattle.rules.specs.Valid.{GoodReader, GoodWriter}
@@ -45,25 +47,21 @@ writer-ok w g =
     (all-cons _ _ (at-every _ (w .setting .listed) (λ c h. lt-ltb _ _ (g .counts c h)))
     (all-cons _ _ (at-every _ (w .setting .numbered) (λ l h. le-leb _ _ (g .numbers l h))) all-nil))
 
--- ---- the counts that a reader expects
+-- ---- what is expected
 
-counts-at : (xs : List Expect) (c : ℕ) → c < 8 → getD (countsOf xs) c 0 ≡ (getD xs c noExpect) .count
-unfolding countsOf
-counts-at xs zero h = refl
-counts-at xs (suc zero) h = refl
-counts-at xs (suc (suc zero)) h = refl
-counts-at xs (suc (suc (suc zero))) h = refl
-counts-at xs (suc (suc (suc (suc zero)))) h = refl
-counts-at xs (suc (suc (suc (suc (suc zero))))) h = refl
-counts-at xs (suc (suc (suc (suc (suc (suc zero)))))) h = refl
-counts-at xs (suc (suc (suc (suc (suc (suc (suc zero))))))) h = refl
-counts-at xs (suc (suc (suc (suc (suc (suc (suc (suc c)))))))) h = absurd (omega (arith, h))
+module _ (xs : Expects) (c : ℕ) (e : Expect) where
+  pub expect-same : c < length (xs .counts) → c < length (xs .known) → expectOn (expecting xs c e) c ≡ e
+  expect-same h k =
+      ap₂ (λ (n : ℕ) (b : Bool). record { known = b; count = n }) (getD-set-same (xs .counts) c (e .count) 0 h)
+      (getD-set-same (xs .known) c (e .known) false k)
 
--- They are judged as a writer's are.
-pub expects-judged : (s : Setting) (xs : List Expect) → s .listed ≤ 8
-    → every (s .listed) (λ (c : ℕ). getD (countsOf xs) c 0 <? 256 ^ (channel s c) .octets)
-    ≡ every (s .listed) (λ (c : ℕ). (getD xs c noExpect) .count <? 256 ^ (channel s c) .octets)
-expects-judged s xs h = every-same _ _ (s .listed) (λ c l. ap (λ (x : ℕ). x <? 256 ^ (channel s c) .octets) (counts-at xs c (omega arith)))
+  pub expect-other : (d : ℕ) → d ≢ c → expectOn (expecting xs c e) d ≡ expectOn xs d
+  expect-other d h =
+      ap₂ (λ (n : ℕ) (b : Bool). record { known = b; count = n }) (getD-set-other (xs .counts) c d (e .count) 0 h)
+      (getD-set-other (xs .known) c d (e .known) false h)
+
+pub none-expected : (c : ℕ) → c < 8 → (expectOn noExpects c) .known ≡ false
+none-expected c h = getD-replicate 8 c false false h
 
 -- ---- fresh states
 
@@ -79,7 +77,7 @@ module _ (s : Setting) (ok : settingOk s ≡ true) where
         ok = ok;
         setting = good s ok;
         counts = λ c h.
-            rw (getD-replicate 8 c noExpect noExpect (omega (arith, good s ok .listed))) (pow256-pos ((channel s c) .octets));
+            rw (zeros c (omega (arith, good s ok .listed))) (pow256-pos ((channel s c) .octets));
         held = λ l h.
             let k = good s ok .lanes l h .kind in
             rw (getD-replicate 8 l noSlot noSlot (omega (arith, good s ok .numbered))) (some-longest _ _ _ k);
@@ -150,7 +148,7 @@ module _ (r : Reader) where
         ok = g .ok;
         setting = g .setting;
         counts = λ i h.
-            set-cases (λ (e : Expect). e .count < 256 ^ (channel (r .setting) i) .octets) (r .expects) c i _ noExpect
+            set-cases (λ (x : ℕ). x < 256 ^ (channel (r .setting) i) .octets) (r .expects .counts) c i _ 0
             (λ q. rw q (expected-below ((channel (r .setting) c) .octets) k)) (g .counts i h);
         held = g .held;
       }

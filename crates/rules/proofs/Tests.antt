@@ -1,5 +1,5 @@
 -- Laws of the tests: what passes all of them passes each; look-up finds the first; the refusal given.
-use mathlib.Core.Path.{_≡_, refl, sym, ap, ap₂, _∙_}
+use mathlib.Core.Path.{_≡_, refl, sym, ap, _∙_}
 use Prim.Native.Nat.{ℕ, zero, suc, _≤_, _<_}
 use native.Mathlib.Nat.{not-suc-le-zero, le-antisymm, lt-of-not-le}
 use native.Mathlib.Decide.{decLe}
@@ -65,11 +65,6 @@ module _ (p : ℕ → Bool) where
   unfolding every
   at-every zero h = refl
   at-every (suc n) h = and-both (every n p) (p n) (at-every n (λ i l. h i (omega arith))) (h n (omega arith))
-
-  pub every-same : (q : ℕ → Bool) (n : ℕ) → ((i : ℕ) → i < n → p i ≡ q i) → every n p ≡ every n q
-  unfolding every
-  every-same q zero h = refl
-  every-same q (suc n) h = ap₂ _&&_ (every-same q n (λ i l. h i (omega arith))) (h n (omega arith))
 
   pub every-not : (n i : ℕ) → i < n → p i ≡ false → every n p ≡ false
   every-not n i h e = go (every n p) refl

@@ -9,6 +9,7 @@ use Rattle.rules.specs.declared.Channel.{Channel}
 use Rattle.rules.specs.declared.Lane.{Lane}
 use Rattle.rules.specs.declared.Setting.{Setting}
 use Rattle.rules.specs.declared.Expect.{Expect}
+use Rattle.rules.specs.declared.Expects.{Expects}
 use Rattle.rules.specs.declared.Slot.{Slot}
 use Rattle.rules.specs.declared.Reader.{Reader}
 use Rattle.rules.specs.declared.Writer.{Writer}
@@ -22,8 +23,8 @@ noChannel = record { vc = 0; service = 0; octets = 0; ocf = false }
 abbrev pub noLane : Lane
 noLane = record { channel = 0; map = 0; kind = Packets; longest = 0; upid = 0 }
 
-abbrev pub noExpect : Expect
-noExpect = record { known = false; count = 0 }
+abbrev pub noExpects : Expects
+noExpects = record { counts = replicate 8 0; known = replicate 8 false }
 
 abbrev pub noSlot : Slot
 noSlot = record { held = 0 }
@@ -38,14 +39,12 @@ lane s l = getD (s .lanes) l noLane
 abbrev pub channelOf : Setting → ℕ → Channel
 channelOf s l = channel s ((lane s l) .channel)
 
-abbrev pub expect : Reader → ℕ → Expect
-expect r c = getD (r .expects) c noExpect
+-- What is expected on channel c.
+abbrev pub expectOn : Expects → ℕ → Expect
+expectOn xs c = record { known = getD (xs .known) c false; count = getD (xs .counts) c 0 }
 
--- The eight counts that are expected, whether they are or not.
-unfoldable pub countsOf : List Expect → List ℕ
-countsOf xs =
-    (getD xs 0 noExpect) .count ∷ (getD xs 1 noExpect) .count ∷ (getD xs 2 noExpect) .count ∷ (getD xs 3 noExpect) .count
-    ∷ (getD xs 4 noExpect) .count ∷ (getD xs 5 noExpect) .count ∷ (getD xs 6 noExpect) .count ∷ (getD xs 7 noExpect) .count ∷ []
+abbrev pub expect : Reader → ℕ → Expect
+expect r c = expectOn (r .expects) c
 
 -- What a reader keeps of lane l.
 abbrev pub slot : Reader → ℕ → Slot
@@ -56,8 +55,11 @@ abbrev pub heldBy : Reader → ℕ → ℕ
 heldBy r l = (slot r l) .held
 
 -- With something else expected on channel c, or another slot of lane l, all others as they were.
+abbrev pub expecting : Expects → ℕ → Expect → Expects
+expecting xs c e = record { counts = set (xs .counts) c (e .count); known = set (xs .known) c (e .known) }
+
 abbrev pub withExpect : Reader → ℕ → Expect → Reader
-withExpect r c e = record { setting = r .setting; expects = set (r .expects) c e; slots = r .slots }
+withExpect r c e = record { setting = r .setting; expects = expecting (r .expects) c e; slots = r .slots }
 
 abbrev pub withSlot : Reader → ℕ → Slot → Reader
 withSlot r l x = record { setting = r .setting; expects = r .expects; slots = set (r .slots) l x }
@@ -155,7 +157,7 @@ settingOk s = all (rangesOk s ∷ channelsOk s ∷ lanesOk s ∷ [])
 
 -- "A fresh reader expects no count, and no lane holds octets."
 unfoldable pub freshReader : Setting → Reader
-freshReader s = record { setting = s; expects = replicate 8 noExpect; slots = replicate 8 noSlot }
+freshReader s = record { setting = s; expects = noExpects; slots = replicate 8 noSlot }
 
 -- "A fresh writer has every count and every lane's next frame number at 0."
 unfoldable pub freshWriter : Setting → Writer
@@ -192,7 +194,7 @@ noSetting =
     }
 
 unfoldable pub noReader : Reader
-noReader = record { setting = noSetting; expects = replicate 8 noExpect; slots = replicate 8 noSlot }
+noReader = record { setting = noSetting; expects = noExpects; slots = replicate 8 noSlot }
 
 unfoldable pub noWriter : Writer
 noWriter = record { setting = noSetting; counts = replicate 8 0; next = replicate 8 0 }

@@ -23,7 +23,7 @@ pub enum Kind {
 // A virtual channel with a service (0 sequence-controlled, 1 expedited), how many octets its count has, and whether its
 // frames have an operational control field.
 pub struct Channel {
-    pub octets: usize,
+    pub octets: u8,
     pub vc: u8,
     pub service: u8,
     pub ocf: bool,
@@ -31,8 +31,8 @@ pub struct Channel {
 
 // A listed channel, by its place in the list; a map; what the lane carries; the longest unit; the protocol number.
 pub struct Lane {
-    pub channel: usize,
-    pub longest: usize,
+    pub longest: u16,
+    pub channel: u8,
     pub kind: Kind,
     pub map: u8,
     pub upid: u8,
@@ -52,10 +52,16 @@ pub struct Setting {
     pub check: bool,
 }
 
-// Whether a count is expected, and which.
+// What a reader expects of a channel: whether it expects a count, and which.
 pub struct Expect {
     pub count: u64,
     pub known: bool,
+}
+
+// What it expects of each channel, counts beside counts: an array of the pairs would be copied piece by piece, for the gap in each.
+pub struct Expects {
+    pub counts: [u64; 8],
+    pub known: [bool; 8],
 }
 
 // What a reader keeps of a lane: how many octets it holds.
@@ -66,7 +72,7 @@ pub struct Slot {
 // A reader's state: of each channel the count that it expects, of each lane its slot.
 pub struct Reader {
     pub setting: Setting,
-    pub expects: [Expect; 8],
+    pub expects: Expects,
     pub slots: [Slot; 8],
 }
 
