@@ -33,7 +33,7 @@ fn put_front(area: &mut [u8], s: Setting, c: Channel, l: Lane, k: u64, insert: &
 {
     let h = header::header_of(s, c, l);
     octets::lay_number(area, 0, 7, h);
-    let n = c.octets;
+    let n = c.octets as usize;
     octets::lay_number(area, 7, n, k);
     octets::lay(area, 7 + n, insert);
 }
@@ -113,7 +113,7 @@ pub fn put_frame(
     let c = x.channel;
     let z = x.zone;
     put_front(area, s, c, a, x.count, insert);
-    let from = 7 + c.octets + insert.len();
+    let from = 7 + c.octets as usize + insert.len();
     let kind = a.kind;
     put_data(area, from, kind, a.upid, z, batch, x.number, start);
     put_end(area, from + 3 + z, ocf, s.check);

@@ -36,7 +36,7 @@ fn emptied_of(s: Setting, c: usize, slots: [Slot; 8]) -> [Slot; 8]
     let mut i: usize = 0;
     while i < n {
         let a = lanes[i];
-        if a.channel == c {
+        if a.channel as usize == c {
             t[i] = none;
         }
         i += 1;
@@ -55,7 +55,7 @@ fn lost_of(s: Setting, c: usize, slots: [Slot; 8]) -> usize
     let mut i: usize = 0;
     while i < n {
         let a = lanes[i];
-        if a.channel == c {
+        if a.channel as usize == c {
             let x = slots[i];
             lost += x.held;
         }
@@ -74,7 +74,7 @@ pub fn gap_of(r: Reader, c: usize, k: u64) -> Gap
     let slots = r.slots;
     let channels = s.channels;
     let ch = channels[c];
-    let n = ch.octets;
+    let n = ch.octets as usize;
     let e = setting::expect_of(expects, c);
     let missing = missing_of(n, e, k);
     let m = octets::modulus(n);

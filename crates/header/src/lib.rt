@@ -71,7 +71,7 @@ pub fn count_in(c: Channel, frame: &[u8]) -> u64
     requires { ⌜ (c .octets ≤ 7) × (insertAt c ≤ length (now frame)) ⌝ }
     ensures { λ r. ⌜ (r ≡ countIn c (now (frame .entry))) × (r < 256 ^ c .octets) ⌝ }
 {
-    let end = 7 + c.octets;
+    let end = 7 + c.octets as usize;
     octets::exact(&frame[7..end])
 }
 

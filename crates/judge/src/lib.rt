@@ -144,7 +144,7 @@ fn judge_data(s: Setting, c: usize, l: usize, k: u64, frame: &[u8]) -> Sighting
     let channels = s.channels;
     let ch = channels[c];
     let z = setting::zone_for(s, ch, frame.len());
-    let at = 7 + ch.octets + s.insert;
+    let at = 7 + ch.octets as usize + s.insert;
     let d = header::data_of(&frame[at..]);
     let wrong = data_wrong(a, z, d);
     if wrong {
@@ -214,7 +214,7 @@ fn judge_listed(s: Setting, c: usize, h: Head, frame: &[u8]) -> Sighting
 {
     let channels = s.channels;
     let ch = channels[c];
-    if h.octets != ch.octets {
+    if h.octets != ch.octets as usize {
         return Sighting::Refused(10);
     }
     let o = flag_of(ch.ocf);

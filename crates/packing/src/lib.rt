@@ -136,7 +136,7 @@ fn lane_of(s: Setting, l: usize) -> Lane
 fn ocf_of(s: Setting, a: Lane) -> usize
     ensures { λ r. ⌜ r ≡ ocfOctets (channel s (a .channel)) ⌝ }
 {
-    let p = a.channel;
+    let p = a.channel as usize;
     if p < 8 {
         let c = s.channels[p];
         return setting::ocf_octets(c);
@@ -274,7 +274,7 @@ fn source_of(s: Setting, l: usize, file: Opened, listed: bool, list: Opened) -> 
         list: window,
         batch: 0,
         lane: l,
-        longest: a.longest,
+        longest: a.longest as usize,
         form: form,
     };
     Source {

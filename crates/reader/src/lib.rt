@@ -44,7 +44,7 @@ fn terms_for(s: Setting, c: usize, l: usize, k: u64) -> Terms
             service: ch.service,
             count: k,
         },
-        longest: a.longest,
+        longest: a.longest as usize,
         kind: kind,
     }
 }

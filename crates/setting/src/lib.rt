@@ -4,13 +4,14 @@ ghost use mathlib.Core.Bool.{true, _&&_};
 ghost use Prim.Native.Nat.{_-_, _^_, _≤_, _<_};
 ghost use lib.ListN.{getD, set};
 ghost use Rattle.rules.specs.Tests.{_≤?_, _<?_, _=?_, every};
-ghost use Rattle.rules.specs.Settings.{noChannel, noLane, noExpect, noSlot, countsOf, channel, lane, number};
+ghost use Rattle.rules.specs.Settings.{noChannel, noLane, noExpects, noSlot, expectOn, expecting, channel, lane, number};
 ghost use Rattle.rules.specs.Settings.{ocfOctets, checkOctets, zoneFor, zone, rangesOk, channelOk, channelsAgree, channelsOk};
 ghost use Rattle.rules.specs.Settings.{kindOk, laneOk, lanesDiffer, lanesOk, settingOk, readerOk, writerOk};
 ghost use Rattle.rules.specs.Settings.{freshReader, freshWriter, noSetting, noReader, noWriter};
 ghost use Rattle.rules.specs.Refusals.{channelAt, laneAt};
 use rules::Channel;
 use rules::Expect;
+use rules::Expects;
 use rules::Kind;
 use rules::Lane;
 use rules::Place;
@@ -56,7 +57,7 @@ pub fn zone_for(s: Setting, c: Channel, n: usize) -> usize
     let ocf = ocf_octets(c);
     let check = check_octets(s);
     let mut room = less(n, 10);
-    room = less(room, c.octets);
+    room = less(room, c.octets as usize);
     room = less(room, s.insert);
     room = less(room, ocf);
     less(room, check)
@@ -221,28 +222,28 @@ fn kind_ok(k: Kind, longest: usize, upid: u8) -> bool
 fn lane_ok(s: Setting, l: Lane) -> bool
     ensures { λ r. ⌜ r ≡ laneOk s l ⌝ }
 {
-    if s.listed <= l.channel {
+    if s.listed <= l.channel as usize {
         return false;
     }
     if 15 < l.map {
         return false;
     }
     let k = l.kind;
-    kind_ok(k, l.longest, l.upid)
+    kind_ok(k, l.longest as usize, l.upid)
 }
 
 // Whether a lane is the one of this channel and map.
 fn lane_is(l: Lane, c: usize, map: u8) -> bool
     ensures { λ r. ⌜ r ≡ (l .channel =? c && l .map =? map) ⌝ }
 {
-    l.channel == c && l.map == map
+    l.channel as usize == c && l.map == map
 }
 
 // Whether two lanes do not share channel and map.
 fn lanes_differ(a: Lane, b: Lane) -> bool
     ensures { λ r. ⌜ r ≡ lanesDiffer a b ⌝ }
 {
-    let same = lane_is(a, b.channel, b.map);
+    let same = lane_is(a, b.channel as usize, b.map);
     !same
 }
 
@@ -340,7 +341,7 @@ fn count_ok(s: Setting, i: usize, x: u64) -> bool
 {
     let channels = s.channels;
     let c = channels[i];
-    let m = octets::modulus(c.octets);
+    let m = octets::modulus(c.octets as usize);
     x < m
 }
 
@@ -363,22 +364,6 @@ fn counts_ok(s: Setting, counts: [u64; 8]) -> bool
     true
 }
 
-// The counts that are expected, whether they are or not.
-pub fn counts_of(x: [Expect; 8]) -> [u64; 8]
-    ensures { λ r. ⌜ r ≡ countsOf x ⌝ }
-{
-    [
-        x[0].count,
-        x[1].count,
-        x[2].count,
-        x[3].count,
-        x[4].count,
-        x[5].count,
-        x[6].count,
-        x[7].count,
-    ]
-}
-
 // Whether each lane holds fewer octets than its longest unit.
 fn held_ok(s: Setting, slots: [Slot; 8]) -> bool
     requires { ⌜ s .numbered ≤ 8 ⌝ }
@@ -390,7 +375,7 @@ fn held_ok(s: Setting, slots: [Slot; 8]) -> bool
     while i < n {
         let l = lanes[i];
         let x = slots[i];
-        if x.held < l.longest {
+        if x.held < l.longest as usize {
             i += 1;
         } else {
             return false;
@@ -407,7 +392,7 @@ pub fn reader_ok(r: Reader) -> bool
     let setting = setting_ok(s);
     if setting {
         let expects = r.expects;
-        let counts = counts_of(expects);
+        let counts = expects.counts;
         let below = counts_ok(s, counts);
         if below {
             let slots = r.slots;
@@ -522,12 +507,12 @@ pub fn no_lane() -> Lane
 }
 
 // No count is expected.
-fn no_expect() -> Expect
-    ensures { λ r. ⌜ r ≡ noExpect ⌝ }
+fn no_expects() -> Expects
+    ensures { λ r. ⌜ r ≡ noExpects ⌝ }
 {
-    Expect {
-        known: false,
-        count: 0,
+    Expects {
+        counts: [0; 8],
+        known: [false; 8],
     }
 }
 
@@ -557,21 +542,31 @@ pub fn with_slot(slots: [Slot; 8], l: usize, x: Slot) -> [Slot; 8]
 }
 
 // What is expected on channel c.
-pub fn expect_of(expects: [Expect; 8], c: usize) -> Expect
+pub fn expect_of(expects: Expects, c: usize) -> Expect
     requires { ⌜ c < 8 ⌝ }
-    ensures { λ r. ⌜ r ≡ getD expects c noExpect ⌝ }
+    ensures { λ r. ⌜ r ≡ expectOn expects c ⌝ }
 {
-    expects[c]
+    let counts = expects.counts;
+    let known = expects.known;
+    Expect {
+        known: known[c],
+        count: counts[c],
+    }
 }
 
 // What is expected, with something else on channel c, all others as they were.
-pub fn with_expect(expects: [Expect; 8], c: usize, e: Expect) -> [Expect; 8]
+pub fn with_expect(expects: Expects, c: usize, e: Expect) -> Expects
     requires { ⌜ c < 8 ⌝ }
-    ensures { λ r. ⌜ r ≡ set expects c e ⌝ }
+    ensures { λ r. ⌜ r ≡ expecting expects c e ⌝ }
 {
-    let mut t = expects;
-    t[c] = e;
-    t
+    let mut counts = expects.counts;
+    let mut known = expects.known;
+    counts[c] = e.count;
+    known[c] = e.known;
+    Expects {
+        counts: counts,
+        known: known,
+    }
 }
 
 // A setting of zeros.
@@ -599,8 +594,7 @@ fn no_setting() -> Setting
 pub fn fresh_reader(s: Setting) -> Reader
     ensures { λ r. ⌜ r ≡ freshReader s ⌝ }
 {
-    let expect = no_expect();
-    let expects = [expect; 8];
+    let expects = no_expects();
     let slot = no_slot();
     let slots = [slot; 8];
     Reader {

@@ -697,7 +697,7 @@ fn channel_of(numbers: [usize; 14]) -> Channel
     Channel {
         vc: v,
         service: b,
-        octets: numbers[OCTETS],
+        octets: numbers[OCTETS] as u8,
         ocf: o,
     }
 }
@@ -720,7 +720,7 @@ fn add_lane(d: Draft, l: Lane) -> Draft
     ensures { λ r. ⌜ r ≡ addLane l d ⌝ }
 {
     let s = d.setting;
-    let p = setting::lane_at(s, l.channel, l.map);
+    let p = setting::lane_at(s, l.channel as usize, l.map);
     let Place::Nowhere = p else {
         return forbidden(d, Wanted::NewMap);
     };
@@ -749,10 +749,10 @@ fn lane_of(channel: usize, numbers: [usize; 14]) -> Lane
     let u = numbers[UPID] as u8;
     let k = kind_of(numbers[UPID]);
     Lane {
-        channel: channel,
+        channel: channel as u8,
         map: m,
         kind: k,
-        longest: numbers[LONGEST],
+        longest: numbers[LONGEST] as u16,
         upid: u,
     }
 }

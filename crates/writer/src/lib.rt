@@ -23,7 +23,7 @@ fn upcoming_of(w: Writer, l: usize) -> Upcoming
     let s = w.setting;
     let lanes = s.lanes;
     let a = lanes[l];
-    let p = a.channel;
+    let p = a.channel as usize;
     let channels = s.channels;
     let c = channels[p];
     let z = setting::zone_of(s, c);
@@ -58,7 +58,7 @@ fn after(w: Writer, l: usize, x: Upcoming, batch: &[u8]) -> Writer
     ensures { λ r. ⌜ r ≡ writerAfter w l (now (batch .entry)) ⌝ }
 {
     let c = x.channel;
-    let m = octets::modulus(c.octets);
+    let m = octets::modulus(c.octets as usize);
     let n = batches::frames_of(x.zone, batch.len());
     let k = number_after(x.number, n);
     let p = x.place;
@@ -103,7 +103,7 @@ fn batch_refusal(w: Writer, l: usize, batch: &[u8], insert: &[u8], ocf: &[u8]) -
     let x = upcoming_of(w, l);
     let a = x.lane;
     let kind = a.kind;
-    let p = batches::batch_start(kind, a.longest, batch, x.number * x.zone);
+    let p = batches::batch_start(kind, a.longest as usize, batch, x.number * x.zone);
     match p {
         Place::At(start) => {
             let s = w.setting;

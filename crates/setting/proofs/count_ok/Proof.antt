@@ -15,14 +15,17 @@ mul-c c = omega (arith, good _ (c .before .pre .0) .listed)
 array-copy-out-c : tie.Need-array-copy-out-c
 array-copy-out-c c = omega (arith, good _ (c .before .pre .0) .listed)
 
+cast-modulus : tie.Need-cast-modulus
+cast-modulus c = search needs
+
 modulus-requires : tie.Need-modulus-requires
 modulus-requires c κs = search needs
 
 returns : tie.Need-returns
 returns c =
-    let a = c .before .before .before in
+    let a = c .before .before .before .before in
     let h = good _ (a .pre .0) .channels (a .args .i) (a .pre .1) .seven in
     ap (ltb (a .args .x)) (c .modulus .ensures ∙ sym (modulus-all _ _ _ (omega arith) (omega arith) (omega arith) refl))
 
 pub count-ok-spec : {M : Type 1} → statement M
-count-ok-spec = tie.close (tie.spec mul-c array-copy-out-c modulus-requires returns)
+count-ok-spec = tie.close (tie.spec mul-c array-copy-out-c cast-modulus modulus-requires returns)

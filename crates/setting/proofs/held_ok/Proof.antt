@@ -33,6 +33,9 @@ mul-x c = search needs
 array-copy-out-x : tie.Need-array-copy-out-x Inv-loop μ-loop
 array-copy-out-x c = search needs
 
+cast-if1 : tie.Need-cast-if1 Inv-loop μ-loop
+cast-if1 c = search needs
+
 add-i : tie.Need-add-i Inv-loop μ-loop
 add-i c = search needs
 
@@ -61,6 +64,7 @@ held-ok-spec =
     array-copy-out-l
     mul-x
     array-copy-out-x
+    cast-if1
     add-i
     loop-less
     loop-again

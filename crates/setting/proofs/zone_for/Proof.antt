@@ -13,6 +13,9 @@ check-octets-requires c κs = search needs
 less-requires : tie.Need-less-requires
 less-requires c κs = search needs
 
+cast-less : tie.Need-cast-less
+cast-less c = search needs
+
 less-requires-2 : tie.Need-less-requires-2
 less-requires-2 c κs = search needs
 
@@ -35,6 +38,7 @@ zone-for-spec =
     ocf-octets-requires
     check-octets-requires
     less-requires
+    cast-less
     less-requires-2
     less-requires-3
     less-requires-4
