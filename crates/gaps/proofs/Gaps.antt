@@ -11,11 +11,11 @@ use lib.ListN.{length, getD, take, drop, set, length-set, length-take, drop-of-l
 use lib.Seq.{length-take-le, getD-take, drop-cons, take-suc, take-suc-set, drop-set-lt, append-snoc}
 use Rattle.rules.specs.declared.Lane.{Lane}
 use Rattle.rules.specs.declared.Setting.{Setting}
-use Rattle.rules.specs.declared.Expect.{Expect}
+use Rattle.rules.specs.declared.Expects.{Expects}
 use Rattle.rules.specs.declared.Slot.{Slot}
 use Rattle.rules.specs.declared.Reader.{Reader}
 use Rattle.rules.specs.Tests.{_=?_}
-use Rattle.rules.specs.Settings.{noLane, noSlot, channel, lane, expect, heldBy, readerOk}
+use Rattle.rules.specs.Settings.{noLane, noSlot, channel, lane, expect, expecting, heldBy, readerOk}
 use Rattle.rules.specs.Reading.{missing, expected, emptied, lost, lanesOf, gapBy, gap}
 use Rattle.rules.specs.Valid.{GoodReader}
 use Rattle.rules.proofs.Valid.{good-reader}
@@ -170,8 +170,8 @@ takes r c ok h =
     }
 
 module _ (r : Reader) (c k m : ℕ) (e : m ≡ 256 ^ channel (r .setting) c .octets) where
-  abbrev next : List Expect
-  next = set (r .expects) c (record { known = true; count = (k + 1) % m })
+  abbrev next : Expects
+  next = expecting (r .expects) c (record { known = true; count = (k + 1) % m })
 
   abbrev gone : ℕ
   gone = missing (channel (r .setting) c .octets) (expect r c) k
@@ -193,7 +193,7 @@ module _ (r : Reader) (c k m : ℕ) (e : m ≡ 256 ^ channel (r .setting) c .oct
       state : Reader
       state = record {
         setting = r .setting;
-        expects = set (r .expects) c
+        expects = expecting (r .expects) c
             (record { known = true; count = (k + 1) % 256 ^ channel (r .setting) c .octets });
         slots = r .slots;
       }

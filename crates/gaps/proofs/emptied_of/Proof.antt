@@ -27,6 +27,9 @@ mul-a c = search needs
 array-copy-out-a : tie.Need-array-copy-out-a Inv-loop μ-loop
 array-copy-out-a c = search needs
 
+cast-if1 : tie.Need-cast-if1 Inv-loop μ-loop
+cast-if1 c = search needs
+
 mul-t : tie.Need-mul-t Inv-loop μ-loop
 mul-t c = search needs
 
@@ -69,6 +72,7 @@ emptied-of-spec =
     loop-holds
     mul-a
     array-copy-out-a
+    cast-if1
     mul-t
     array-set-from-t
     add-i

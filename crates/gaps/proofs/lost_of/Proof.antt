@@ -24,6 +24,9 @@ mul-a c = search needs
 array-copy-out-a : tie.Need-array-copy-out-a Inv-loop μ-loop
 array-copy-out-a c = search needs
 
+cast-if1 : tie.Need-cast-if1 Inv-loop μ-loop
+cast-if1 c = search needs
+
 mul-x : tie.Need-mul-x Inv-loop μ-loop
 mul-x c = search needs
 
@@ -68,6 +71,7 @@ lost-of-spec =
     loop-holds
     mul-a
     array-copy-out-a
+    cast-if1
     mul-x
     array-copy-out-x
     add-lost

@@ -10,6 +10,9 @@ use borrow.Author.Needs.{needs}
 use Rattle.header.proofs.count_in.Statement.{statement}
 use Rattle.header.proofs.count_in.Tie as tie
 
+cast-end : tie.Need-cast-end
+cast-end c = search needs
+
 add-end : tie.Need-add-end
 add-end c = search needs
 
@@ -35,4 +38,4 @@ returns c =
 
 pub count-in-spec : {M : Type 1} → statement M
 count-in-spec =
-    tie.close (tie.spec add-end sub-exact part-exact-start part-exact-end exact-requires returns)
+    tie.close (tie.spec cast-end add-end sub-exact part-exact-start part-exact-end exact-requires returns)

@@ -19,6 +19,9 @@ cast-service c = search needs
 flag-of-requires : tie.Need-flag-of-requires
 flag-of-requires c κs = search needs
 
+cast-k : tie.Need-cast-k
+cast-k c = search needs
+
 mul-result : tie.Need-mul-result
 mul-result c = search needs
 
@@ -35,17 +38,17 @@ add-result-2 : tie.Need-add-result-2
 add-result-2 c = search needs
 
 mul-result-4 : tie.Need-mul-result-4
-mul-result-4 c = omega (arith, c .flag-of .ensures, flag-small (c .before .before .before .before .args .c .ocf))
+mul-result-4 c = omega (arith, c .before .flag-of .ensures, flag-small (c .before .before .before .before .before .args .c .ocf))
 
 add-result-3 : tie.Need-add-result-3
-add-result-3 c = omega (arith, c .flag-of .ensures, flag-small (c .before .before .before .before .args .c .ocf))
+add-result-3 c = omega (arith, c .before .flag-of .ensures, flag-small (c .before .before .before .before .before .args .c .ocf))
 
 add-result-4 : tie.Need-add-result-4
-add-result-4 c = omega (arith, c .flag-of .ensures, flag-small (c .before .before .before .before .args .c .ocf))
+add-result-4 c = omega (arith, c .before .flag-of .ensures, flag-small (c .before .before .before .before .before .args .c .ocf))
 
 returns : tie.Need-returns
 unfolding packed widths header
-returns c = rw (c .flag-of .ensures) (omega (arith, c .before .before .before .named .ensures))
+returns c = rw (c .before .flag-of .ensures) (omega (arith, c .before .before .before .before .named .ensures))
 
 pub header-of-spec : {M : Type 1} → statement M
 header-of-spec =
@@ -55,6 +58,7 @@ header-of-spec =
     sub-size
     cast-service
     flag-of-requires
+    cast-k
     mul-result
     mul-result-2
     add-result
