@@ -17,6 +17,9 @@ use Rattle.frames.proofs.put_frame.Tie as tie
 put-front-requires : tie.Need-put-front-requires
 put-front-requires c κs = search needs
 
+cast-from : tie.Need-cast-from
+cast-from c = search needs
+
 add-from : tie.Need-add-from
 add-from c = search needs
 
@@ -63,6 +66,7 @@ put-frame-spec =
     tie.close
     (tie.spec
     put-front-requires
+    cast-from
     add-from
     add-from-2
     put-data-requires

@@ -15,6 +15,9 @@ header-of-requires c κs = search needs
 lay-number-requires : tie.Need-lay-number-requires
 lay-number-requires c κs = search needs
 
+cast-n : tie.Need-cast-n
+cast-n c = search needs
+
 lay-number-requires-2 : tie.Need-lay-number-requires-2
 lay-number-requires-2 c κs = search needs
 
@@ -30,11 +33,11 @@ same-length c = search needs
 returns : tie.Need-returns
 returns c =
     let c₈ = c .before .before .before .before .before .before .before .before in
-    let a = c₈ .before .before .before .before .before .before .before .args in
+    let a = c₈ .before .before .before .before .before .before .before .before .args in
     c .before .before .lay .ensures
     ∙ ap (λ (x : List ℕ). laid x (7 + a .c .octets) (a .insert .now))
     (c .before .before .before .before .before .before .lay-number2 .ensures ∙ ap (λ (x : List ℕ). laid x 7 (be (a .c .octets) (a .k)))
-    (c₈ .before .before .lay-number .ensures ∙ ap (λ (n : ℕ). laid (a .area .now) 0 (be 7 n)) (c₈ .before .before .before .before .header-of .ensures)))
+    (c₈ .before .before .before .lay-number .ensures ∙ ap (λ (n : ℕ). laid (a .area .now) 0 (be 7 n)) (c₈ .before .before .before .before .before .header-of .ensures)))
     ∙ front-laid (a .area .now) (a .s) (a .c) (a .l) (a .k) (a .insert .now) (search needs)
 
 pub put-front-spec : {M : Type 1} → statement M
@@ -43,6 +46,7 @@ put-front-spec =
     (tie.spec
     header-of-requires
     lay-number-requires
+    cast-n
     lay-number-requires-2
     add-lay
     lay-requires

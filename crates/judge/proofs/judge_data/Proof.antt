@@ -23,6 +23,9 @@ array-copy-out-ch c = fits _ _ (c .before .before .before .before .pre .0 .ok) (
 zone-for-requires : tie.Need-zone-for-requires
 zone-for-requires c κs = search needs
 
+cast-at : tie.Need-cast-at
+cast-at c = search needs
+
 add-at : tie.Need-add-at
 add-at c =
     let p = c .before .before .before .before .before .before .before .pre .0 in
@@ -68,8 +71,8 @@ returns c =
 points-to-requires : tie.Need-points-to-requires
 points-to-requires c κs = search needs
 
-add-t16 : tie.Need-add-t16
-add-t16 c =
+add-t18 : tie.Need-add-t17
+add-t18 c =
     let c₈ = c .before .before .before .before .before .before .before .before in
     let p = c₈ .before .before .before .before .before .pre .0 in
     let q = fits _ _ (p .ok) (p .listed) in omega (arith, q .seven, q .insert)
@@ -92,6 +95,7 @@ judge-data-spec =
     mul-ch
     array-copy-out-ch
     zone-for-requires
+    cast-at
     add-at
     add-at-2
     sub-data-of
@@ -101,5 +105,5 @@ judge-data-spec =
     data-wrong-requires
     returns
     points-to-requires
-    add-t16
+    add-t18
     returns-2)
