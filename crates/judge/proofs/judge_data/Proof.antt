@@ -71,8 +71,8 @@ returns c =
 points-to-requires : tie.Need-points-to-requires
 points-to-requires c κs = search needs
 
-add-t18 : tie.Need-add-t17
-add-t18 c =
+add-t23 : tie.Need-add-t23
+add-t23 c =
     let c₈ = c .before .before .before .before .before .before .before .before in
     let p = c₈ .before .before .before .before .before .pre .0 in
     let q = fits _ _ (p .ok) (p .listed) in omega (arith, q .seven, q .insert)
@@ -105,5 +105,5 @@ judge-data-spec =
     data-wrong-requires
     returns
     points-to-requires
-    add-t18
+    add-t23
     returns-2)

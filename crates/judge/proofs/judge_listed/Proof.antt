@@ -20,6 +20,9 @@ mul-ch c = omega (arith, fits _ _ (c .before .before .pre .0 .ok) (c .before .be
 array-copy-out-ch : tie.Need-array-copy-out-ch
 array-copy-out-ch c = fits _ _ (c .before .before .pre .0 .ok) (c .before .before .pre .0 .listed) .eight
 
+cast-if1 : tie.Need-cast-if1
+cast-if1 c = search needs
+
 returns : tie.Need-returns
 unfolding judgeListed headOf sightOf
 returns c =
@@ -72,6 +75,7 @@ judge-listed-spec =
     (tie.spec
     mul-ch
     array-copy-out-ch
+    cast-if1
     returns
     flag-of-requires
     returns-2

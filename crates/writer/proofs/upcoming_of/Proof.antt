@@ -12,26 +12,41 @@ mul-a c = let q = slots _ _ (c .before .before .pre .0) (c .before .before .pre 
 array-copy-out-a : tie.Need-array-copy-out-a
 array-copy-out-a c = slots _ _ (c .before .before .pre .0) (c .before .before .pre .1) .eight
 
+cast-p : tie.Need-cast-p
+cast-p c = search needs
+
 mul-c : tie.Need-mul-c
-mul-c c = let q = slots _ _ (c .before .before .before .before .pre .0) (c .before .before .before .before .pre .1) in omega (arith, q .place)
+mul-c c = let q = slots _ _ (c .before .before .before .before .before .pre .0) (c .before .before .before .before .before .pre .1) in omega (arith, q .place)
 
 array-copy-out-c : tie.Need-array-copy-out-c
-array-copy-out-c c = slots _ _ (c .before .before .before .before .pre .0) (c .before .before .before .before .pre .1) .place
+array-copy-out-c c = slots _ _ (c .before .before .before .before .before .pre .0) (c .before .before .before .before .before .pre .1) .place
 
 zone-of-requires : tie.Need-zone-of-requires
 zone-of-requires c κs = search needs
 
 mul-t12 : tie.Need-mul-t12
-mul-t12 c = let p = c .before .before .before .before .before .before .before .before .pre in let q = slots _ _ (p .0) (p .1) in omega (arith, q .place)
+mul-t12 c =
+    let e = c .before .before .before .before in
+    let p = e .before .before .before .before .before .pre in
+    let q = slots _ _ (p .0) (p .1) in omega (arith, q .place)
 
 array-read-t21 : tie.Need-array-read-t21
-array-read-t21 c = let p = c .before .before .before .before .before .before .before .before .pre in slots _ _ (p .0) (p .1) .place
+array-read-t21 c =
+    let e = c .before .before .before .before in
+    let p = e .before .before .before .before .before .pre in
+    slots _ _ (p .0) (p .1) .place
 
 mul-t22 : tie.Need-mul-t22
-mul-t22 c = let p = c .before .before .before .before .before .before .before .before .pre in let q = slots _ _ (p .0) (p .1) in omega (arith, q .eight)
+mul-t22 c =
+    let e = c .before .before .before .before in
+    let p = e .before .before .before .before .before .pre in
+    let q = slots _ _ (p .0) (p .1) in omega (arith, q .eight)
 
 array-read-t25 : tie.Need-array-read-t25
-array-read-t25 c = let p = c .before .before .before .before .before .before .before .before .pre in slots _ _ (p .0) (p .1) .eight
+array-read-t25 c =
+    let e = c .before .before .before .before in
+    let p = e .before .before .before .before .before .pre in
+    slots _ _ (p .0) (p .1) .eight
 
 returns : tie.Need-returns
 unfolding upcomingOf
@@ -43,6 +58,7 @@ upcoming-of-spec =
     (tie.spec
     mul-a
     array-copy-out-a
+    cast-p
     mul-c
     array-copy-out-c
     zone-of-requires
