@@ -741,7 +741,7 @@ fn kind_of(upid: usize) -> Kind
 }
 
 // The lane of a line's numbers.
-fn lane_of(channel: usize, numbers: [usize; 14]) -> Lane
+fn lane_of(channel: u8, numbers: [usize; 14]) -> Lane
     requires { ⌜ Bounded numbers ⌝ }
     ensures { λ r. ⌜ r ≡ laneOf channel numbers ⌝ }
 {
@@ -749,7 +749,7 @@ fn lane_of(channel: usize, numbers: [usize; 14]) -> Lane
     let u = numbers[UPID] as u8;
     let k = kind_of(numbers[UPID]);
     Lane {
-        channel: channel as u8,
+        channel: channel,
         map: m,
         kind: k,
         longest: numbers[LONGEST] as u16,
@@ -778,7 +778,7 @@ fn add_lane_of(d: Draft, numbers: [usize; 14]) -> Draft
     let Place::At(c) = p else {
         return forbidden(d, Wanted::ListedChannel);
     };
-    let l = lane_of(c, numbers);
+    let l = lane_of(c as u8, numbers);
     add_lane(d, l)
 }
 

@@ -6,6 +6,9 @@ use borrow.Author.Needs.{needs}
 use Rattle.setting_text.proofs.add_lane.Statement.{statement}
 use Rattle.setting_text.proofs.add_lane.Tie as tie
 
+cast-lane-at : tie.Need-cast-lane-at
+cast-lane-at c = search needs
+
 lane-at-requires : tie.Need-lane-at-requires
 lane-at-requires c κs = search needs
 
@@ -48,6 +51,7 @@ pub add-lane-spec : {M : Type 1} → statement M
 add-lane-spec =
     tie.close
     (tie.spec
+    cast-lane-at
     lane-at-requires
     enum-told
     enum-told-2

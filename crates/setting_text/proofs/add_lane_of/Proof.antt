@@ -2,6 +2,8 @@
 use mathlib.Core.Path.{sym, _∙_}
 use Rattle.setting_text.specs.Facts.{addLaneOf}
 use borrow.Author.Needs.{needs}
+use Rattle.rules.specs.Refusals.{channelAt}
+use Rattle.rules.proofs.Tests.{found-at}
 use Rattle.setting_text.proofs.add_lane_of.Statement.{statement}
 use Rattle.setting_text.proofs.add_lane_of.Tie as tie
 
@@ -20,6 +22,12 @@ forbidden-requires c κs = search needs
 returns : tie.Need-returns
 unfolding addLaneOf
 returns c = rw (sym (c .before .before .before .listed-at .ensures) ∙ c .before .enum-told .given .1) (c .forbidden .ensures)
+
+cast-lane-of : tie.Need-cast-lane-of
+unfolding channelAt
+cast-lane-of c =
+    let h = found-at _ _ _ (sym (c .before .before .before .listed-at .ensures) ∙ c .before .p .given .1) .0 in
+    search needs
 
 lane-of-requires : tie.Need-lane-of-requires
 lane-of-requires c κs = search needs
@@ -42,6 +50,7 @@ add-lane-of-spec =
     enum-told
     forbidden-requires
     returns
+    cast-lane-of
     lane-of-requires
     add-lane-requires
     returns-2)

@@ -26,10 +26,14 @@ array-read-o c = search needs
 array-read-t8 : tie.Need-array-read-t8
 array-read-t8 c = search needs
 
+cast-t15 : tie.Need-cast-t15
+unfolding most
+cast-t15 c = let h = c .pre 7 in search needs
+
 returns : tie.Need-returns
 unfolding channelOf
 returns c = refl
 
 pub channel-of-spec : {M : Type 1} → statement M
 channel-of-spec =
-    tie.close (tie.spec array-read-v cast-v array-read-b cast-b array-read-o array-read-t8 returns)
+    tie.close (tie.spec array-read-v cast-v array-read-b cast-b array-read-o array-read-t8 cast-t15 returns)

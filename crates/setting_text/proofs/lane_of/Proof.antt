@@ -28,6 +28,10 @@ kind-of-requires c κs = search needs
 array-read-t9 : tie.Need-array-read-t9
 array-read-t9 c = search needs
 
+cast-t16 : tie.Need-cast-t16
+unfolding most
+cast-t16 c = let h = c .before .pre 11 in search needs
+
 returns : tie.Need-returns
 unfolding laneOf
 returns c = rw (c .kind-of .ensures)
@@ -43,4 +47,5 @@ lane-of-spec =
     array-read-kind-of
     kind-of-requires
     array-read-t9
+    cast-t16
     returns)
