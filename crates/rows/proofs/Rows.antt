@@ -10,8 +10,9 @@ use Rattle.rules.specs.declared.Channel.{Channel}
 use Rattle.rules.specs.declared.Lane.{Lane}
 use Rattle.rules.specs.declared.Setting.{Setting}
 use Rattle.rules.specs.declared.Expect.{Expect}
+use Rattle.rules.specs.declared.Expects.{Expects}
 use Rattle.rules.specs.declared.Slot.{Slot}
-use Rattle.rules.specs.Settings.{noChannel, noExpect}
+use Rattle.rules.specs.Settings.{noChannel, expectOn}
 use Rattle.rules.specs.Octets.{be}
 use Rattle.rules.specs.Areas.{laid}
 use Rattle.rules.proofs.Octets.{length-be}
@@ -81,13 +82,13 @@ unfolding laneRow
 lane-long l x = refl
 
 -- The three parts of a state, one after another.
-pub state-laid : (d₀ d₁ d₂ d₃ row : List ℕ) (k : ℕ) (s : Setting) (xs : List Expect) (ys : List Slot) → 64 * k + 1088 ≤ length d₀ → row ≡ frontRow s
+pub state-laid : (d₀ d₁ d₂ d₃ row : List ℕ) (k : ℕ) (s : Setting) (xs : Expects) (ys : List Slot) → 64 * k + 1088 ≤ length d₀ → row ≡ frontRow s
     → d₁ ≡ laid d₀ (64 * k) (spelled row) → d₂ ≡ laid d₁ (64 * (k + 1)) (channelRows (s .channels) xs)
     → d₃ ≡ laid d₂ (64 * (k + 9)) (laneRows (s .lanes) ys) → d₃ ≡ laid d₀ (64 * k) (stateOctets s xs ys)
 unfolding stateOctets channelRows laneRows frontRow
 state-laid d₀ d₁ d₂ d₃ row k s xs ys room e p q r =
     let one : length (spelled (frontRow s)) ≡ 64 = length-spelled (frontRow s) in
-    let eight : length (channelRows (s .channels) xs) ≡ 512 = rows-long _ 8 (λ i. channel-long (getD (s .channels) i noChannel) (getD xs i noExpect)) in
+    let eight : length (channelRows (s .channels) xs) ≡ 512 = rows-long _ 8 (λ i. channel-long (getD (s .channels) i noChannel) (expectOn xs i)) in
     let both : length (spelled (frontRow s) ++ channelRows (s .channels) xs) ≡ 576 =
     length-append (spelled (frontRow s)) (channelRows (s .channels) xs) ∙ ap₂ _+_ one eight in
     r

@@ -1,6 +1,6 @@
 -- Settings and states in rows. A state has 17 rows: the setting's first numbers, then each channel slot, then each lane slot.
 use Prim.Native.Nat.{ℕ, zero, suc, _+_, _*_, _%_}
-use mathlib.Core.Bool.{false, cond}
+use mathlib.Core.Bool.{Bool, false, cond}
 use mathlib.Core.List.{List, [], _∷_, _++_}
 use lib.ListN.{getD, set, replicate}
 use Rattle.rules.specs.declared.Kind.{Kind}
@@ -9,22 +9,19 @@ use Rattle.rules.specs.declared.Channel.{Channel}
 use Rattle.rules.specs.declared.Lane.{Lane}
 use Rattle.rules.specs.declared.Setting.{Setting}
 use Rattle.rules.specs.declared.Expect.{Expect}
+use Rattle.rules.specs.declared.Expects.{Expects}
 use Rattle.rules.specs.declared.Slot.{Slot}
 use Rattle.rules.specs.declared.Reader.{Reader}
 use Rattle.rules.specs.declared.Writer.{Writer}
 use Rattle.rules.specs.Tests.{_=?_}
 use Rattle.rules.specs.Octets.{flag}
-use Rattle.rules.specs.Settings.{noChannel, noLane, noExpect, noSlot, countsOf}
+use Rattle.rules.specs.Settings.{noChannel, noLane, noSlot, expectOn}
 use Rattle.rows.specs.Rows.{word, spelled}
 
 -- ---- out of octets: i is the number with which a row begins
 
 unfoldable pub channelIn : List ℕ → ℕ → Channel
-channelIn xs i = record { vc = word xs i % 256; service = word xs (i + 1) % 256; octets = word xs (i + 2); ocf = word xs (i + 3) =? 1 }
-
--- The expected count, behind the channel's numbers.
-unfoldable pub expectIn : List ℕ → ℕ → Expect
-expectIn xs i = record { known = word xs (i + 4) =? 1; count = word xs (i + 5) }
+channelIn xs i = record { vc = word xs i % 256; service = word xs (i + 1) % 256; octets = word xs (i + 2) % 256; ocf = word xs (i + 3) =? 1 }
 
 -- 0 is packets.
 abbrev pub kindIn : ℕ → Kind
@@ -32,7 +29,7 @@ kindIn n = cond (n =? 0) Packets Access
 
 unfoldable pub laneIn : List ℕ → ℕ → Lane
 laneIn xs i =
-    record { channel = word xs i; map = word xs (i + 1) % 256; kind = kindIn (word xs (i + 2)); longest = word xs (i + 3); upid = word xs (i + 4) % 256 }
+    record { channel = word xs i % 256; map = word xs (i + 1) % 256; kind = kindIn (word xs (i + 2)); longest = word xs (i + 3) % 65536; upid = word xs (i + 4) % 256 }
 
 -- Eight slots: what f says in the first n of them, z in the others.
 unfoldable pub slots : {A : Type 0} → A → (ℕ → A) → ℕ → List A
@@ -42,8 +39,12 @@ slots z f (suc n) = set (slots z f n) n (f n)
 unfoldable pub channelsIn : List ℕ → ℕ → List Channel
 channelsIn xs k = slots noChannel (λ (i : ℕ). channelIn xs (8 * (k + i))) 8
 
-unfoldable pub expectsIn : List ℕ → ℕ → List Expect
-expectsIn xs k = slots noExpect (λ (i : ℕ). expectIn xs (8 * (k + i))) 8
+-- The counts, and whether each is expected, behind the channels' numbers.
+unfoldable pub countsIn : List ℕ → ℕ → List ℕ
+countsIn xs k = slots 0 (λ (i : ℕ). word xs (8 * (k + i) + 5)) 8
+
+unfoldable pub knownIn : List ℕ → ℕ → List Bool
+knownIn xs k = slots false (λ (i : ℕ). word xs (8 * (k + i) + 4) =? 1) 8
 
 unfoldable pub lanesIn : List ℕ → ℕ → List Lane
 lanesIn xs k = slots noLane (λ (i : ℕ). laneIn xs (8 * (k + i))) 8
@@ -72,7 +73,7 @@ settingIn xs k =
 
 -- The reader's state from row k on.
 unfoldable pub readerIn : List ℕ → ℕ → Reader
-readerIn xs k = record { setting = settingIn xs k; expects = expectsIn xs (k + 1); slots = slotsIn xs (k + 9) }
+readerIn xs k = record { setting = settingIn xs k; expects = record { counts = countsIn xs (k + 1); known = knownIn xs (k + 1) }; slots = slotsIn xs (k + 9) }
 
 -- How many octets each of eight lanes holds.
 unfoldable pub heldOf : List Slot → List ℕ
@@ -82,7 +83,7 @@ heldOf xs =
 
 -- The writer's state from row k on: counts stand for expected counts, next frame numbers for what is held.
 unfoldable pub writerIn : List ℕ → ℕ → Writer
-writerIn xs k = record { setting = settingIn xs k; counts = countsOf (expectsIn xs (k + 1)); next = heldOf (slotsIn xs (k + 9)) }
+writerIn xs k = record { setting = settingIn xs k; counts = countsIn xs (k + 1); next = heldOf (slotsIn xs (k + 9)) }
 
 -- ---- into octets
 
@@ -104,27 +105,22 @@ unfoldable pub rows : (ℕ → List ℕ) → ℕ → List ℕ
 rows f zero = []
 rows f (suc n) = rows f n ++ spelled (f n)
 
-unfoldable pub channelRows : List Channel → List Expect → List ℕ
-channelRows cs xs = rows (λ (i : ℕ). channelRow (getD cs i noChannel) (getD xs i noExpect)) 8
+unfoldable pub channelRows : List Channel → Expects → List ℕ
+channelRows cs xs = rows (λ (i : ℕ). channelRow (getD cs i noChannel) (expectOn xs i)) 8
 
 unfoldable pub laneRows : List Lane → List Slot → List ℕ
 laneRows ls ys = rows (λ (i : ℕ). laneRow (getD ls i noLane) (getD ys i noSlot)) 8
 
 -- A state as octets.
-unfoldable pub stateOctets : Setting → List Expect → List Slot → List ℕ
+unfoldable pub stateOctets : Setting → Expects → List Slot → List ℕ
 stateOctets s xs ys = spelled (frontRow s) ++ channelRows (s .channels) xs ++ laneRows (s .lanes) ys
 
 unfoldable pub readerOctets : Reader → List ℕ
 readerOctets r = stateOctets (r .setting) (r .expects) (r .slots)
 
--- A count that is said to be expected by nobody.
-abbrev pub plain : ℕ → Expect
-plain n = record { known = false; count = n }
-
-unfoldable pub expectsOf : List ℕ → List Expect
-expectsOf ns =
-    plain (getD ns 0 0) ∷ plain (getD ns 1 0) ∷ plain (getD ns 2 0) ∷ plain (getD ns 3 0) ∷ plain (getD ns 4 0) ∷ plain (getD ns 5 0)
-    ∷ plain (getD ns 6 0) ∷ plain (getD ns 7 0) ∷ []
+-- Counts that are said to be expected by nobody.
+unfoldable pub expectsOf : List ℕ → Expects
+expectsOf ns = record { counts = ns; known = replicate 8 false }
 
 -- A slot that holds so many octets.
 abbrev pub holding : ℕ → Slot

@@ -5,11 +5,12 @@ ghost use lib.ListN.{length};
 ghost use Rattle.rules.specs.Octets.{flag};
 ghost use Rattle.rules.specs.Areas.{laid};
 ghost use Rattle.rows.specs.Rows.{word, spelled};
-ghost use Rattle.rows.specs.States.{channelIn, expectIn, kindIn, laneIn, channelsIn, expectsIn, lanesIn, slotIn, slotsIn};
+ghost use Rattle.rows.specs.States.{channelIn, kindIn, laneIn, channelsIn, countsIn, knownIn, lanesIn, slotIn, slotsIn};
 ghost use Rattle.rows.specs.States.{settingIn, readerIn, heldOf, writerIn};
 ghost use Rattle.rows.specs.States.{frontRow, channelRow, kindNumber, laneRow, channelRows, laneRows, stateOctets, readerOctets, expectsOf, slotsOf, writerOctets};
 use rules::Channel;
 use rules::Expect;
+use rules::Expects;
 use rules::Kind;
 use rules::Lane;
 use rules::Reader;
@@ -37,19 +38,8 @@ fn channel_in(s: &[u8], i: usize) -> Channel
     Channel {
         vc: (word_in(s, i) % 256) as u8,
         service: (word_in(s, i + 1) % 256) as u8,
-        octets: word_in(s, i + 2) as usize,
+        octets: (word_in(s, i + 2) % 256) as u8,
         ocf: word_in(s, i + 3) == 1,
-    }
-}
-
-// The expected count of that row.
-fn expect_in(s: &[u8], i: usize) -> Expect
-    requires { ⌜ 8 * i + 64 ≤ length (now s) ⌝ }
-    ensures { λ r. ⌜ r ≡ expectIn (now (s .entry)) i ⌝ }
-{
-    Expect {
-        known: word_in(s, i + 4) == 1,
-        count: word_in(s, i + 5),
     }
 }
 
@@ -69,10 +59,10 @@ fn lane_in(s: &[u8], i: usize) -> Lane
     ensures { λ r. ⌜ r ≡ laneIn (now (s .entry)) i ⌝ }
 {
     Lane {
-        channel: word_in(s, i) as usize,
+        channel: (word_in(s, i) % 256) as u8,
         map: (word_in(s, i + 1) % 256) as u8,
         kind: kind_in(word_in(s, i + 2)),
-        longest: word_in(s, i + 3) as usize,
+        longest: (word_in(s, i + 3) % 65536) as u16,
         upid: (word_in(s, i + 4) % 256) as u8,
     }
 }
@@ -98,20 +88,31 @@ fn channels_in(s: &[u8], k: usize) -> [Channel; 8]
     r
 }
 
-// The eight expected counts from row k on.
-fn expects_in(s: &[u8], k: usize) -> [Expect; 8]
+// The counts behind the eight channels from row k on.
+fn counts_in(s: &[u8], k: usize) -> [u64; 8]
     requires { ⌜ 64 * k + 512 ≤ length (now s) ⌝ }
-    ensures { λ r. ⌜ r ≡ expectsIn (now (s .entry)) k ⌝ }
+    ensures { λ r. ⌜ r ≡ countsIn (now (s .entry)) k ⌝ }
 {
-    let none = Expect {
-        known: false,
-        count: 0,
-    };
-    let mut r = [none; 8];
+    let mut r: [u64; 8] = [0; 8];
     let mut i: usize = 0;
     while i < 8 {
-        let x = expect_in(s, 8 * (k + i));
-        r[i] = x;
+        let n = word_in(s, 8 * (k + i) + 5);
+        r[i] = n;
+        i += 1;
+    }
+    r
+}
+
+// Whether each of them is expected.
+fn known_in(s: &[u8], k: usize) -> [bool; 8]
+    requires { ⌜ 64 * k + 512 ≤ length (now s) ⌝ }
+    ensures { λ r. ⌜ r ≡ knownIn (now (s .entry)) k ⌝ }
+{
+    let mut r = [false; 8];
+    let mut i: usize = 0;
+    while i < 8 {
+        let n = word_in(s, 8 * (k + i) + 4);
+        r[i] = n == 1;
         i += 1;
     }
     r
@@ -192,11 +193,15 @@ pub fn reader_in(s: &[u8], k: usize) -> Reader
     ensures { λ r. ⌜ r ≡ readerIn (now (s .entry)) k ⌝ }
 {
     let setting = setting_in(s, k);
-    let expects = expects_in(s, k + 1);
+    let counts = counts_in(s, k + 1);
+    let known = known_in(s, k + 1);
     let slots = slots_in(s, k + 9);
     Reader {
         setting: setting,
-        expects: expects,
+        expects: Expects {
+            counts: counts,
+            known: known,
+        },
         slots: slots,
     }
 }
@@ -223,7 +228,7 @@ pub fn writer_in(s: &[u8], k: usize) -> Writer
     ensures { λ r. ⌜ r ≡ writerIn (now (s .entry)) k ⌝ }
 {
     let setting = setting_in(s, k);
-    let counts = setting::counts_of(expects_in(s, k + 1));
+    let counts = counts_in(s, k + 1);
     let next = held_of(slots_in(s, k + 9));
     Writer {
         setting: setting,
@@ -321,13 +326,14 @@ fn lane_row(l: Lane, x: Slot) -> [u64; 8]
 }
 
 // Lays channels and expected counts into the rows from row k on.
-fn put_channels(area: &mut [u8], k: usize, c: [Channel; 8], x: [Expect; 8])
+fn put_channels(area: &mut [u8], k: usize, c: [Channel; 8], x: Expects)
     requires { ⌜ 64 * k + 512 ≤ length (now area) ⌝ }
     ensures { λ _. ⌜ now (area .exit) ≡ laid (now (area .entry)) (64 * k) (channelRows c x) ⌝ }
 {
     let mut i: usize = 0;
     while i < 8 {
-        let row = channel_row(c[i], x[i]);
+        let e = setting::expect_of(x, i);
+        let row = channel_row(c[i], e);
         put_row(area, k + i, row);
         i += 1;
     }
@@ -347,7 +353,7 @@ fn put_lanes(area: &mut [u8], k: usize, l: [Lane; 8], x: [Slot; 8])
 }
 
 // Lays a state into the rows from row k on.
-fn put_state(area: &mut [u8], k: usize, s: Setting, x: [Expect; 8], y: [Slot; 8])
+fn put_state(area: &mut [u8], k: usize, s: Setting, x: Expects, y: [Slot; 8])
     requires { ⌜ 64 * k + 1088 ≤ length (now area) ⌝ }
     ensures { λ _. ⌜ now (area .exit) ≡ laid (now (area .entry)) (64 * k) (stateOctets s x y) ⌝ }
 {
@@ -371,43 +377,13 @@ pub fn put_reader(area: &mut [u8], k: usize, r: Reader)
 }
 
 // Counts for the rows of channels.
-fn expects_of(n: [u64; 8]) -> [Expect; 8]
+fn expects_of(n: [u64; 8]) -> Expects
     ensures { λ r. ⌜ r ≡ expectsOf n ⌝ }
 {
-    [
-        Expect {
-            known: false,
-            count: n[0],
-        },
-        Expect {
-            known: false,
-            count: n[1],
-        },
-        Expect {
-            known: false,
-            count: n[2],
-        },
-        Expect {
-            known: false,
-            count: n[3],
-        },
-        Expect {
-            known: false,
-            count: n[4],
-        },
-        Expect {
-            known: false,
-            count: n[5],
-        },
-        Expect {
-            known: false,
-            count: n[6],
-        },
-        Expect {
-            known: false,
-            count: n[7],
-        },
-    ]
+    Expects {
+        counts: n,
+        known: [false; 8],
+    }
 }
 
 // Slots for the rows of lanes.

@@ -25,6 +25,9 @@ add-word-in-2 c = search needs
 word-in-requires-3 : tie.Need-word-in-requires-3
 word-in-requires-3 c κs = search needs
 
+cast-t13 : tie.Need-cast-t13
+cast-t13 c = search needs
+
 add-word-in-3 : tie.Need-add-word-in-3
 add-word-in-3 c = search needs
 
@@ -46,6 +49,7 @@ channel-in-spec =
     cast-t9
     add-word-in-2
     word-in-requires-3
+    cast-t13
     add-word-in-3
     word-in-requires-4
     returns)

@@ -16,9 +16,20 @@ cast-t5 c = search needs
 cast-t6 : tie.Need-cast-t6
 cast-t6 c = search needs
 
+cast-t7 : tie.Need-cast-t7
+cast-t7 c = search needs
+
 returns : tie.Need-returns
 unfolding channelRow
 returns c = cc
 
 pub channel-row-spec : {M : Type 1} → statement M
-channel-row-spec = tie.close (tie.spec bit-of-requires bit-of-requires-2 cast-t5 cast-t6 returns)
+channel-row-spec =
+    tie.close
+    (tie.spec
+    bit-of-requires
+    bit-of-requires-2
+    cast-t5
+    cast-t6
+    cast-t7
+    returns)

@@ -7,14 +7,17 @@ use Rattle.rows.proofs.lane_in.Tie as tie
 word-in-requires : tie.Need-word-in-requires
 word-in-requires c κs = search needs
 
+cast-t5 : tie.Need-cast-t5
+cast-t5 c = search needs
+
 add-word-in : tie.Need-add-word-in
 add-word-in c = search needs
 
 word-in-requires-2 : tie.Need-word-in-requires-2
 word-in-requires-2 c κs = search needs
 
-cast-t8 : tie.Need-cast-t8
-cast-t8 c = search needs
+cast-t9 : tie.Need-cast-t9
+cast-t9 c = search needs
 
 add-word-in-2 : tie.Need-add-word-in-2
 add-word-in-2 c = search needs
@@ -31,14 +34,17 @@ add-word-in-3 c = search needs
 word-in-requires-4 : tie.Need-word-in-requires-4
 word-in-requires-4 c κs = search needs
 
+cast-t16 : tie.Need-cast-t16
+cast-t16 c = search needs
+
 add-word-in-4 : tie.Need-add-word-in-4
 add-word-in-4 c = search needs
 
 word-in-requires-5 : tie.Need-word-in-requires-5
 word-in-requires-5 c κs = search needs
 
-cast-t18 : tie.Need-cast-t18
-cast-t18 c = search needs
+cast-t20 : tie.Need-cast-t20
+cast-t20 c = search needs
 
 returns : tie.Need-returns
 unfolding laneIn
@@ -49,15 +55,17 @@ lane-in-spec =
     tie.close
     (tie.spec
     word-in-requires
+    cast-t5
     add-word-in
     word-in-requires-2
-    cast-t8
+    cast-t9
     add-word-in-2
     word-in-requires-3
     kind-in-requires
     add-word-in-3
     word-in-requires-4
+    cast-t16
     add-word-in-4
     word-in-requires-5
-    cast-t18
+    cast-t20
     returns)

@@ -7,8 +7,14 @@ use Rattle.rows.proofs.lane_row.Tie as tie
 kind-number-requires : tie.Need-kind-number-requires
 kind-number-requires c κs = search needs
 
+cast-t5 : tie.Need-cast-t5
+cast-t5 c = search needs
+
 cast-t6 : tie.Need-cast-t6
 cast-t6 c = search needs
+
+cast-t7 : tie.Need-cast-t7
+cast-t7 c = search needs
 
 cast-t8 : tie.Need-cast-t8
 cast-t8 c = search needs
@@ -18,4 +24,12 @@ unfolding laneRow
 returns c = cc
 
 pub lane-row-spec : {M : Type 1} → statement M
-lane-row-spec = tie.close (tie.spec kind-number-requires cast-t6 cast-t8 returns)
+lane-row-spec =
+    tie.close
+    (tie.spec
+    kind-number-requires
+    cast-t5
+    cast-t6
+    cast-t7
+    cast-t8
+    returns)

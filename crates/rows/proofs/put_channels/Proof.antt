@@ -1,11 +1,11 @@
 -- `rows::put_channels` meets its contract. Before row i the first i rows stand in the area.
 use Prim.Native.Nat.{ℕ, _≤_, _-_, _*_}
-use mathlib.Core.Path.{_≡_, _∙_, sym}
+use mathlib.Core.Path.{_≡_, _∙_, sym, ap}
 use native.Mathlib.Omega.{arith}
 use lib.ListN.{length, getD}
 use borrow.Author.Needs.{needs}
 use Rattle.rules.specs.Areas.{laid}
-use Rattle.rules.specs.Settings.{noChannel, noExpect}
+use Rattle.rules.specs.Settings.{noChannel, expectOn}
 use Rattle.rules.proofs.Areas.{laid-nil}
 use Rattle.rows.specs.States.{channelRow, rows, channelRows}
 use Rattle.rows.proofs.Rows.{rows-turn, rows-all, channel-long}
@@ -13,28 +13,25 @@ use Rattle.rows.proofs.put_channels.Statement.{statement}
 use Rattle.rows.proofs.put_channels.Tie as tie
 
 abbrev Inv-loop : tie.InvT-loop
-Inv-loop area₀ k c x i₀ area i =
+Inv-loop area₀ k x c i₀ area i =
     (i ≤ 8) × (length area ≡ length area₀)
-    × (area ≡ laid area₀ (64 * k) (rows (λ (j : ℕ). channelRow (getD c j noChannel) (getD x j noExpect)) i))
+    × (area ≡ laid area₀ (64 * k) (rows (λ (j : ℕ). channelRow (getD c j noChannel) (expectOn x j)) i))
 
 abbrev μ-loop : tie.MeasureT-loop
-μ-loop area₀ k c x i₀ area i = 8 - i
+μ-loop area₀ k x c i₀ area i = 8 - i
 
 loop-holds : tie.Need-loop-holds Inv-loop μ-loop
 unfolding rows
 loop-holds c = (search needs, search needs, sym (laid-nil _ _))
+
+expect-of-requires : tie.Need-expect-of-requires Inv-loop μ-loop
+expect-of-requires c κs = search needs
 
 mul-channel-row : tie.Need-mul-channel-row Inv-loop μ-loop
 mul-channel-row c = search needs
 
 array-copy-out-channel-row : tie.Need-array-copy-out-channel-row Inv-loop μ-loop
 array-copy-out-channel-row c = search needs
-
-mul-channel-row-2 : tie.Need-mul-channel-row-2 Inv-loop μ-loop
-mul-channel-row-2 c = search needs
-
-array-copy-out-channel-row-2 : tie.Need-array-copy-out-channel-row-2 Inv-loop μ-loop
-array-copy-out-channel-row-2 c = search needs
 
 channel-row-requires : tie.Need-channel-row-requires Inv-loop μ-loop
 channel-row-requires c κs = search needs
@@ -56,7 +53,8 @@ loop-again c =
     let c₅ = c .before .before .before .before .before in
     let c₁₀ = c₅ .before .before .before .before .before in
     let a = c₁₀ .args in
-    let row = c .before .before .before .before .channel-row .ensures in
+    let row = c .before .before .before .before .channel-row .ensures
+    ∙ ap (channelRow _) (c₅ .before .expect-of .ensures) in
     let here = c₅ .before .before .before .loop .inv .2 in
     let more = rows-turn _ (a .area .now) _ _ (a .k) (c₅ .before .before .before .loop .i) (λ j. channel-long _ _) (search needs) here row in
     (search needs, search needs, c .before .before .put-row .ensures ∙ more)
@@ -75,10 +73,9 @@ put-channels-spec =
     Inv-loop
     μ-loop
     loop-holds
+    expect-of-requires
     mul-channel-row
     array-copy-out-channel-row
-    mul-channel-row-2
-    array-copy-out-channel-row-2
     channel-row-requires
     add-put-row
     put-row-requires

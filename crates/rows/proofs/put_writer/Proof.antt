@@ -2,7 +2,7 @@
 -- what is held.
 use mathlib.Core.Path.{_∙_, ap₂}
 use mathlib.Core.List.{List}
-use Rattle.rules.specs.declared.Expect.{Expect}
+use Rattle.rules.specs.declared.Expects.{Expects}
 use Rattle.rules.specs.declared.Slot.{Slot}
 use Rattle.rules.specs.Areas.{laid}
 use Prim.Native.Nat.{_*_}
@@ -30,7 +30,7 @@ returns c =
     let x = y .before .before in
     let a = x .before .before .before .before .args in
     c .before .before .put-state .ensures
-    ∙ ap₂ (λ (xs : List Expect) (ys : List Slot). laid (a .area .now) (64 * a .k) (stateOctets (a .w .setting) xs ys))
+    ∙ ap₂ (λ (xs : Expects) (ys : List Slot). laid (a .area .now) (64 * a .k) (stateOctets (a .w .setting) xs ys))
     (x .expects-of .ensures) (y .slots-of .ensures)
 
 pub put-writer-spec : {M : Type 1} → statement M

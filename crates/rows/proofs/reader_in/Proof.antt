@@ -7,11 +7,17 @@ use Rattle.rows.proofs.reader_in.Tie as tie
 setting-in-requires : tie.Need-setting-in-requires
 setting-in-requires c κs = search needs
 
-add-expects-in : tie.Need-add-expects-in
-add-expects-in c = search needs
+add-counts-in : tie.Need-add-counts-in
+add-counts-in c = search needs
 
-expects-in-requires : tie.Need-expects-in-requires
-expects-in-requires c κs = search needs
+counts-in-requires : tie.Need-counts-in-requires
+counts-in-requires c κs = search needs
+
+add-known-in : tie.Need-add-known-in
+add-known-in c = search needs
+
+known-in-requires : tie.Need-known-in-requires
+known-in-requires c κs = search needs
 
 add-slots-in : tie.Need-add-slots-in
 add-slots-in c = search needs
@@ -28,8 +34,10 @@ reader-in-spec =
     tie.close
     (tie.spec
     setting-in-requires
-    add-expects-in
-    expects-in-requires
+    add-counts-in
+    counts-in-requires
+    add-known-in
+    known-in-requires
     add-slots-in
     slots-in-requires
     returns)

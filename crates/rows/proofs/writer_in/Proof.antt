@@ -7,14 +7,11 @@ use Rattle.rows.proofs.writer_in.Tie as tie
 setting-in-requires : tie.Need-setting-in-requires
 setting-in-requires c κs = search needs
 
-add-expects-in : tie.Need-add-expects-in
-add-expects-in c = search needs
+add-counts-in : tie.Need-add-counts-in
+add-counts-in c = search needs
 
-expects-in-requires : tie.Need-expects-in-requires
-expects-in-requires c κs = search needs
-
-counts-of-requires : tie.Need-counts-of-requires
-counts-of-requires c κs = search needs
+counts-in-requires : tie.Need-counts-in-requires
+counts-in-requires c κs = search needs
 
 add-slots-in : tie.Need-add-slots-in
 add-slots-in c = search needs
@@ -34,9 +31,8 @@ writer-in-spec =
     tie.close
     (tie.spec
     setting-in-requires
-    add-expects-in
-    expects-in-requires
-    counts-of-requires
+    add-counts-in
+    counts-in-requires
     add-slots-in
     slots-in-requires
     held-of-requires
