@@ -77,10 +77,10 @@ impl Line {
                 Ok(Line::Setting(Said { front, ..Said::default() }))
             }
             ("channel", &[slot, virtual_channel, service, octets, ocf]) => {
-                Ok(Line::Channel(slot, [virtual_channel % 256, service % 256, octets, u64::from(ocf == 1)]))
+                Ok(Line::Channel(slot, [virtual_channel % 256, service % 256, octets % 256, u64::from(ocf == 1)]))
             }
             ("lane", &[slot, channel, map, kind, longest, upid]) => {
-                Ok(Line::Lane(slot, [channel, map % 256, u64::from(kind != 0), longest, upid % 256]))
+                Ok(Line::Lane(slot, [channel % 256, map % 256, u64::from(kind != 0), longest % 65_536, upid % 256]))
             }
             ("count", &[slot, number]) => Ok(Line::Count(slot, number)),
             ("next", &[slot, number]) => Ok(Line::Next(slot, number)),

@@ -167,7 +167,7 @@ fn channel_of(s: Setting, l: usize) -> usize
 {
     if l < 8 {
         let a = s.lanes[l];
-        return a.channel;
+        return a.channel as usize;
     }
     0
 }
