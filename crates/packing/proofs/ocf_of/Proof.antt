@@ -2,12 +2,13 @@
 use mathlib.Core.Path.{_≡_, sym, ap}
 use native.Mathlib.Omega.{arith}
 use lib.ListN.{length, length-map, List·getD-eq-default}
-use mathlib.Core.Path.{sym, ap}
-use lib.ListN.{List·getD-eq-default}
 use Rattle.rules.specs.Settings.{noChannel, ocfOctets}
 use borrow.Author.Needs.{needs}
 use Rattle.packing.proofs.ocf_of.Statement.{statement}
 use Rattle.packing.proofs.ocf_of.Tie as tie
+
+cast-p : tie.Need-cast-p
+cast-p c = search needs
 
 mul-c : tie.Need-mul-c
 mul-c c = search needs
@@ -27,4 +28,4 @@ returns-2 c = let a = c .before in
     sym (ap ocfOctets (List·getD-eq-default (a .args .t1 .channels) noChannel (omega (arith, g, c .if1 .left))))
 
 pub ocf-of-spec : {M : Type 1} → statement M
-ocf-of-spec = tie.close (tie.spec mul-c element-copy-out-c ocf-octets-requires returns returns-2)
+ocf-of-spec = tie.close (tie.spec cast-p mul-c element-copy-out-c ocf-octets-requires returns returns-2)

@@ -13,6 +13,9 @@ mul-a c = search needs
 element-copy-out-a : tie.Need-element-copy-out-a
 element-copy-out-a c = search needs
 
+cast-result : tie.Need-cast-result
+cast-result c = search needs
+
 returns : tie.Need-returns
 returns c = search needs
 
@@ -23,4 +26,4 @@ returns-2 c =
     lane-out (a .args .t1) (a .args .l) (omega (arith, g, c .if1 .left))
 
 pub channel-of-spec : {M : Type 1} → statement M
-channel-of-spec = tie.close (tie.spec mul-a element-copy-out-a returns returns-2)
+channel-of-spec = tie.close (tie.spec mul-a element-copy-out-a cast-result returns returns-2)
