@@ -1,8 +1,8 @@
--- `packing::read_words` ends: word by word.
+-- `pack::read_words` ends: word by word.
 use Prim.Native.Nat.{_-_}
 use borrow.Author.Needs.{needs}
-use Rattle.packing.proofs.read_words.Statement.{statement}
-use Rattle.packing.proofs.read_words.Tie as tie
+use Rattle.pack.proofs.read_words.Statement.{statement}
+use Rattle.pack.proofs.read_words.Tie as tie
 
 abbrev Inv-loop : tie.InvT-loop
 Inv-loop n q₀ i₀ q i = Unit {0}

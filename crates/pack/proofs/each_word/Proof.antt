@@ -1,10 +1,10 @@
--- `packing::each_word` ends: word by word.
+-- `pack::each_word` ends: word by word.
 use Prim.Native.Nat.{_-_}
 use mathlib.Core.Path.{_≡_}
 use lib.ListN.{length}
 use borrow.Author.Needs.{needs}
-use Rattle.packing.proofs.each_word.Statement.{statement}
-use Rattle.packing.proofs.each_word.Tie as tie
+use Rattle.pack.proofs.each_word.Statement.{statement}
+use Rattle.pack.proofs.each_word.Tie as tie
 
 abbrev Inv-loop : tie.InvT-loop
 Inv-loop way from n names₀ insert ocf q₀ i₀ names q i = length names ≡ 65536

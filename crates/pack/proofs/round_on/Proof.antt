@@ -1,7 +1,7 @@
--- `packing::round_on` meets its contract: the course is the one that the round leaves.
+-- `pack::round_on` meets its contract: the course is the one that the round leaves.
 use borrow.Author.Needs.{needs}
-use Rattle.packing.proofs.round_on.Statement.{statement}
-use Rattle.packing.proofs.round_on.Tie as tie
+use Rattle.pack.proofs.round_on.Statement.{statement}
+use Rattle.pack.proofs.round_on.Tie as tie
 
 go-round-requires : tie.Need-go-round-requires
 go-round-requires c κs = search needs

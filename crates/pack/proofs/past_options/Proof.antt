@@ -1,8 +1,8 @@
--- `packing::past_options` ends: word by word.
+-- `pack::past_options` ends: word by word.
 use Prim.Native.Nat.{_-_}
 use borrow.Author.Needs.{needs}
-use Rattle.packing.proofs.past_options.Statement.{statement}
-use Rattle.packing.proofs.past_options.Tie as tie
+use Rattle.pack.proofs.past_options.Statement.{statement}
+use Rattle.pack.proofs.past_options.Tie as tie
 
 abbrev Inv-loop : tie.InvT-loop
 Inv-loop i n j₀ j = Unit {0}

@@ -6,8 +6,8 @@ use mathlib.Core.Path.{sym, ap}
 use lib.ListN.{List·getD-eq-default}
 use Rattle.rules.specs.Settings.{noChannel, ocfOctets}
 use borrow.Author.Needs.{needs}
-use Rattle.packing.proofs.ocf_of.Statement.{statement}
-use Rattle.packing.proofs.ocf_of.Tie as tie
+use Rattle.pack.proofs.ocf_of.Statement.{statement}
+use Rattle.pack.proofs.ocf_of.Tie as tie
 
 mul-c : tie.Need-mul-c
 mul-c c = search needs

@@ -1,11 +1,11 @@
--- `packing::lane_of` meets its contract: a slot past the eight is one of zeros.
+-- `pack::lane_of` meets its contract: a slot past the eight is one of zeros.
 use mathlib.Core.Path.{_≡_, sym, _∙_}
 use native.Mathlib.Omega.{arith}
 use lib.ListN.{length, length-map, List·getD-eq-default}
 use Rattle.rules.specs.Settings.{noLane}
 use borrow.Author.Needs.{needs}
-use Rattle.packing.proofs.lane_of.Statement.{statement}
-use Rattle.packing.proofs.lane_of.Tie as tie
+use Rattle.pack.proofs.lane_of.Statement.{statement}
+use Rattle.pack.proofs.lane_of.Tie as tie
 
 mul-result : tie.Need-mul-result
 mul-result c = search needs

@@ -15,8 +15,8 @@ use Rattle.turns.specs.declared.Course.{Course}
 use Rattle.turns.specs.declared.Source.{Source}
 use Rattle.turns.specs.declared.Move.{Move}
 use Rattle.turns.specs.Turns.{TakenAt}
-use Rattle.packing.specs.declared.Files.{Files}
-use Rattle.packing.specs.declared.Round.{Round}
+use Rattle.pack.specs.declared.Files.{Files}
+use Rattle.pack.specs.declared.Round.{Round}
 
 -- "An access lane's file is one unit; or, with a list, the list's units."
 unfoldable pub formOf : Kind → Bool → Form

@@ -1,8 +1,8 @@
--- `packing::plan_all` ends: word by word.
+-- `pack::plan_all` ends: word by word.
 use Prim.Native.Nat.{_-_}
 use borrow.Author.Needs.{needs}
-use Rattle.packing.proofs.plan_all.Statement.{statement}
-use Rattle.packing.proofs.plan_all.Tie as tie
+use Rattle.pack.proofs.plan_all.Statement.{statement}
+use Rattle.pack.proofs.plan_all.Tie as tie
 
 abbrev Inv-loop : tie.InvT-loop
 Inv-loop from n s once plan₀ i₀ plan i = Unit {0}

@@ -1,9 +1,9 @@
--- `packing::next_place` meets its contract: the one after, or the first.
+-- `pack::next_place` meets its contract: the one after, or the first.
 use borrow.Author.Tests.{lt-ltb, le-ltb}
-use Rattle.packing.specs.Rounds.{nextPlace}
+use Rattle.pack.specs.Rounds.{nextPlace}
 use borrow.Author.Needs.{needs}
-use Rattle.packing.proofs.next_place.Statement.{statement}
-use Rattle.packing.proofs.next_place.Tie as tie
+use Rattle.pack.proofs.next_place.Statement.{statement}
+use Rattle.pack.proofs.next_place.Tie as tie
 
 add-j : tie.Need-add-j
 add-j c = search needs

@@ -1,9 +1,9 @@
--- `packing::load_open` meets its contract: what was read stands in the area.
+-- `pack::load_open` meets its contract: what was read stands in the area.
 use mathlib.Core.Path.{sym}
 use lib.Seq.{length-take-le}
 use borrow.Author.Needs.{needs}
-use Rattle.packing.proofs.load_open.Statement.{statement}
-use Rattle.packing.proofs.load_open.Tie as tie
+use Rattle.pack.proofs.load_open.Statement.{statement}
+use Rattle.pack.proofs.load_open.Tie as tie
 
 buffer-requires : tie.Need-buffer-requires
 buffer-requires c κs = search needs

@@ -1,8 +1,8 @@
--- `packing::form_of` meets its contract: by the kind, and the list.
-use Rattle.packing.specs.Rounds.{formOf}
+-- `pack::form_of` meets its contract: by the kind, and the list.
+use Rattle.pack.specs.Rounds.{formOf}
 use borrow.Author.Needs.{needs}
-use Rattle.packing.proofs.form_of.Statement.{statement}
-use Rattle.packing.proofs.form_of.Tie as tie
+use Rattle.pack.proofs.form_of.Statement.{statement}
+use Rattle.pack.proofs.form_of.Tie as tie
 
 enum-told : tie.Need-enum-told
 enum-told c = search needs

@@ -1,4 +1,4 @@
--- `packing::go_round` meets its contract: turn by turn, each with a file that there is, and handed what the one before left.
+-- `pack::go_round` meets its contract: turn by turn, each with a file that there is, and handed what the one before left.
 use Prim.Native.Nat.{ℕ, _-_, _<_}
 use mathlib.Core.Path.{_≡_, refl}
 use mathlib.Core.Bool.{Bool}
@@ -8,11 +8,11 @@ use lib.ListN.{length, length-replicate}
 use Rattle.turns.specs.declared.Course.{Course}
 use Rattle.turns.specs.declared.Move.{Move}
 use Rattle.turns.specs.Turns.{TakenAt}
-use Rattle.packing.specs.declared.Files.{Files}
-use Rattle.packing.specs.Rounds.{nextPlace, fileOf, withFile, Dealt, begun, turn, Rounded}
+use Rattle.pack.specs.declared.Files.{Files}
+use Rattle.pack.specs.Rounds.{nextPlace, fileOf, withFile, Dealt, begun, turn, Rounded}
 use borrow.Author.Needs.{needs}
-use Rattle.packing.proofs.go_round.Statement.{statement}
-use Rattle.packing.proofs.go_round.Tie as tie
+use Rattle.pack.proofs.go_round.Statement.{statement}
+use Rattle.pack.proofs.go_round.Tie as tie
 
 -- Whose turn is next goes by the place that was worked out.
 turn-to :
