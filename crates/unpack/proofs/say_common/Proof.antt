@@ -1,8 +1,8 @@
 -- What was put is what is said.
 use Rattle.unpack_text.proofs.Cuts.{wrote-cut, wrote-front}
 use borrow.Author.Needs.{needs}
-use Rattle.unpacking.proofs.say_common.Statement.{statement}
-use Rattle.unpacking.proofs.say_common.Tie as tie
+use Rattle.unpack.proofs.say_common.Statement.{statement}
+use Rattle.unpack.proofs.say_common.Tie as tie
 
 slice-aggregate-put-common : tie.Need-slice-aggregate-put-common
 slice-aggregate-put-common c = search needs

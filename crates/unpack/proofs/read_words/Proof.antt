@@ -1,8 +1,8 @@
--- `unpacking::read_words`: the words are counted.
+-- `unpack::read_words`: the words are counted.
 use borrow.Author.Needs.{needs}
 use Prim.Native.Nat.{_-_}
-use Rattle.unpacking.proofs.read_words.Statement.{statement}
-use Rattle.unpacking.proofs.read_words.Tie as tie
+use Rattle.unpack.proofs.read_words.Statement.{statement}
+use Rattle.unpack.proofs.read_words.Tie as tie
 
 abbrev Inv-loop : tie.InvT-loop
 Inv-loop n q₀ i₀ q i = Unit {0}

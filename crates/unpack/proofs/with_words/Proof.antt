@@ -1,11 +1,11 @@
--- `unpacking::with_words`: a setting that is called good is valid.
+-- `unpack::with_words`: a setting that is called good is valid.
 use mathlib.Core.Path.{sym, ap, _∙_}
 use Rattle.rules.specs.Settings.{settingOk}
 use Rattle.setting_file.specs.declared.Judged.{Judged}
 use Rattle.setting_file.proofs.Files.{judged-good}
 use borrow.Author.Needs.{needs}
-use Rattle.unpacking.proofs.with_words.Statement.{statement}
-use Rattle.unpacking.proofs.with_words.Tie as tie
+use Rattle.unpack.proofs.with_words.Statement.{statement}
+use Rattle.unpack.proofs.with_words.Tie as tie
 
 buffer-requires : tie.Need-buffer-requires
 buffer-requires c κs = search needs

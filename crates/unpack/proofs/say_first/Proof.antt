@@ -1,8 +1,8 @@
 -- What was put is what is said.
 use Rattle.unpack_text.proofs.Cuts.{wrote-cut, wrote-front}
 use borrow.Author.Needs.{needs}
-use Rattle.unpacking.proofs.say_first.Statement.{statement}
-use Rattle.unpacking.proofs.say_first.Tie as tie
+use Rattle.unpack.proofs.say_first.Statement.{statement}
+use Rattle.unpack.proofs.say_first.Tie as tie
 
 slice-aggregate-put-first : tie.Need-slice-aggregate-put-first
 slice-aggregate-put-first c = search needs
