@@ -5,7 +5,8 @@
 // frame, the state and the areas are those from which the rules' `listing` of the worked setting goes on after as many whole
 // frames, whatever follows (`Reached`), from its beginning on. Shown by runs: that the frames are those of standard input
 // and that what is handed over is printed, for no contract can speak of what a call of the system reads or writes; and that a
-// short last frame, or the input's end, ends the run.
+// short last frame, or the input's end, ends the run. The stored run is of document 01's frames 0, 1 and 1: what it must print is what
+// document 01 prints, at the end of "Worked frames".
 ghost use mathlib.Core.Path.{_≡_};
 ghost use Prim.Native.Nat.{_+_, _≤_, _<_};
 ghost use mathlib.Core.Bool.{false};
@@ -38,7 +39,7 @@ struct Turn {
 }
 
 // The worked setting with its packet lane.
-pub fn worked_setting() -> Setting
+fn worked_setting() -> Setting
     ensures { λ r. ⌜ r ≡ worked packetLane ⌝ }
 {
     let none = setting::no_channel();
