@@ -1,5 +1,604 @@
-// Unpacks a recording: units by lane, records, a line a frame, totals.
+// The program unpack: a setting, a recording and a prefix from the command line; the recording's frames (crate `unpack_frames`) into outputs, which
+// crate `outputs` makes, names and removes; and what it says of a recording of which little was read. Shown by runs: what no contract can follow into
+// the system.
+ghost use mathlib.Core.Path.{_≡_};
+ghost use mathlib.Core.Bool.{true};
+ghost use Prim.Native.Nat.{_+_, _≤_};
+ghost use lib.ListN.{length};
+ghost use Rattle.rules.specs.Settings.{settingOk, readerOk};
+ghost use Rattle.refusals.specs.Words.{commonText, firstText};
+ghost use Rattle.setting_file.specs.Files.{judged};
+use files::Known;
+use outputs::Plan;
+use refusals::First;
+use refusals::Refusals;
+use refusals::Totals;
+use rules::Reader;
+use rules::Setting;
+use setting_file::Loaded;
+use unpack_frames::Sinks;
+use unpack_frames::Went;
+use unpack_start::Little;
+use unpack_start::Prefix;
+use words::Asked;
+use words::Start;
 
+// What a run has: the plan of its outputs, where its octets go, and its inputs as the system knows them.
+struct Job {
+    plan: Plan,
+    sinks: Sinks,
+    setting: Known,
+    recording: Known,
+}
+
+// Whether all went well to the end, and how many frames there were.
+struct Outcome {
+    count: u64,
+    whole: bool,
+}
+
+// Once all outputs are written: they are put on the device, what has their names is looked at once more, and they get them.
+fn settle(job: Job, name: &mut [u8], n: usize) -> bool
+    requires { ⌜ n + 51 ≤ length (now name) ⌝ }
+{
+    let p = job.plan;
+    let o = job.sinks;
+    let fds = o.fds;
+    let kept = outputs::keep_all(p, fds, name, n);
+    if kept {
+        let a = job.setting;
+        let b = job.recording;
+        let may = outputs::may_take_all(p, name, n, a, b);
+        if may {
+            return outputs::give_names(p, name, n);
+        }
+    }
+    false
+}
+
+// Says what failed in a turn, if anything did.
+fn say_went(went: Went, recording: &[u8], p: Plan, name: &mut [u8], n: usize)
+    requires { ⌜ n + 51 ≤ length (now name) ⌝ }
+{
+    match went {
+        Went::Well => {}
+        Went::NotRead => console::say_failed(b"unpack", recording),
+        Went::NotPrinted => console::say_failed(b"unpack", b"standard output"),
+        Went::NotWritten(i) => outputs::say_part(p, name, n, i),
+    }
+}
+
+// ---- when little was read
+
+// Says which refusal is the commonest.
+fn hand_common(recording: &[u8], r: Refusals, text: &[u8])
+    requires { ⌜ now text ≡ commonText (r .counts) ⌝ }
+{
+    console::say(b"unpack", recording, text);
+}
+
+// Says what the first refused frame says of itself.
+fn hand_first(recording: &[u8], p: First, own: u16, text: &[u8])
+    requires { ⌜ now text ≡ firstText p own ⌝ }
+{
+    console::say(b"unpack", recording, text);
+}
+
+// Puts which refusal is the commonest, and says it.
+fn say_common(recording: &[u8], r: Refusals) {
+    let counts = r.counts;
+    let mut area = [0u8; 197];
+    let end = refusals::put_common(&mut area, 0, counts);
+    hand_common(recording, r, &area[..end]);
+}
+
+// Puts what the first refused frame says of itself, and says it.
+fn say_first(recording: &[u8], p: First, own: u16) {
+    let mut area = [0u8; 182];
+    let end = refusals::put_first(&mut area, 0, p, own);
+    hand_first(recording, p, own, &area[..end]);
+}
+
+// Says that frames begin with sync markers, where the first refused one does.
+fn say_marker(recording: &[u8], p: First) {
+    let front = p.front;
+    let marked = refusals::is_marked(front);
+    if marked {
+        console::say(
+            b"unpack",
+            recording,
+            b"that frame begins with 1A CF FC 1D, a sync marker; markers are to be taken out first",
+        );
+    }
+}
+
+// Says what to look at, where frames were refused.
+fn say_refused(recording: &[u8], r: Refusals, own: u16) {
+    let p = r.first;
+    if p.there {
+        say_common(recording, r);
+        say_first(recording, p, own);
+        say_marker(recording, p);
+    }
+}
+
+// Says that little was read, where it is so; whether it is.
+fn say_few(few: Little, recording: &[u8]) -> bool {
+    match few {
+        Little::Enough => false,
+        Little::Nothing => {
+            console::say(
+                b"unpack",
+                recording,
+                b"no frame was read; see whether this is its setting",
+            );
+            true
+        }
+        Little::Fewer => {
+            console::say(
+                b"unpack",
+                recording,
+                b"more frames were refused than read; see whether this is its setting",
+            );
+            true
+        }
+    }
+}
+
+// Says that little was read, and what to look at, where it is so.
+fn say_little(recording: &[u8], t: Totals, own: u16) {
+    let x = t.tally;
+    let k = x.classes;
+    let few = unpack_start::little_of(k.read, k.refused);
+    let little = say_few(few, recording);
+    if little {
+        let r = t.refusals;
+        say_refused(recording, r, own);
+    }
+}
+
+// ---- the program
+
+// Once every frame is taken: prints the totals, and settles the outputs.
+fn finish(r: Reader, t: Totals, job: Job, name: &mut [u8], n: usize) -> bool
+    requires { ⌜ (readerOk r ≡ true) × (n + 51 ≤ length (now name)) ⌝ }
+{
+    let printed = unpack_frames::print_totals(r, t);
+    if printed {
+        return settle(job, name, n);
+    }
+    false
+}
+
+// The same, and says that little was read, where it is so.
+fn conclude(r: Reader, t: Totals, recording: &[u8], job: Job, name: &mut [u8], n: usize) -> bool
+    requires { ⌜ (readerOk r ≡ true) × (n + 51 ≤ length (now name)) ⌝ }
+{
+    let s = r.setting;
+    let whole = finish(r, t, job, name, n);
+    if whole {
+        say_little(recording, t, s.craft);
+    }
+    whole
+}
+
+// Takes all frames, and concludes where all went well.
+fn take_and_conclude(
+    s: Setting,
+    fd: i32,
+    recording: &[u8],
+    job: Job,
+    name: &mut [u8],
+    n: usize,
+) -> Outcome
+    requires { ⌜ (settingOk s ≡ true) × (n + 51 ≤ length (now name)) ⌝ }
+{
+    let o = job.sinks;
+    let u = unpack_frames::take_all(s, fd, o);
+    let went = u.went;
+    let good = unpack_frames::well(went);
+    if good {
+        let r = u.state;
+        let t = u.totals;
+        let whole = conclude(r, t, recording, job, name, n);
+        return Outcome {
+            count: u.count,
+            whole: whole,
+        };
+    }
+    let p = job.plan;
+    say_went(went, recording, p, name, n);
+    Outcome {
+        count: u.count,
+        whole: false,
+    }
+}
+
+// Starts the table of units, if there is one; whether that went well.
+fn start_table(recording: &[u8], job: Job, name: &mut [u8], n: usize) -> bool
+    requires { ⌜ n + 51 ≤ length (now name) ⌝ }
+{
+    let o = job.sinks;
+    let p = job.plan;
+    let went = unpack_frames::start_table(o);
+    say_went(went, recording, p, name, n);
+    unpack_frames::well(went)
+}
+
+// Prints the title, and starts the table of units; whether that went well.
+fn start_all(recording: &[u8], job: Job, name: &mut [u8], n: usize) -> bool
+    requires { ⌜ n + 51 ≤ length (now name) ⌝ }
+{
+    let o = job.sinks;
+    let titled = unpack_frames::print_title(o.quiet);
+    if titled {
+        return start_table(recording, job, name, n);
+    }
+    false
+}
+
+// Unpacks into outputs that are open.
+fn unpack_all(s: Setting, fd: i32, recording: &[u8], job: Job, name: &mut [u8], n: usize) -> Outcome
+    requires { ⌜ (settingOk s ≡ true) × (n + 51 ≤ length (now name)) ⌝ }
+{
+    let started = start_all(recording, job, name, n);
+    if started {
+        return take_and_conclude(s, fd, recording, job, name, n);
+    }
+    Outcome {
+        count: 0,
+        whole: false,
+    }
+}
+
+// Unpacks into outputs that are open, and says that it is done; or removes them.
+fn work(s: Setting, fd: i32, recording: &[u8], job: Job, name: &mut [u8], n: usize)
+    requires { ⌜ (settingOk s ≡ true) × (n + 51 ≤ length (now name)) ⌝ }
+{
+    let e = unpack_all(s, fd, recording, job, name, n);
+    if e.whole {
+        console::say_count(b"unpack", b"done: ", e.count, b" frames");
+        return;
+    }
+    let p = job.plan;
+    let o = job.sinks;
+    let fds = o.fds;
+    outputs::remove_all(p, fds, name, n);
+}
+
+// Makes the outputs and unpacks.
+fn with_job(s: Setting, fd: i32, recording: &[u8], job: Job, name: &mut [u8], n: usize)
+    requires { ⌜ (settingOk s ≡ true) × (n + 51 ≤ length (now name)) ⌝ }
+{
+    let p = job.plan;
+    let mut fds = [-1i32; 10];
+    let made = outputs::make_all(p, name, n, &mut fds);
+    if made {
+        let a = job.setting;
+        let b = job.recording;
+        let o = job.sinks;
+        let sinks = Sinks {
+            fds: fds,
+            hundredth: o.hundredth,
+            quiet: o.quiet,
+            table: o.table,
+        };
+        let open = Job {
+            plan: p,
+            sinks: sinks,
+            setting: a,
+            recording: b,
+        };
+        work(s, fd, recording, open, name, n);
+        return;
+    }
+    outputs::remove_all(p, fds, name, n);
+}
+
+// The same, where no output would replace an input.
+fn with_plan(s: Setting, fd: i32, recording: &[u8], job: Job, name: &mut [u8], n: usize)
+    requires { ⌜ (settingOk s ≡ true) × (n + 51 ≤ length (now name)) ⌝ }
+{
+    let p = job.plan;
+    let a = job.setting;
+    let b = job.recording;
+    let may = outputs::may_take_all(p, name, n, a, b);
+    if may {
+        with_job(s, fd, recording, job, name, n);
+    }
+}
+
+// How many frames of this length are a hundredth of so many octets; 0 where these do not stay.
+fn hundredth_of(plain: bool, size: u64, length: usize) -> u64 {
+    if plain {
+        if length != 0 {
+            return size / length as u64 / 100;
+        }
+    }
+    0
+}
+
+// Where octets go before there are outputs, and how far a recording goes: one that is no regular file says nothing of it.
+fn sinks_of(s: Setting, recording: Known, q: Asked) -> Sinks {
+    let plain = files::regular(recording);
+    let hundredth = hundredth_of(plain, recording.size, s.length);
+    Sinks {
+        fds: [-1i32; 10],
+        hundredth: hundredth,
+        quiet: q.first,
+        table: q.second,
+    }
+}
+
+// Draws the number of a run, for the names of its unfinished files, and goes on.
+fn with_name(
+    s: Setting,
+    fd: i32,
+    recording: &[u8],
+    a: Known,
+    b: Known,
+    q: Asked,
+    name: &mut [u8],
+    n: usize,
+)
+    requires { ⌜ (settingOk s ≡ true) × (n + 51 ≤ length (now name)) ⌝ }
+{
+    let mut drawn = [0u8; 8];
+    let got = libc::getentropy(&mut drawn);
+    if got < 0 {
+        console::say_failed(b"unpack", b"a number for the unfinished files");
+        return;
+    }
+    let number = octets::number(&drawn);
+    let p = Plan {
+        number: number,
+        lanes: s.numbered,
+        table: q.second,
+    };
+    let sinks = sinks_of(s, b, q);
+    let job = Job {
+        plan: p,
+        sinks: sinks,
+        setting: a,
+        recording: b,
+    };
+    with_plan(s, fd, recording, job, name, n);
+}
+
+// Says what is wrong with a prefix, if anything is; whether nothing is.
+fn say_prefix(what: Prefix, prefix: &[u8]) -> bool {
+    match what {
+        Prefix::Fine => true,
+        Prefix::Empty => {
+            console::say(
+                b"unpack",
+                b"PREFIX",
+                b"is empty; expected what names of files begin with",
+            );
+            false
+        }
+        Prefix::Folder => {
+            console::say(
+                b"unpack",
+                prefix,
+                b"is a folder; expected what names of files begin with",
+            );
+            false
+        }
+    }
+}
+
+// Whether names can begin with this prefix.
+fn good_prefix(prefix: &[u8]) -> bool {
+    let k = files::of_name(prefix);
+    let what = unpack_start::prefix_of(prefix, k);
+    say_prefix(what, prefix)
+}
+
+// Takes the prefix from the command line, and goes on.
+fn with_prefix(s: Setting, q: Asked, fd: i32, recording: &[u8], a: Known, b: Known)
+    requires { ⌜ settingOk s ≡ true ⌝ }
+{
+    let mut prefix = io::buffer();
+    let n = os::arg(q.three, &mut prefix);
+    if os::errno() != 0 {
+        console::say_failed(b"unpack", b"PREFIX");
+        return;
+    }
+    let good = good_prefix(&prefix[..n]);
+    if good {
+        let mut name = [0u8; 4147];
+        octets::copy(&mut name, &prefix[..n]);
+        with_name(s, fd, recording, a, b, q, &mut name, n);
+    }
+}
+
+// Whether neither standard output nor standard error is an input. Of standard error nothing is said: there is no place to say it.
+fn outside(a: Known, b: Known) -> bool {
+    let e = files::of_descriptor(2);
+    let mixed = unpack_start::is_spoiled(e, a, b);
+    if mixed {
+        return false;
+    }
+    let o = files::of_descriptor(1);
+    let same = unpack_start::is_spoiled(o, a, b);
+    if same {
+        console::say(
+            b"unpack",
+            b"standard output",
+            b"is the setting or the recording",
+        );
+        return false;
+    }
+    true
+}
+
+// Looks at the recording, and goes on.
+fn with_recording(s: Setting, q: Asked, fd: i32, recording: &[u8], a: Known)
+    requires { ⌜ settingOk s ≡ true ⌝ }
+{
+    let b = files::of_descriptor(fd);
+    let twice = files::same(a, b);
+    if twice {
+        console::say(
+            b"unpack",
+            recording,
+            b"is the setting; expected a recording",
+        );
+        return;
+    }
+    let good = outside(a, b);
+    if good {
+        with_prefix(s, q, fd, recording, a, b);
+    }
+}
+
+// Opens the recording, and goes on.
+fn with_path(s: Setting, q: Asked, path: &[u8], a: Known)
+    requires { ⌜ settingOk s ≡ true ⌝ }
+{
+    let dash = words::is_dash(path);
+    if dash {
+        with_recording(s, q, 0, b"standard input", a);
+        return;
+    }
+    let fd = os::open_read(path);
+    if fd < 0 {
+        console::say_failed(b"unpack", path);
+        return;
+    }
+    with_recording(s, q, fd, path, a);
+}
+
+// Takes the recording from the command line, and goes on.
+fn with_setting(s: Setting, q: Asked, a: Known)
+    requires { ⌜ settingOk s ≡ true ⌝ }
+{
+    let mut path = io::buffer();
+    let n = os::arg(q.two, &mut path);
+    if os::errno() != 0 {
+        console::say_failed(b"unpack", b"RECORDING");
+        return;
+    }
+    with_path(s, q, &path[..n], a);
+}
+
+// Whether standard output and standard error are open. A file that is opened would take the number of one that is closed.
+fn open_ends() -> bool {
+    let e = files::of_descriptor(2);
+    if e.there {
+        let o = files::of_descriptor(1);
+        if o.there {
+            return true;
+        }
+        console::say_failed(b"unpack", b"standard output");
+    }
+    false
+}
+
+// A setting from standard input or from a file.
+fn load_from(path: &[u8], area: &mut [u8]) -> Loaded
+    ensures { λ r. ⌜ r .judged ≡ judged (r .filled) (now (area .exit)) ⌝ }
+{
+    let dash = words::is_dash(path);
+    if dash {
+        return setting_file::load_open(b"unpack", b"standard input", 0, area);
+    }
+    setting_file::load(b"unpack", path, area)
+}
+
+// Reads the setting, and goes on.
+fn with_words(q: Asked) {
+    let mut path = io::buffer();
+    let n = os::arg(q.one, &mut path);
+    if os::errno() != 0 {
+        console::say_failed(b"unpack", b"SETTING");
+        return;
+    }
+    let mut area = [0u8; 65537];
+    let l = load_from(&path[..n], &mut area);
+    let j = l.judged;
+    if j.good {
+        let s = j.setting;
+        let a = l.file;
+        with_setting(s, q, a);
+    }
+}
+
+// ---- the command line
+
+// With word i more.
+fn add_word(q: Asked, i: usize) -> Asked {
+    let mut word = io::buffer();
+    let n = os::arg(i, &mut word);
+    let w = unpack_start::word_of(&word[..n]);
+    words::next_word(q, i, w)
+}
+
+// What all words ask for.
+fn read_words() -> Asked {
+    let n = os::arg_count();
+    let mut q = words::no_asked();
+    let mut i: usize = 1;
+    while i < n {
+        q = add_word(q, i);
+        i += 1;
+    }
+    q
+}
+
+// Says that a word is no option.
+fn say_unknown(i: usize) {
+    let mut word = io::buffer();
+    let n = os::arg(i, &mut word);
+    console::say(
+        b"unpack",
+        &word[..n],
+        b"is no option; expected --totals, --units, --help or --version",
+    );
+}
+
+// Prints how the program is called.
+fn print_help() -> bool {
+    unpack_frames::print(
+        b"unpack [--totals] [--units] SETTING RECORDING PREFIX\nReads the recording's frames and writes PREFIX.lane0 .., a lane's units each, and PREFIX.records. Prints a line a frame and totals.\n  --totals   prints the totals alone\n  --units    writes PREFIX.units.csv too, a table of the units\n  --help     prints this\n  --version  prints which program this is\nA SETTING or a RECORDING of - is standard input. docs/PROGRAMS.md has the formats.\n",
+    )
+}
+
+// Says that the program did what it was asked for in the place of unpacking, where it did.
+fn say_printed(printed: bool) {
+    if printed {
+        console::say_count(b"unpack", b"done: ", 0, b" frames");
+    }
+}
+
+// Does what the words ask for, or says why it cannot.
+fn begin(start: Start, q: Asked) {
+    match start {
+        Start::Help => {
+            let printed = print_help();
+            say_printed(printed);
+        }
+        Start::Version => {
+            let printed = unpack_frames::print(b"unpack 0.2 (Khachmuren, CCSDS 732.1-B-3)\n");
+            say_printed(printed);
+        }
+        Start::Unknown(i) => say_unknown(i),
+        Start::Usage => console::say(
+            b"unpack",
+            b"usage",
+            b"unpack [--totals] [--units] SETTING RECORDING PREFIX",
+        ),
+        Start::Work => with_words(q),
+    }
+}
+
+// Unpacks what the command line names, or says why it cannot.
 fn main() {
-    unpacking::run();
+    let open = open_ends();
+    if open {
+        let q = read_words();
+        let start = words::start_of(q, 3, 3);
+        begin(start, q);
+    }
 }

@@ -1,0 +1,59 @@
+-- The read, the opening and the line, one after another.
+use native.Mathlib.Omega.{arith}
+use Rattle.rules.proofs.Promises.{read-is}
+use Rattle.list_worked.proofs.Texts.{length-opening, listed}
+use borrow.Author.Needs.{needs}
+use Rattle.list_worked.proofs.list_frame.Statement.{statement}
+use Rattle.list_worked.proofs.list_frame.Tie as tie
+
+read-requires : tie.Need-read-requires
+read-requires c κs = search needs
+
+put-opening-requires : tie.Need-put-opening-requires
+put-opening-requires c κs = search needs
+
+put-line-requires : tie.Need-put-line-requires
+put-line-requires c κs =
+    let c₈ = c .before .before .before .before .before .before .before .before in
+    let c₁₆ = c₈ .before .before .before .before .before .before .before .before in
+    omega (
+      arith,
+      length-opening (c₁₆ .before .before .before .before .before .before .args .k),
+      c .before .before .before .put-opening .ensures .ends,
+      c₁₆ .before .before .before .before .before .before .pre .1,
+    )
+
+same-length : tie.Need-same-length
+same-length c = search needs
+
+same-length-2 : tie.Need-same-length-2
+same-length-2 c = search needs
+
+same-length-3 : tie.Need-same-length-3
+same-length-3 c = search needs
+
+same-length-4 : tie.Need-same-length-4
+same-length-4 c = search needs
+
+returns : tie.Need-returns
+returns c =
+    let c₈ = c .before .before .before .before .before .before .before .before in
+    let c₁₆ = c₈ .before .before .before .before .before .before .before .before in
+    let c₂₄ = c₁₆ .before .before .before .before .before .before .before .before in
+    let a = c₂₄ .before .args in
+    listed (a .k) _ (c₈ .before .before .before .before .before .before .before .before .read .result) _ _ _ (a .area .now) _ _ _ _ (c₂₄ .before .pre .1)
+    (read-is _ _ _ _ _ _ (c₈ .before .before .before .before .before .before .before .before .read .ensures))
+    (c .before .before .before .before .before .before .put-opening .ensures) (c .before .before .put-line .ensures)
+
+pub list-frame-spec : {M : Type 1} → statement M
+list-frame-spec =
+    tie.close
+    (tie.spec
+    read-requires
+    put-opening-requires
+    put-line-requires
+    same-length
+    same-length-2
+    same-length-3
+    same-length-4
+    returns)

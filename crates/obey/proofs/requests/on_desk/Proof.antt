@@ -1,0 +1,112 @@
+-- `obey::requests::on_desk` meets its contract. Each number has its case.
+use mathlib.Core.Path.{refl, sym, _∙_, ap₂}
+use Rattle.obey.specs.Requests.{laidIn}
+use Rattle.obey.proofs.Obeyed.{lays, sets-writer, sets-reader, writes, checks, nothing}
+use borrow.Author.Needs.{needs}
+use Rattle.obey.proofs.requests.on_desk.Statement.{statement}
+use Rattle.obey.proofs.requests.on_desk.Tie as tie
+
+word-in-requires : tie.Need-word-in-requires
+word-in-requires c κs = search needs
+
+rest-requires : tie.Need-rest-requires
+rest-requires c κs = search needs
+
+word-in-requires-2 : tie.Need-word-in-requires-2
+word-in-requires-2 c κs = search needs
+
+lay-in-requires : tie.Need-lay-in-requires
+lay-in-requires c κs = search needs
+
+same-length : tie.Need-same-length
+same-length c = search needs
+
+returns : tie.Need-returns
+returns c =
+    let c₅ = c .before .before .before .before .before in
+    let c₁₀ = c₅ .before .before .before .before .before in
+    lays _ (c₁₀ .args .desk .now) _ (sym (c₅ .before .before .word-in .ensures) ∙ c₅ .before .if1 .taken)
+    (c .before .before .lay-in .ensures ∙ ap₂ (laidIn _) (c .before .before .before .word-in2 .ensures) (c₅ .rest .ensures))
+
+set-writer-requires : tie.Need-set-writer-requires
+set-writer-requires c κs = search needs
+
+same-length-2 : tie.Need-same-length-2
+same-length-2 c = search needs
+
+returns-2 : tie.Need-returns-2
+returns-2 c =
+    let c₅ = c .before .before .before .before .before in
+    sets-writer _ (c₅ .before .before .before .before .args .desk .now) _
+    (sym (c₅ .before .word-in .ensures) ∙ c .before .before .before .before .if2 .taken) (c .before .before .set-writer .ensures)
+
+set-reader-requires : tie.Need-set-reader-requires
+set-reader-requires c κs = search needs
+
+same-length-3 : tie.Need-same-length-3
+same-length-3 c = search needs
+
+returns-3 : tie.Need-returns-3
+returns-3 c =
+    let c₅ = c .before .before .before .before .before in
+    let c₁₀ = c₅ .before .before .before .before .before in
+    sets-reader _ (c₁₀ .args .desk .now) _ (sym (c₅ .before .before .word-in .ensures) ∙ c .before .before .before .before .if3 .taken)
+    (c .before .before .set-reader .ensures)
+
+write-requires : tie.Need-write-requires
+write-requires c κs = search needs
+
+same-length-4 : tie.Need-same-length-4
+same-length-4 c = search needs
+
+returns-4 : tie.Need-returns-4
+returns-4 c =
+    let c₅ = c .before .before .before .before .before in
+    let c₁₀ = c₅ .before .before .before .before .before in
+    writes _ (c₁₀ .before .args .desk .now) _ (sym (c₅ .before .before .before .word-in .ensures) ∙ c .before .before .before .before .if4 .taken)
+    (c .before .before .write .ensures)
+
+check-requires : tie.Need-check-requires
+check-requires c κs = search needs
+
+same-length-5 : tie.Need-same-length-5
+same-length-5 c = search needs
+
+returns-5 : tie.Need-returns-5
+returns-5 c =
+    let c₅ = c .before .before .before .before .before in
+    let c₁₀ = c₅ .before .before .before .before .before in
+    checks _ (c₁₀ .before .before .args .desk .now) _
+    (sym (c₅ .before .before .before .before .word-in .ensures) ∙ c .before .before .before .before .if5 .taken) (c .before .before .check .ensures)
+
+returns-6 : tie.Need-returns-6
+returns-6 c =
+    let c₅ = c .before .before .before .before .before in
+    let w = c₅ .word-in .ensures in
+    nothing _ (c₅ .before .before .before .args .desk .now) _ (λ e. c .before .before .before .before .if1 .left (w ∙ e))
+    (λ e. c .before .before .before .if2 .left (w ∙ e)) (λ e. c .before .before .if3 .left (w ∙ e)) (λ e. c .before .if4 .left (w ∙ e))
+    (λ e. c .if5 .left (w ∙ e)) refl
+
+pub on-desk-spec : {M : Type 1} → statement M
+on-desk-spec =
+    tie.close
+    (tie.spec
+    word-in-requires
+    rest-requires
+    word-in-requires-2
+    lay-in-requires
+    same-length
+    returns
+    set-writer-requires
+    same-length-2
+    returns-2
+    set-reader-requires
+    same-length-3
+    returns-3
+    write-requires
+    same-length-4
+    returns-4
+    check-requires
+    same-length-5
+    returns-5
+    returns-6)

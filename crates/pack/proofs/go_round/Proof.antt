@@ -1,0 +1,132 @@
+-- `pack::go_round` meets its contract: turn by turn, each with a file that there is, and handed what the one before left.
+use Prim.Native.Nat.{ℕ, _-_, _<_}
+use mathlib.Core.Path.{_≡_, refl}
+use mathlib.Core.Bool.{Bool}
+use mathlib.Core.List.{List}
+use native.Mathlib.Omega.{arith}
+use lib.ListN.{length, length-replicate}
+use Rattle.turns.specs.declared.Course.{Course}
+use Rattle.turns.specs.declared.Move.{Move}
+use Rattle.turns.specs.Turns.{TakenAt}
+use Rattle.pack.specs.declared.Files.{Files}
+use Rattle.pack.specs.Rounds.{nextPlace, fileOf, withFile, Dealt, begun, turn, Rounded}
+use borrow.Author.Needs.{needs}
+use Rattle.pack.proofs.go_round.Statement.{statement}
+use Rattle.pack.proofs.go_round.Tie as tie
+
+-- Whose turn is next goes by the place that was worked out.
+turn-to :
+    {writing : Bool} {c₀ c : Course} {f₀ f : Files} {insert ocf areas lists areas′ lists′ : List ℕ} {k j : ℕ} {m : Move}
+    → Dealt writing c₀ f₀ insert ocf k c f areas lists → TakenAt k writing c (fileOf f k) insert ocf areas lists m areas′ lists′
+    → j ≡ nextPlace k (f .count) → Dealt writing c₀ f₀ insert ocf j (m .course) (withFile f k (m .source)) areas′ lists′
+turn-to d t e = rw e (turn d t)
+
+-- A round may end with any turn that it came to.
+ends-with :
+    {writing : Bool} {c₀ c : Course} {f₀ f : Files} {insert ocf areas lists areas′ lists′ : List ℕ} {k : ℕ} {m : Move}
+    → Dealt writing c₀ f₀ insert ocf k c f areas lists → TakenAt k writing c (fileOf f k) insert ocf areas lists m areas′ lists′
+    → Rounded writing c₀ f₀ insert ocf (record { course = m .course; last = k })
+ends-with d t =
+    record { before = _; files = _; areas = _; lists = _; dealt = d; move = _; areas′ = _; lists′ = _; taken = t; course = refl }
+
+abbrev Inv-loop : tie.InvT-loop
+Inv-loop way insert ocf areas₀ lists₀ f₀ course₀ k₀ last₀ turns₀ areas lists f course k last turns =
+    (k < 8) × (length areas ≡ 524288) × (length lists ≡ 2048) × (last < 8)
+    × Dealt (way .writing) course₀ f₀ insert ocf k course f areas lists
+    × ((turns ≡ 0 → ⊥) → Rounded (way .writing) course₀ f₀ insert ocf (record { course = course; last = last }))
+
+abbrev μ-loop : tie.MeasureT-loop
+μ-loop way insert ocf areas₀ lists₀ f₀ course₀ k₀ last₀ turns₀ areas lists f course k last turns = 18446744073709551615 - turns
+
+loop-holds : tie.Need-loop-holds Inv-loop μ-loop
+loop-holds c = (
+  search needs,
+  length-replicate {A = ℕ} 524288 0,
+  length-replicate {A = ℕ} 2048 0,
+  search needs,
+  begun,
+  λ h. absurd (h refl),
+)
+
+mul-x : tie.Need-mul-x Inv-loop μ-loop
+mul-x c = search needs
+
+element-copy-out-x : tie.Need-element-copy-out-x Inv-loop μ-loop
+element-copy-out-x c = search needs
+
+slice-aggregate-turn-at : tie.Need-slice-aggregate-turn-at Inv-loop μ-loop
+slice-aggregate-turn-at c = search needs
+
+slice-aggregate-turn-at-2 : tie.Need-slice-aggregate-turn-at-2 Inv-loop μ-loop
+slice-aggregate-turn-at-2 c = search needs
+
+turn-at-requires : tie.Need-turn-at-requires Inv-loop μ-loop
+turn-at-requires c κs = search needs
+
+mul-y : tie.Need-mul-y Inv-loop μ-loop
+mul-y c = search needs
+
+element-set-from-y : tie.Need-element-set-from-y Inv-loop μ-loop
+element-set-from-y c = search needs
+
+say-progress-requires : tie.Need-say-progress-requires Inv-loop μ-loop
+say-progress-requires c κs = search needs
+
+has-next-requires : tie.Need-has-next-requires Inv-loop μ-loop
+has-next-requires c κs = search needs
+
+next-place-requires : tie.Need-next-place-requires Inv-loop μ-loop
+next-place-requires c κs = search needs
+
+add-turns : tie.Need-add-turns Inv-loop μ-loop
+add-turns c = search needs
+
+loop-less : tie.Need-loop-less Inv-loop μ-loop
+loop-less c = search needs
+
+loop-again : tie.Need-loop-again Inv-loop μ-loop
+loop-again c =
+    let c₈ = c .before .before .before .before .before .before .before .before in
+    let l = c₈ .before .before .before .before .before .loop .inv in (
+      search needs,
+      search needs,
+      search needs,
+      search needs,
+      turn-to (l .4) (c₈ .turn-at .ensures) (c .next-place .ensures .0),
+      λ h. ends-with (l .4) (c₈ .turn-at .ensures),
+    )
+
+returns : tie.Need-returns Inv-loop μ-loop
+returns c =
+    let l = c .before .loop .inv in (l .3, l .5 (λ e. omega (arith, e, c .loop-test .left)))
+
+returns-2 : tie.Need-returns-2 Inv-loop μ-loop
+returns-2 c =
+    let c₇ = c .before .before .before .before .before .before .before in
+    let l = c₇ .before .before .before .before .before .loop .inv in (
+      l .0,
+      ends-with (l .4) (c₇ .turn-at .ensures),
+    )
+
+pub go-round-spec : {M : Type 1} → statement M
+go-round-spec =
+    tie.close
+    (tie.spec
+    Inv-loop
+    μ-loop
+    loop-holds
+    mul-x
+    element-copy-out-x
+    slice-aggregate-turn-at
+    slice-aggregate-turn-at-2
+    turn-at-requires
+    mul-y
+    element-set-from-y
+    say-progress-requires
+    has-next-requires
+    next-place-requires
+    add-turns
+    loop-less
+    loop-again
+    returns
+    returns-2)
