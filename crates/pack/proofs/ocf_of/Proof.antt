@@ -23,7 +23,7 @@ returns : tie.Need-returns
 returns c = search needs
 
 returns-2 : tie.Need-returns-2
-returns-2 c = let a = c .before in
+returns-2 c = let a = c .before .before in
     let g : length (a .args .t1 .channels) ≡ 8 = simp length-map at (a .good .0 .1 .1 .1 .1 .1 .1 .0 .1 .0 .1) in
     sym (ap ocfOctets (List·getD-eq-default (a .args .t1 .channels) noChannel (omega (arith, g, c .if1 .left))))
 
