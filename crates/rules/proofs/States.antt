@@ -19,7 +19,7 @@ use Rattle.rules.specs.declared.Expects.{Expects}
 use Rattle.rules.specs.declared.Slot.{Slot}
 use Rattle.rules.specs.declared.Reader.{Reader}
 use Rattle.rules.specs.declared.Writer.{Writer}
-use Rattle.rules.specs.Tests.{_<?_, _=?_, all, every}
+use Rattle.rules.specs.Tests.{_=?_, all}
 use Rattle.rules.specs.Settings
 use Rattle.rules.specs.Settings.{channel, lane, channelOf, expectOn, expect, expecting, noExpects, noSlot, withExpect, withSlot, number, zone, settingOk, readerOk, writerOk, freshReader, freshWriter, noReader, noWriter}
 use Rattle.rules.specs.Writing.{batchOk, frames, numberAfter, countAfter, writerAfter}

@@ -37,7 +37,8 @@ returns c =
     c .before .before .lay .ensures
     ∙ ap (λ (x : List ℕ). laid x (7 + a .c .octets) (a .insert .now))
     (c .before .before .before .before .before .before .lay-number2 .ensures ∙ ap (λ (x : List ℕ). laid x 7 (be (a .c .octets) (a .k)))
-    (c₈ .before .before .before .lay-number .ensures ∙ ap (λ (n : ℕ). laid (a .area .now) 0 (be 7 n)) (c₈ .before .before .before .before .before .header-of .ensures)))
+    (c₈ .before .before .before .lay-number .ensures
+    ∙ ap (λ (n : ℕ). laid (a .area .now) 0 (be 7 n)) (c₈ .before .before .before .before .before .header-of .ensures)))
     ∙ front-laid (a .area .now) (a .s) (a .c) (a .l) (a .k) (a .insert .now) (search needs)
 
 pub put-front-spec : {M : Type 1} → statement M

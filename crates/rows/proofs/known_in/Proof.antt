@@ -45,7 +45,8 @@ loop-less c = search needs
 
 loop-again : tie.Need-loop-again Inv-loop μ-loop
 loop-again c =
-    (search needs, simp length-set (c .before .before .loop .inv .1), slots-turn _ _ _ _ _ (c .before .before .loop .inv .2) (ap (λ (n : ℕ). n =? 1) (c .word-in .ensures)))
+    let told = ap (λ (n : ℕ). n =? 1) (c .word-in .ensures) in
+    (search needs, simp length-set (c .before .before .loop .inv .1), slots-turn _ _ _ _ _ (c .before .before .loop .inv .2) told)
 
 returns : tie.Need-returns Inv-loop μ-loop
 unfolding knownIn
