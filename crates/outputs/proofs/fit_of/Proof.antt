@@ -35,7 +35,9 @@ plain-fit-requires : tie.Need-plain-fit-requires
 plain-fit-requires c κs = search needs
 
 -- Of a regular file that is no input.
-plain-fits : (k : Known) (f : Kept) (r : Fit) → sameFile k (f .setting) ≡ false → sameFile k (f .recording) ≡ false → k .there ≡ true → isRegular k ≡ true → r ≡ plainFit k (f .printed) (f .said) → r ≡ fitOf k f
+plain-fits :
+    (k : Known) (f : Kept) (r : Fit) → sameFile k (f .setting) ≡ false → sameFile k (f .recording) ≡ false → k .there ≡ true →
+    isRegular k ≡ true → r ≡ plainFit k (f .printed) (f .said) → r ≡ fitOf k f
 unfolding fitOf
 plain-fits k f r a b there plain e = rw (a, b, plain) (e ∙ ap (λ t. cond t (plainFit k (f .printed) (f .said)) Free) (sym there))
 
