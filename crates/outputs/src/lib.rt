@@ -576,14 +576,13 @@ pub fn give_names(p: Plan, name: &mut [u8], n: usize) -> bool
 
 // ---- a run that fails
 
-// Closes and removes output i's unfinished file, if this run made it.
+// Removes output i's unfinished file, if this run made it. The program ends then, and closes it.
 fn remove(p: Plan, fd: i32, name: &mut [u8], n: usize, i: usize)
     requires { ⌜ n + 51 ≤ length (now name) ⌝ }
 {
     if fd < 0 {
         return;
     }
-    libc::close(fd);
     let end = put_marked(name, n, p.number, i, false);
     os::unlink(&name[..end]);
 }

@@ -257,12 +257,12 @@ fn work(s: Setting, fd: i32, recording: &[u8], job: Job, name: &mut [u8], n: usi
     let e = unpack_all(s, fd, recording, job, name, n);
     if e.whole {
         console::say_count(b"unpack", b"done: ", e.count, b" frames");
-        return;
+    } else {
+        let p = job.plan;
+        let o = job.sinks;
+        let fds = o.fds;
+        outputs::remove_all(p, fds, name, n);
     }
-    let p = job.plan;
-    let o = job.sinks;
-    let fds = o.fds;
-    outputs::remove_all(p, fds, name, n);
 }
 
 // Makes the outputs and unpacks.
@@ -287,9 +287,9 @@ fn with_job(s: Setting, fd: i32, recording: &[u8], job: Job, name: &mut [u8], n:
             kept: f,
         };
         work(s, fd, recording, open, name, n);
-        return;
+    } else {
+        outputs::remove_all(p, fds, name, n);
     }
-    outputs::remove_all(p, fds, name, n);
 }
 
 // The same, where no output would replace what it may not.
@@ -600,7 +600,7 @@ pub fn run() {
     let open = open_ends();
     if open {
         let q = read_words();
-        let start = words::start_of(q, 3, 3);
+        let start = unpack_start::start_of(q);
         begin(start, q);
     }
 }
