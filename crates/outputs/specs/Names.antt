@@ -11,8 +11,9 @@ use Rattle.outputs.specs.declared.Plan.{Plan}
 use Rattle.outputs.specs.declared.Moved.{Moved}
 use Rattle.outputs.specs.declared.Moved.the-variants.{Done, Nothing, Failed}
 use Rattle.outputs.specs.declared.Stage.{Stage}
+use Rattle.outputs.specs.declared.Kept.{Kept}
 use Rattle.outputs.specs.declared.Fit.{Fit}
-use Rattle.outputs.specs.declared.Fit.the-variants.{Free, Setting, Recording, Strange}
+use Rattle.outputs.specs.declared.Fit.the-variants.{Free, Setting, Recording, Printed, Said, Strange}
 
 -- A file for each lane that there is, the table where it is asked for, and the records.
 unfoldable pub hasOutput : Plan → ℕ → Bool
@@ -26,12 +27,16 @@ ending i = cond (i <? 8) (text ".lane" ++ decimal i) (cond (i =? 8) (text ".unit
 unfoldable pub mark : Bool → ℕ → List ℕ
 mark old number = text "." ++ decimal number ++ cond old (text ".old") (text ".part")
 
--- "No output may be one of the inputs", and what an output replaces is a regular file.
-unfoldable pub fitOf : Known → Known → Known → Fit
-fitOf k setting recording =
-    cond (sameFile k setting) Setting
-    (cond (sameFile k recording) Recording
-    (cond (k .there) (cond (isRegular k) Free Strange) Free))
+-- Of a regular file: what is printed or said may stand in it.
+unfoldable pub plainFit : Known → Known → Known → Fit
+plainFit k printed said = cond (sameFile k printed) Printed (cond (sameFile k said) Said Free)
+
+-- "No output may be one of the inputs", and what an output replaces is a regular file, into which nothing is printed or said.
+unfoldable pub fitOf : Known → Kept → Fit
+fitOf k f =
+    cond (sameFile k (f .setting)) Setting
+    (cond (sameFile k (f .recording)) Recording
+    (cond (k .there) (cond (isRegular k) (plainFit k (f .printed) (f .said)) Strange) Free))
 
 -- ---- giving the names
 

@@ -7,7 +7,7 @@ ghost use mathlib.Core.List.{_++_};
 ghost use Prim.Native.Nat.{_+_, _≤_, _<_};
 ghost use lib.ListN.{length, drop};
 ghost use Rattle.unpack_text.specs.Lines.{Wrote};
-ghost use Rattle.outputs.specs.Names.{hasOutput, ending, mark, fitOf, asideTurn, noStage, putAside, gave, lastSlash};
+ghost use Rattle.outputs.specs.Names.{hasOutput, ending, mark, plainFit, fitOf, asideTurn, noStage, putAside, gave, lastSlash};
 use files::Known;
 
 // How many lanes a run has, whether it writes a table of units, and the number that its unfinished files have in their names.
@@ -17,11 +17,21 @@ pub struct Plan {
     pub table: bool,
 }
 
-// What stands at the name of an output: nothing that is in the way, an input, or something that is no regular file.
+// The files of a run that no output may replace: its inputs, and where it prints and says something.
+pub struct Kept {
+    pub setting: Known,
+    pub recording: Known,
+    pub printed: Known,
+    pub said: Known,
+}
+
+// What stands at the name of an output: nothing that is in the way, an input, what is printed or said, or something that is no regular file.
 pub enum Fit {
     Free,
     Setting,
     Recording,
+    Printed,
+    Said,
     Strange,
 }
 
@@ -85,14 +95,31 @@ pub fn say_part(p: Plan, name: &mut [u8], n: usize, i: usize)
 
 // ---- what is there already
 
-// What a file is to an output that would take its name.
-fn fit_of(k: Known, setting: Known, recording: Known) -> Fit
-    ensures { λ r. ⌜ r ≡ fitOf k setting recording ⌝ }
+// What a regular file that is no input is to an output that would take its name.
+fn plain_fit(k: Known, printed: Known, said: Known) -> Fit
+    ensures { λ r. ⌜ r ≡ plainFit k printed said ⌝ }
 {
+    let a = files::same(k, printed);
+    if a {
+        return Fit::Printed;
+    }
+    let b = files::same(k, said);
+    if b {
+        return Fit::Said;
+    }
+    Fit::Free
+}
+
+// What a file is to an output that would take its name.
+fn fit_of(k: Known, f: Kept) -> Fit
+    ensures { λ r. ⌜ r ≡ fitOf k f ⌝ }
+{
+    let setting = f.setting;
     let a = files::same(k, setting);
     if a {
         return Fit::Setting;
     }
+    let recording = f.recording;
     let b = files::same(k, recording);
     if b {
         return Fit::Recording;
@@ -100,7 +127,9 @@ fn fit_of(k: Known, setting: Known, recording: Known) -> Fit
     if k.there {
         let plain = files::regular(k);
         if plain {
-            return Fit::Free;
+            let printed = f.printed;
+            let said = f.said;
+            return plain_fit(k, printed, said);
         }
         return Fit::Strange;
     }
@@ -127,6 +156,22 @@ fn say_fit(f: Fit, name: &[u8]) -> bool {
             );
             false
         }
+        Fit::Printed => {
+            console::say(
+                b"unpack",
+                name,
+                b"is standard output, which nothing may replace",
+            );
+            false
+        }
+        Fit::Said => {
+            console::say(
+                b"unpack",
+                name,
+                b"is standard error, which nothing may replace",
+            );
+            false
+        }
         Fit::Strange => {
             console::say(b"unpack", name, b"is there and is no regular file");
             false
@@ -135,7 +180,7 @@ fn say_fit(f: Fit, name: &[u8]) -> bool {
 }
 
 // Whether output i, if there is one, may take its name.
-fn may_take(p: Plan, name: &mut [u8], n: usize, i: usize, setting: Known, recording: Known) -> bool
+fn may_take(p: Plan, name: &mut [u8], n: usize, i: usize, f: Kept) -> bool
     requires { ⌜ n + 51 ≤ length (now name) ⌝ }
 {
     let wanted = has(p, i);
@@ -144,17 +189,17 @@ fn may_take(p: Plan, name: &mut [u8], n: usize, i: usize, setting: Known, record
     }
     let end = put_ending(name, n, i);
     let k = files::of_name(&name[..end]);
-    let f = fit_of(k, setting, recording);
-    say_fit(f, &name[..end])
+    let fit = fit_of(k, f);
+    say_fit(fit, &name[..end])
 }
 
-// Whether each output may take its name: none leads to an input, by link or by name, and what is there is a regular file.
-pub fn may_take_all(p: Plan, name: &mut [u8], n: usize, setting: Known, recording: Known) -> bool
+// Whether each output may take its name: none leads to a file that nothing may replace, by link or by name, and what is there is a regular file.
+pub fn may_take_all(p: Plan, name: &mut [u8], n: usize, f: Kept) -> bool
     requires { ⌜ n + 51 ≤ length (now name) ⌝ }
 {
     let mut i: usize = 0;
     while i < 10 {
-        let good = may_take(p, name, n, i, setting, recording);
+        let good = may_take(p, name, n, i, f);
         if !good {
             return false;
         }
@@ -531,14 +576,13 @@ pub fn give_names(p: Plan, name: &mut [u8], n: usize) -> bool
 
 // ---- a run that fails
 
-// Closes and removes output i's unfinished file, if this run made it.
+// Removes output i's unfinished file, if this run made it. The program ends then, and closes it.
 fn remove(p: Plan, fd: i32, name: &mut [u8], n: usize, i: usize)
     requires { ⌜ n + 51 ≤ length (now name) ⌝ }
 {
     if fd < 0 {
         return;
     }
-    libc::close(fd);
     let end = put_marked(name, n, p.number, i, false);
     os::unlink(&name[..end]);
 }

@@ -7,7 +7,8 @@ ghost use mathlib.Core.Path.{_≡_};
 ghost use Prim.Native.Nat.{_<_};
 ghost use lib.ListN.{length};
 ghost use Rattle.rules.specs.Settings.{lane, channel, ocfOctets};
-ghost use Rattle.pack.specs.Rounds.{formOf, nextPlace, Rounded, Passed};
+ghost use Rattle.pack.specs.Rounds.{formOf, nextPlace, anyMore, hasNext, Rounded, Passed};
+ghost use Rattle.pack.specs.Sources.{freshWindow, unopenedFile, lookWay, isAccess, isUnits};
 use file_batches::Wrong;
 use files::Known;
 use intake::Window;
@@ -162,7 +163,9 @@ fn form_of(kind: Kind, listed: bool) -> Form
 }
 
 // A window on a file that nothing was read of.
-fn fresh() -> Window {
+fn fresh() -> Window
+    ensures { λ r. ⌜ r ≡ freshWindow ⌝ }
+{
     Window {
         have: 0,
         at: 0,
@@ -176,7 +179,14 @@ struct Opened {
     name: usize,
 }
 
-// Opens a file that is read twice, where nothing stands against it. Says what does.
+// No file is open.
+fn unopened() -> Opened
+    ensures { λ r. ⌜ r ≡ unopenedFile ⌝ }
+{
+    Opened { fd: -1, name: 0 }
+}
+
+// Opens a file that is read twice, where nothing stands against it. Says what does; the program then ends, and closes it.
 fn open_file(path: &[u8]) -> i32 {
     let fd = os::open_read(path);
     if fd < 0 {
@@ -188,7 +198,6 @@ fn open_file(path: &[u8]) -> i32 {
     if free {
         return fd;
     }
-    libc::close(fd);
     -1
 }
 
@@ -196,14 +205,12 @@ fn open_file(path: &[u8]) -> i32 {
 fn open_word(i: usize, from: usize, name: &mut [u8]) -> Opened {
     let mut word = io::buffer();
     let n = os::arg(i, &mut word);
-    if n < from {
-        return Opened { fd: -1, name: 0 };
-    }
-    octets::copy(name, &word[from..n]);
-    let fd = open_file(&word[from..n]);
+    let at = intake::least(from, n);
+    octets::copy(name, &word[at..n]);
+    let fd = open_file(&word[at..n]);
     Opened {
         fd: fd,
-        name: n - from,
+        name: n - at,
     }
 }
 
@@ -214,7 +221,7 @@ fn is_option_at(i: usize) -> bool {
     words::is_option(&word[..n])
 }
 
-// Whether word i names a list of lengths.
+// Whether word i, if there is one, names a list of lengths.
 fn is_list_at(i: usize) -> bool {
     let mut word = io::buffer();
     let n = os::arg(i, &mut word);
@@ -237,11 +244,9 @@ fn past_options(i: usize, n: usize) -> usize {
 // The list of the file that a word before word i names: the next word, options aside, where it is one; 0 for none.
 fn list_of(i: usize, n: usize) -> usize {
     let j = past_options(i, n);
-    if j < n {
-        let list = is_list_at(j);
-        if list {
-            return j;
-        }
+    let list = is_list_at(j);
+    if list {
+        return j;
     }
     0
 }
@@ -249,17 +254,9 @@ fn list_of(i: usize, n: usize) -> usize {
 // Opens a list, where a word names one.
 fn open_list(j: usize, name: &mut [u8]) -> Opened {
     if j == 0 {
-        return Opened { fd: -1, name: 0 };
+        return unopened();
     }
     open_word(j, 8, name)
-}
-
-// Closes a file that was opened.
-fn close(fd: i32) {
-    if fd < 0 {
-        return;
-    }
-    libc::close(fd);
 }
 
 // The source of lane l's file and of its list, which are open.
@@ -290,7 +287,7 @@ fn source_of(s: Setting, l: usize, file: Opened, listed: bool, list: Opened) -> 
 
 // No source.
 fn no_source(s: Setting) -> Source {
-    let none = Opened { fd: -1, name: 0 };
+    let none = unopened();
     let x = source_of(s, 0, none, false, none);
     let mut y = x;
     y.more = false;
@@ -310,7 +307,6 @@ fn with_list(s: Setting, l: usize, file: Opened, j: usize, list_name: &mut [u8])
     let list = open_list(j, list_name);
     let missing = is_missing(j, list);
     if missing {
-        libc::close(file.fd);
         return no_source(s);
     }
     source_of(s, l, file, j != 0, list)
@@ -346,6 +342,18 @@ struct Way {
     hundredth: u64,
 }
 
+// The way of the first pass: nothing is written and nothing said of how far it is, and files come one after another.
+fn look_way() -> Way
+    ensures { λ r. ⌜ r ≡ lookWay ⌝ }
+{
+    Way {
+        writing: false,
+        together: false,
+        live: false,
+        hundredth: 0,
+    }
+}
+
 // Says how far it is, where a frame was written with which that is due.
 fn say_progress(way: Way, before: u64, c: Course) {
     if before == c.frames {
@@ -364,7 +372,9 @@ struct Files {
 }
 
 // Whether a file of these may have more.
-fn any_more(f: Files) -> bool {
+fn any_more(f: Files) -> bool
+    ensures { λ r. ⌜ r ≡ anyMore f 8 ⌝ }
+{
     let mut k: usize = 0;
     while k < 8 {
         let all = f.sources;
@@ -392,7 +402,9 @@ fn next_place(k: usize, count: usize) -> usize
 }
 
 // Whether a course goes on, with these files.
-fn has_next(c: Course, f: Files) -> bool {
+fn has_next(c: Course, f: Files) -> bool
+    ensures { λ r. ⌜ r ≡ hasNext c f ⌝ }
+{
     let fault = c.fault;
     let good = streams::is_sound(fault);
     if good {
@@ -407,7 +419,7 @@ struct Round {
     last: usize,
 }
 
-// Deals out turns, a frame each, until all files are at their end: each is handed what the one before left. A proved loop has to end: this one
+// Deals out turns, a frame each, until all files are at their end or something is wrong: each is handed what the one before left. A proved loop has to end: this one
 // goes to a number of turns that no run reaches.
 fn go_round(way: Way, c: Course, files: Files, insert: &[u8], ocf: &[u8]) -> Round
     ensures { λ r. ⌜ (r .last < 8) × Rounded (way .writing) c files (now (insert .entry)) (now (ocf .entry)) r ⌝ }
@@ -430,7 +442,7 @@ fn go_round(way: Way, c: Course, files: Files, insert: &[u8], ocf: &[u8]) -> Rou
         f.sources[k] = y;
         say_progress(way, before, course);
         let on = has_next(course, f);
-        if !on {
+        if on {} else {
             break;
         }
         k = next_place(k, f.count);
@@ -442,14 +454,14 @@ fn go_round(way: Way, c: Course, files: Files, insert: &[u8], ocf: &[u8]) -> Rou
     }
 }
 
-// Closes the files of a round.
+// Closes the files of a round. A file that was not opened has no descriptor, and the system closes none for it.
 fn close_all(f: Files) {
     let mut k: usize = 0;
     while k < 8 {
         let all = f.sources;
         let x = all[k];
-        close(x.fd);
-        close(x.list_fd);
+        libc::close(x.fd);
+        libc::close(x.list_fd);
         k += 1;
     }
 }
@@ -552,7 +564,7 @@ fn place_of(f: Files) -> usize
     7
 }
 
-// Takes the files that wait for a round, if all were opened.
+// Takes the files that wait for a round, if all were opened; if not, the program ends, and closes them.
 fn round_of(way: Way, p: Stage, names: &[u8], insert: &[u8], ocf: &[u8]) -> Stage
     requires { ⌜ length (now names) ≡ 65536 ⌝ }
 {
@@ -570,7 +582,6 @@ fn round_of(way: Way, p: Stage, names: &[u8], insert: &[u8], ocf: &[u8]) -> Stag
             files: none,
         };
     }
-    close_all(f);
     Stage {
         course: c,
         files: none,
@@ -707,7 +718,9 @@ fn say_bad(word: &[u8], bad: Bad) {
 }
 
 // Whether what is named is the file of an access lane.
-fn is_units(s: Setting, name: Named) -> bool {
+fn is_units(s: Setting, name: Named) -> bool
+    ensures { λ r. ⌜ r ≡ isUnits s name ⌝ }
+{
     match name {
         Named::ToLane(l) => {
             let a = lane_of(s, l);
@@ -723,7 +736,9 @@ fn is_units(s: Setting, name: Named) -> bool {
 }
 
 // Whether a lane of this kind carries access units.
-fn is_access(kind: Kind) -> bool {
+fn is_access(kind: Kind) -> bool
+    ensures { λ r. ⌜ r ≡ isAccess kind ⌝ }
+{
     match kind {
         Kind::Packets => false,
         Kind::Access => true,
@@ -809,10 +824,8 @@ fn load_octets(i: usize, from: usize, n: usize, area: &mut [u8]) -> bool {
     }
     let mut word = io::buffer();
     let end = os::arg(i, &mut word);
-    if end < from {
-        return false;
-    }
-    load_file(&word[from..end], n, area)
+    let at = intake::least(from, end);
+    load_file(&word[at..end], n, area)
 }
 
 // ---- the program
@@ -821,12 +834,7 @@ fn load_octets(i: usize, from: usize, n: usize, area: &mut [u8]) -> bool {
 fn pack_files(s: Setting, q: Asked, n: usize, insert: &[u8], ocf: &[u8]) {
     let i = streams::within(s.insert, insert);
     let from = after(q.one, n);
-    let look = Way {
-        writing: false,
-        together: false,
-        live: false,
-        hundredth: 0,
-    };
+    let look = look_way();
     let looked = pass(look, s, from, n, &insert[..i], ocf);
     let found = looked.fault;
     let good = streams::is_sound(found);
@@ -995,6 +1003,6 @@ fn begin(start: Start, q: Asked, n: usize) {
 fn main() {
     let n = os::arg_count();
     let q = read_words(n);
-    let start = words::start_of(q, 2, 4);
+    let start = pack_start::start_of(q);
     begin(start, q, n);
 }

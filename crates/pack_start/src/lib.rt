@@ -2,9 +2,12 @@
 // which files may be read.
 ghost use mathlib.Core.Path.{_≡_};
 ghost use mathlib.Core.Bool.{false, cond};
+ghost use Rattle.words.specs.Asked.{startOf};
 ghost use Rattle.pack_start.specs.Words.{wordOf, lane as laneNamed, nameOf};
 ghost use Rattle.pack_start.specs.Plans.{noPlan, badPlan, lanePlan, planOn, fine, objectionTo};
 use files::Known;
+use words::Asked;
+use words::Start;
 use words::Word;
 
 // ---- options and names
@@ -30,6 +33,13 @@ pub fn word_of(word: &[u8]) -> Word
         return Word::Version;
     }
     Word::Unknown
+}
+
+// What a run does that is asked for this: it takes a setting and at least one name more, of which no more than four in all are counted.
+pub fn start_of(a: Asked) -> Start
+    ensures { λ r. ⌜ r ≡ startOf a 2 4 ⌝ }
+{
+    words::start_of(a, 2, 4)
 }
 
 // ---- what a word after the setting names

@@ -9,6 +9,7 @@ ghost use Rattle.rules.specs.Settings.{settingOk, readerOk};
 ghost use Rattle.refusals.specs.Words.{commonText, firstText};
 ghost use Rattle.setting_file.specs.Files.{judged};
 use files::Known;
+use outputs::Kept;
 use outputs::Plan;
 use refusals::First;
 use refusals::Refusals;
@@ -23,12 +24,11 @@ use unpack_start::Prefix;
 use words::Asked;
 use words::Start;
 
-// What a run has: the plan of its outputs, where its octets go, and its inputs as the system knows them.
+// What a run has: the plan of its outputs, where its octets go, and what no output may replace, as the system knows it.
 struct Job {
     plan: Plan,
     sinks: Sinks,
-    setting: Known,
-    recording: Known,
+    kept: Kept,
 }
 
 // Whether all went well to the end, and how many frames there were.
@@ -46,9 +46,8 @@ fn settle(job: Job, name: &mut [u8], n: usize) -> bool
     let fds = o.fds;
     let kept = outputs::keep_all(p, fds, name, n);
     if kept {
-        let a = job.setting;
-        let b = job.recording;
-        let may = outputs::may_take_all(p, name, n, a, b);
+        let f = job.kept;
+        let may = outputs::may_take_all(p, name, n, f);
         if may {
             return outputs::give_names(p, name, n);
         }
@@ -258,12 +257,12 @@ fn work(s: Setting, fd: i32, recording: &[u8], job: Job, name: &mut [u8], n: usi
     let e = unpack_all(s, fd, recording, job, name, n);
     if e.whole {
         console::say_count(b"unpack", b"done: ", e.count, b" frames");
-        return;
+    } else {
+        let p = job.plan;
+        let o = job.sinks;
+        let fds = o.fds;
+        outputs::remove_all(p, fds, name, n);
     }
-    let p = job.plan;
-    let o = job.sinks;
-    let fds = o.fds;
-    outputs::remove_all(p, fds, name, n);
 }
 
 // Makes the outputs and unpacks.
@@ -274,8 +273,7 @@ fn with_job(s: Setting, fd: i32, recording: &[u8], job: Job, name: &mut [u8], n:
     let mut fds = [-1i32; 10];
     let made = outputs::make_all(p, name, n, &mut fds);
     if made {
-        let a = job.setting;
-        let b = job.recording;
+        let f = job.kept;
         let o = job.sinks;
         let sinks = Sinks {
             fds: fds,
@@ -286,23 +284,21 @@ fn with_job(s: Setting, fd: i32, recording: &[u8], job: Job, name: &mut [u8], n:
         let open = Job {
             plan: p,
             sinks: sinks,
-            setting: a,
-            recording: b,
+            kept: f,
         };
         work(s, fd, recording, open, name, n);
-        return;
+    } else {
+        outputs::remove_all(p, fds, name, n);
     }
-    outputs::remove_all(p, fds, name, n);
 }
 
-// The same, where no output would replace an input.
+// The same, where no output would replace what it may not.
 fn with_plan(s: Setting, fd: i32, recording: &[u8], job: Job, name: &mut [u8], n: usize)
     requires { ⌜ (settingOk s ≡ true) × (n + 51 ≤ length (now name)) ⌝ }
 {
     let p = job.plan;
-    let a = job.setting;
-    let b = job.recording;
-    let may = outputs::may_take_all(p, name, n, a, b);
+    let f = job.kept;
+    let may = outputs::may_take_all(p, name, n, f);
     if may {
         with_job(s, fd, recording, job, name, n);
     }
@@ -331,16 +327,7 @@ fn sinks_of(s: Setting, recording: Known, q: Asked) -> Sinks {
 }
 
 // Draws the number of a run, for the names of its unfinished files, and goes on.
-fn with_name(
-    s: Setting,
-    fd: i32,
-    recording: &[u8],
-    a: Known,
-    b: Known,
-    q: Asked,
-    name: &mut [u8],
-    n: usize,
-)
+fn with_name(s: Setting, fd: i32, recording: &[u8], f: Kept, q: Asked, name: &mut [u8], n: usize)
     requires { ⌜ (settingOk s ≡ true) × (n + 51 ≤ length (now name)) ⌝ }
 {
     let mut drawn = [0u8; 8];
@@ -355,12 +342,12 @@ fn with_name(
         lanes: s.numbered,
         table: q.second,
     };
+    let b = f.recording;
     let sinks = sinks_of(s, b, q);
     let job = Job {
         plan: p,
         sinks: sinks,
-        setting: a,
-        recording: b,
+        kept: f,
     };
     with_plan(s, fd, recording, job, name, n);
 }
@@ -396,7 +383,7 @@ fn good_prefix(prefix: &[u8]) -> bool {
 }
 
 // Takes the prefix from the command line, and goes on.
-fn with_prefix(s: Setting, q: Asked, fd: i32, recording: &[u8], a: Known, b: Known)
+fn with_prefix(s: Setting, q: Asked, fd: i32, recording: &[u8], f: Kept)
     requires { ⌜ settingOk s ≡ true ⌝ }
 {
     let mut prefix = io::buffer();
@@ -409,18 +396,32 @@ fn with_prefix(s: Setting, q: Asked, fd: i32, recording: &[u8], a: Known, b: Kno
     if good {
         let mut name = [0u8; 4147];
         octets::copy(&mut name, &prefix[..n]);
-        with_name(s, fd, recording, a, b, q, &mut name, n);
+        with_name(s, fd, recording, f, q, &mut name, n);
+    }
+}
+
+// What no output may replace: this setting and recording, standard output and standard error.
+fn kept_of(a: Known, b: Known) -> Kept {
+    let o = files::of_descriptor(1);
+    let e = files::of_descriptor(2);
+    Kept {
+        setting: a,
+        recording: b,
+        printed: o,
+        said: e,
     }
 }
 
 // Whether neither standard output nor standard error is an input. Of standard error nothing is said: there is no place to say it.
-fn outside(a: Known, b: Known) -> bool {
-    let e = files::of_descriptor(2);
+fn outside(f: Kept) -> bool {
+    let a = f.setting;
+    let b = f.recording;
+    let e = f.said;
     let mixed = unpack_start::is_spoiled(e, a, b);
     if mixed {
         return false;
     }
-    let o = files::of_descriptor(1);
+    let o = f.printed;
     let same = unpack_start::is_spoiled(o, a, b);
     if same {
         console::say(
@@ -447,9 +448,10 @@ fn with_recording(s: Setting, q: Asked, fd: i32, recording: &[u8], a: Known)
         );
         return;
     }
-    let good = outside(a, b);
+    let f = kept_of(a, b);
+    let good = outside(f);
     if good {
-        with_prefix(s, q, fd, recording, a, b);
+        with_prefix(s, q, fd, recording, f);
     }
 }
 
@@ -598,7 +600,7 @@ fn main() {
     let open = open_ends();
     if open {
         let q = read_words();
-        let start = words::start_of(q, 3, 3);
+        let start = unpack_start::start_of(q);
         begin(start, q);
     }
 }

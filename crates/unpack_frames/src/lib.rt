@@ -128,13 +128,16 @@ fn take_frame(
 
 // ---- writing
 
-// Writes octets to an output.
-fn write_to(fds: [i32; 10], i: usize, octets: &[u8]) -> bool {
-    if 9 < i {
-        return false;
+// Writes octets to output i. There is no output past the ten, and no frame gives units for one (`output_of`).
+fn write_to(fds: [i32; 10], i: usize, octets: &[u8]) -> Went {
+    if i < 10 {
+        let fd = fds[i];
+        let given = io::write_all(fd, octets);
+        if given {
+            return Went::Well;
+        }
     }
-    let fd = fds[i];
-    io::write_all(fd, octets)
+    Went::NotWritten(i)
 }
 
 // Writes text to standard output, and says so where that fails.
@@ -162,23 +165,16 @@ fn output_of(v: Verdict) -> usize
 // Writes units to output i and records to theirs.
 fn put_units(fds: [i32; 10], i: usize, units: &[u8], records: &[u8]) -> Went {
     let given = write_to(fds, i, units);
-    if !given {
-        return Went::NotWritten(i);
+    let good = well(given);
+    if good {
+        return write_to(fds, 9, records);
     }
-    let told = write_to(fds, 9, records);
-    if !told {
-        return Went::NotWritten(9);
-    }
-    Went::Well
+    given
 }
 
 // Writes text to the table of units.
 fn write_table(fds: [i32; 10], text: &[u8]) -> Went {
-    let given = write_to(fds, 8, text);
-    if !given {
-        return Went::NotWritten(8);
-    }
-    Went::Well
+    write_to(fds, 8, text)
 }
 
 // Writes the lines of n units, which come from there, to the table.

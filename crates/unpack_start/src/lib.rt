@@ -1,9 +1,12 @@
 // What unpack decides beside its frames: what a word of its command line is, whether names of files can begin with a prefix, whether what is
 // printed would go into an input, and whether little was read.
 ghost use mathlib.Core.Path.{_≡_};
+ghost use Rattle.words.specs.Asked.{startOf};
 ghost use Rattle.unpack_start.specs.Starts.{prefixOf, spoils, littleOf};
 ghost use Rattle.unpack_start.specs.Words.{wordOf};
 use files::Known;
+use words::Asked;
+use words::Start;
 use words::Word;
 
 // What a prefix is: one that names can begin with, nothing, or a folder.
@@ -95,4 +98,11 @@ pub fn word_of(word: &[u8]) -> Word
         return Word::Version;
     }
     Word::Unknown
+}
+
+// What a run does that is asked for this: it takes three names.
+pub fn start_of(a: Asked) -> Start
+    ensures { λ r. ⌜ r ≡ startOf a 3 3 ⌝ }
+{
+    words::start_of(a, 3, 3)
 }

@@ -7,10 +7,10 @@ use Rattle.outputs.proofs.may_take_all.Statement.{statement}
 use Rattle.outputs.proofs.may_take_all.Tie as tie
 
 abbrev Inv-loop : tie.InvT-loop
-Inv-loop p name₀ n setting recording i₀ name i = (i ≤ 10) × (length name ≡ length name₀)
+Inv-loop p name₀ n f i₀ name i = (i ≤ 10) × (length name ≡ length name₀)
 
 abbrev μ-loop : tie.MeasureT-loop
-μ-loop p name₀ n setting recording i₀ name i = 10 - i
+μ-loop p name₀ n f i₀ name i = 10 - i
 
 loop-holds : tie.Need-loop-holds Inv-loop μ-loop
 loop-holds c = search needs

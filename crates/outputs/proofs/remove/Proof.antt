@@ -8,9 +8,6 @@ use Rattle.outputs.proofs.remove.Tie as tie
 returns : tie.Need-returns
 returns c = search needs
 
-close-requires : tie.Need-close-requires
-close-requires c κs = search needs
-
 put-marked-requires : tie.Need-put-marked-requires
 put-marked-requires c κs = search needs
 
@@ -34,7 +31,6 @@ remove-spec =
     tie.close
     (tie.spec
     returns
-    close-requires
     put-marked-requires
     slice-reshare-prefix-unlink
     slice-aggregate-unlink
