@@ -1,4 +1,4 @@
-// The program unpack: a setting, a recording and a prefix from the command line; the recording's frames (crate `unpack_frames`) into outputs, which
+// The program unpack: a setting, a recording and a prefix from the command line; the recording's frames (module `each_frame`) into outputs, which
 // crate `outputs` makes, names and removes; and what it says of a recording of which little was read. Shown by runs: what no contract can follow into
 // the system.
 ghost use mathlib.Core.Path.{_≡_};
@@ -8,6 +8,11 @@ ghost use lib.ListN.{length};
 ghost use Rattle.rules.specs.Settings.{settingOk, readerOk};
 ghost use Rattle.refusals.specs.Words.{commonText, firstText};
 ghost use Rattle.setting_file.specs.Files.{judged};
+
+mod each_frame;
+
+use each_frame::Sinks;
+use each_frame::Went;
 use files::Known;
 use outputs::Kept;
 use outputs::Plan;
@@ -17,8 +22,6 @@ use refusals::Totals;
 use rules::Reader;
 use rules::Setting;
 use setting_file::Loaded;
-use unpack_frames::Sinks;
-use unpack_frames::Went;
 use unpack_start::Little;
 use unpack_start::Prefix;
 use words::Asked;
@@ -162,7 +165,7 @@ fn say_little(recording: &[u8], t: Totals, own: u16) {
 fn finish(r: Reader, t: Totals, job: Job, name: &mut [u8], n: usize) -> bool
     requires { ⌜ (readerOk r ≡ true) × (n + 51 ≤ length (now name)) ⌝ }
 {
-    let printed = unpack_frames::print_totals(r, t);
+    let printed = each_frame::print_totals(r, t);
     if printed {
         return settle(job, name, n);
     }
@@ -193,9 +196,9 @@ fn take_and_conclude(
     requires { ⌜ (settingOk s ≡ true) × (n + 51 ≤ length (now name)) ⌝ }
 {
     let o = job.sinks;
-    let u = unpack_frames::take_all(s, fd, o);
+    let u = each_frame::take_all(s, fd, o);
     let went = u.went;
-    let good = unpack_frames::well(went);
+    let good = each_frame::well(went);
     if good {
         let r = u.state;
         let t = u.totals;
@@ -219,9 +222,9 @@ fn start_table(recording: &[u8], job: Job, name: &mut [u8], n: usize) -> bool
 {
     let o = job.sinks;
     let p = job.plan;
-    let went = unpack_frames::start_table(o);
+    let went = each_frame::start_table(o);
     say_went(went, recording, p, name, n);
-    unpack_frames::well(went)
+    each_frame::well(went)
 }
 
 // Prints the title, and starts the table of units; whether that went well.
@@ -229,7 +232,7 @@ fn start_all(recording: &[u8], job: Job, name: &mut [u8], n: usize) -> bool
     requires { ⌜ n + 51 ≤ length (now name) ⌝ }
 {
     let o = job.sinks;
-    let titled = unpack_frames::print_title(o.quiet);
+    let titled = each_frame::print_title(o.quiet);
     if titled {
         return start_table(recording, job, name, n);
     }
@@ -562,7 +565,7 @@ fn say_unknown(i: usize) {
 
 // Prints how the program is called.
 fn print_help() -> bool {
-    unpack_frames::print(
+    each_frame::print(
         b"unpack [--totals] [--units] SETTING RECORDING PREFIX\nReads the recording's frames and writes PREFIX.lane0 .., a lane's units each, and PREFIX.records. Prints a line a frame and totals.\n  --totals   prints the totals alone\n  --units    writes PREFIX.units.csv too, a table of the units\n  --help     prints this\n  --version  prints which program this is\nA SETTING or a RECORDING of - is standard input. docs/PROGRAMS.md has the formats.\n",
     )
 }
@@ -582,7 +585,7 @@ fn begin(start: Start, q: Asked) {
             say_printed(printed);
         }
         Start::Version => {
-            let printed = unpack_frames::print(b"unpack 0.2 (Khachmuren, CCSDS 732.1-B-3)\n");
+            let printed = each_frame::print(b"unpack 0.2 (Khachmuren, CCSDS 732.1-B-3)\n");
             say_printed(printed);
         }
         Start::Unknown(i) => say_unknown(i),

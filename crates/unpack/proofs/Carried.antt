@@ -1,0 +1,188 @@
+-- From frame to frame.
+use Prim.Native.Nat.{ℕ, _+_, _*_, _≤_, _<_}
+use mathlib.Core.Path.{_≡_, refl, sym, ap, ap₂, subst, _∙_}
+use mathlib.Core.Bool.{Bool, true, false, cond, false≢true}
+use mathlib.Core.List.{List, [], _∷_, _++_}
+use lib.ListN.{take, length-append, replicate}
+use native.Mathlib.Omega.{arith}
+use borrow.Author.Tests.{ne-eqb}
+use Rattle.rules.specs.declared.Answer.{Answer}
+use Rattle.rules.specs.declared.Listener.{Listener}
+use Rattle.rules.specs.declared.Reader.{Reader}
+use Rattle.rules.specs.declared.Setting.{Setting}
+use Rattle.rules.specs.declared.Taken.{Taken}
+use Rattle.rules.specs.declared.Verdict.{Verdict}
+use Rattle.rules.specs.Settings.{settingOk, readerOk}
+use Rattle.rules.specs.Calls.{Got, read, verdict}
+use Rattle.rules.proofs.Calls.{setup-accepted, read-valid, Small, read-fits}
+use Rattle.refusals.specs.declared.Totals.{Totals}
+use Rattle.refusals.specs.Counts.{totalled}
+use Rattle.unit_table.specs.declared.Origin.{Origin}
+use Rattle.unit_table.specs.Rows.{originOf}
+use Rattle.unpack_text.specs.declared.Tally.{Tally}
+use Rattle.unpack_text.specs.Lines.{Wrote, frameLine}
+use Rattle.unpack.specs.declared.each_frame.Came.{Came}
+use Rattle.unpack.specs.declared.each_frame.Turn.{Turn}
+use Rattle.unpack_text.proofs.Cuts.{wrote-front}
+use Rattle.unpack.specs.Stages.{Stage, got, ruled, told, advanced, through, begun, Reached}
+use Rattle.unpack.specs.Stages.{Took, Handed, Handled, Turned, Finished, taken, takenTurn, haltedTurn, firstTurn}
+use Rattle.rules.specs.Areas.{heldSize, recordSize, recordsSize, unitsSize}
+
+-- ---- stages
+
+through-more : (g : Stage) (fs : List (List ℕ)) (f : List ℕ) → through g (fs ++ f ∷ []) ≡ advanced (through g fs) f
+unfolding through
+through-more g [] f = refl
+through-more g (x ∷ fs) f = through-more (advanced g x) fs f
+
+advanced-valid : (g : Stage) (f : List ℕ) → readerOk (g .reader) ≡ true → readerOk ((advanced g f) .reader) ≡ true
+unfolding advanced got
+advanced-valid g f ok = read-valid (g .reader) f (g .held) (g .units) (g .records) ok
+
+-- The stage of a turn before which nothing was read.
+abbrev first : Turn → Stage
+first u = record { reader = u .state; held = replicate heldSize 0; units = replicate unitsSize 0; records = replicate recordsSize 0; totals = u .totals }
+
+pub begins : (s : Setting) (u : Turn) → settingOk s ≡ true → u ≡ firstTurn s → (u .count ≡ 0) × Reached (first u) (u .count) (first u)
+unfolding firstTurn through
+begins s u ok e =
+    subst (λ (x : Turn). (x .count ≡ 0) × Reached (first x) (x .count) (first x)) (sym e) (
+      refl,
+      record {
+        frames = [];
+        many = refl;
+        stage = refl;
+        valid = ap (λ (x : Listener). readerOk (x .state))
+            (setup-accepted s ok .0) ∙ setup-accepted s ok .2;
+      },
+    )
+
+-- Where the frames end, the areas may go.
+pub finished : (s : Setting) (u : Turn) {k : ℕ} {g : Stage} → u ≡ firstTurn s → Reached (first u) k g → Finished s k (g .reader) (g .totals)
+unfolding firstTurn begun
+finished s u {k} {g} e p =
+    record { held = g .held; units = g .units; records = g .records; reached = subst (λ (x : Turn). Reached (first x) k g) e p }
+
+-- After one more.
+goes : {g₀ : Stage} {k : ℕ} {g : Stage} (f : List ℕ) {g′ : Stage} → Reached g₀ k g → g′ ≡ advanced g f → Reached g₀ (k + 1) g′
+goes {g₀} {k} {g} f p e =
+    record {
+      frames = p .frames ++ f ∷ [];
+      many = omega (arith, length-append (p .frames) (f ∷ []), p .many);
+      stage = e ∙ ap (λ (x : Stage). advanced x f) (p .stage) ∙ sym (through-more g₀ (p .frames) f);
+      valid = ap (λ (x : Stage). readerOk (x .reader)) e ∙ advanced-valid g f (p .valid);
+    }
+
+-- After a turn, and that one after which there may be more took a frame.
+pub turned-on : {g₀ : Stage} {u : Turn} {c : Came} {g : Stage} {area : List ℕ} {u′ : Turn} {g′ : Stage} → Reached g₀ (u .count) g → Turned u c g area u′ g′
+    → Reached g₀ (u′ .count) g′ × (u′ .more ≡ true → u .count < u′ .count)
+unfolding takenTurn haltedTurn
+turned-on {g₀} {u} {c} {g} {area} {u′} {g′} p t = by (taken c) (t .stage) (t .turn)
+  where
+    by : (b : Bool) → g′ ≡ cond b (advanced g (take (c .octets) area)) g → u′ ≡ cond b (takenTurn u c g′ (u′ .went)) (haltedTurn u c)
+        → Reached g₀ (u′ .count) g′ × (u′ .more ≡ true → u .count < u′ .count)
+    by true e q =
+        let n : u′ .count ≡ u .count + 1 = ap (λ (x : Turn). x .count) q in
+        (subst (λ (k : ℕ). Reached g₀ k g′) (sym n) (goes (take (c .octets) area) p e), λ _. omega arith)
+    by false e q =
+        let n : u′ .count ≡ u .count = ap (λ (x : Turn). x .count) q in
+        let m : u′ .more ≡ false = ap (λ (x : Turn). x .more) q in
+        (subst (λ (x : Stage). Reached g₀ (u′ .count) x) (sym e) (subst (λ (k : ℕ). Reached g₀ k g) (sym n) p), λ h. absurd (false≢true (sym m ∙ h)))
+
+-- ---- one turn
+
+pub taken-failed : (c : Came) → c .failed ≡ true → taken c ≡ false
+unfolding taken
+taken-failed c h = rw h
+
+pub taken-none : (c : Came) → c .failed ≡ false → c .octets ≡ 0 → taken c ≡ false
+unfolding taken
+taken-none c h z = rw (h, z)
+
+pub taken-some : (c : Came) → c .failed ≡ false → (c .octets ≡ 0 → ⊥) → taken c ≡ true
+unfolding taken
+taken-some c h z = rw (h, ne-eqb (c .octets) 0 z)
+
+module _ (u : Turn) (c : Came) where
+  pub halts : (h us cs area : List ℕ) {u′ : Turn} → taken c ≡ false → u′ ≡ haltedTurn u c
+      → Turned u c (record { reader = u .state; held = h; units = us; records = cs; totals = u .totals }) area u′
+      (record { reader = u′ .state; held = h; units = us; records = cs; totals = u′ .totals })
+  unfolding haltedTurn
+  halts h us cs area k e =
+      record { stage = rw k (ap (λ (x : Turn). record { reader = x .state; held = h; units = us; records = cs; totals = x .totals }) e); turn = rw k e }
+
+  pub takes : (g : Stage) (area : List ℕ) {u′ : Turn} {g′ : Stage} → taken c ≡ true → Handled u c g (take (c .octets) area) u′ g′ → Turned u c g area u′ g′
+  takes g area h t = record { stage = rw h (t .stage); turn = rw h (t .turn) }
+
+-- What came stands in the turn.
+pub turned-came : {u : Turn} {c : Came} {g : Stage} {area : List ℕ} {u′ : Turn} {g′ : Stage} → Turned u c g area u′ g′ → Turned u (u′ .came) g area u′ g′
+unfolding takenTurn haltedTurn
+turned-came {u} {c} {g} {area} {u′} {g′} t = subst (λ (x : Came). Turned u x g area u′ g′) (sym (by (taken c) (t .turn))) t
+  where
+    by : (b : Bool) → u′ ≡ cond b (takenTurn u c g′ (u′ .went)) (haltedTurn u c) → u′ .came ≡ c
+    by true e = ap (λ (x : Turn). x .came) e
+    by false e = ap (λ (x : Turn). x .came) e
+
+-- ---- one frame
+
+-- What it gave fits the areas.
+pub gave-fits : {k : ℕ} {g : Stage} {f area : List ℕ} {g′ : Stage} {area′ : List ℕ} {v : Verdict} {a : Answer} {o : Origin} {end : ℕ}
+    → Took k g f area g′ area′ v a o end → (a .octets ≤ unitsSize) × (recordSize * a .units ≤ recordsSize)
+unfolding told got
+gave-fits {k} {g} {f} t =
+    let s : Small ((read (g .reader) f (g .held) (g .units) (g .records)) .taken .answer) = read-fits (g .reader) f (g .held) (g .units) (g .records) in
+    (omega (arith, s .octets, ap (λ (x : Answer). x .octets) (t .answer)), omega (arith, s .records, ap (λ (x : Answer). x .units) (t .answer)))
+
+module _ (k : ℕ) (r : Reader) (t : Totals) (f h u c area : List ℕ) where
+  -- The read, whose the frame is, the totals, and the line.
+  pub took : (n : Taken) (h′ u′ c′ : List ℕ) (v : Verdict) (o : Origin) (t′ : Totals) (area′ : List ℕ) (end : ℕ)
+      → record { taken = n; heldArea = h′; unitArea = u′; recordArea = c′ } ≡ read r f h u c
+      → v ≡ verdict r f h u c → o ≡ originOf (r .setting) (t .tally) k v → t′ ≡ totalled (r .setting) t v (n .answer) f
+      → Wrote 176 (frameLine k v (n .answer)) area 0 area′ end
+      → Took k (record { reader = r; held = h; units = u; records = c; totals = t }) f area
+      (record { reader = n .state; held = h′; units = u′; records = c′; totals = t′ }) area′ v (n .answer) o end
+  unfolding advanced got ruled told
+  took n h′ u′ c′ v o t′ area′ end e y x q l =
+      let a : n .answer ≡ (read r f h u c) .taken .answer = ap (λ (x : Got). x .taken .answer) e in
+      record {
+        stage =
+            ap₂ (λ (x : Got) (w : Totals). record { reader = x .taken .state; held = x .heldArea; units = x .unitArea; records = x .recordArea; totals = w }) e
+            (q ∙ ap₂ (λ (w : Verdict) (b : Answer). totalled (r .setting) t w b f) y a);
+        line = l;
+        whose = y;
+        answer = a;
+        origin = x;
+      }
+
+origin-frame : (s : Setting) (t : Tally) (k : ℕ) (v : Verdict) → (originOf s t k v) .frame ≡ k
+unfolding originOf
+origin-frame s t k (Verdict.Refused n) = refl
+origin-frame s t k Verdict.Idle = refl
+origin-frame s t k (Verdict.Counted c) = refl
+origin-frame s t k (Verdict.Read l) = refl
+
+-- What is cut out of the areas, as the read left them, is what is handed out.
+pub handed : {k : ℕ} {g : Stage} {f area : List ℕ} {g′ : Stage} {area′ : List ℕ} {v : Verdict} {a : Answer} {o : Origin} {end : ℕ}
+    → Took k g f area g′ area′ v a o end
+    → Handed o v a (take end area′) (take (a .octets) (g′ .units)) (take (recordSize * a .units) (g′ .records))
+handed {k} {g} {f} {area} {g′} {area′} {v} {a} {o} t =
+    let n : o .frame ≡ k = ap (λ (x : Origin). x .frame) (t .origin) ∙ origin-frame (g .reader .setting) (g .totals .tally) k v in
+    record {
+      line = wrote-front (t .line) ∙ ap (λ (i : ℕ). frameLine i v a) (sym n);
+      stage = g;
+      frame = f;
+      whose = t .whose;
+      answer = t .answer;
+      origin = t .origin ∙ ap (λ (i : ℕ). originOf (g .reader .setting) (g .totals .tally) i v) (sym n);
+      units = ap (λ (x : Stage). take (a .octets) (x .units)) (t .stage);
+      records = ap (λ (x : Stage). take (recordSize * a .units) (x .records)) (t .stage);
+    }
+
+-- A read gives no more units than the table has room for.
+pub handed-few : {o : Origin} {v : Verdict} {a : Answer} {l u c : List ℕ} → Handed o v a l u c → a .units ≤ 600
+unfolding told got
+handed-few {a = a} h =
+    let g = h .stage in
+    let s : Small ((read (g .reader) (h .frame) (g .held) (g .units) (g .records)) .taken .answer)
+    = read-fits (g .reader) (h .frame) (g .held) (g .units) (g .records) in
+    omega (arith, s .records, ap (λ (x : Answer). x .units) (h .answer))

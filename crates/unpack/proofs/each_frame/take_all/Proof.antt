@@ -1,0 +1,104 @@
+-- Before each frame the stage is reached, and the areas have their lengths; the frames are counted.
+use Prim.Native.Nat.{_-_}
+use mathlib.Core.Path.{_≡_, refl}
+use lib.ListN.{length}
+use native.Mathlib.Omega.{arith}
+use Rattle.unpack.specs.Stages.{Reached}
+use Rattle.unpack.proofs.Carried.{begins, finished, turned-on}
+use borrow.Author.Needs.{needs}
+use Rattle.unpack.proofs.each_frame.take_all.Statement.{statement}
+use Rattle.unpack.proofs.each_frame.take_all.Tie as tie
+use Rattle.rules.specs.Areas.{heldSize, recordsSize, unitsSize}
+
+abbrev Inv-loop : tie.InvT-loop
+Inv-loop fd fds held₀ units₀ records₀ frame₀ u₀ k₀ held units records frame u k = (length held ≡ heldSize) × (length units ≡ unitsSize) ×
+    (length records ≡ recordsSize) ×
+    (length frame ≡ 4096) × (u .count ≡ k)
+    × Reached (record { reader = u₀ .state; held = held₀; units = units₀; records = records₀; totals = u₀ .totals }) (u .count)
+    (record { reader = u .state; held = held; units = units; records = records; totals = u .totals })
+
+abbrev μ-loop : tie.MeasureT-loop
+μ-loop fd fds held₀ units₀ records₀ frame₀ u₀ k₀ held units records frame u k = 18446744073709551615 - k
+
+first-turn-requires : tie.Need-first-turn-requires Inv-loop μ-loop
+first-turn-requires c κs = search needs
+
+loop-holds : tie.Need-loop-holds Inv-loop μ-loop
+loop-holds c = let b = begins _ _ (c .before .pre) (c .first-turn .ensures) in
+    (search needs, search needs, search needs, search needs, b .0, b .1)
+
+slice-aggregate-turn-frame : tie.Need-slice-aggregate-turn-frame Inv-loop μ-loop
+slice-aggregate-turn-frame c = search needs
+
+slice-aggregate-turn-frame-2 : tie.Need-slice-aggregate-turn-frame-2 Inv-loop μ-loop
+slice-aggregate-turn-frame-2 c = search needs
+
+slice-aggregate-turn-frame-3 : tie.Need-slice-aggregate-turn-frame-3 Inv-loop μ-loop
+slice-aggregate-turn-frame-3 c = search needs
+
+slice-aggregate-turn-frame-4 : tie.Need-slice-aggregate-turn-frame-4 Inv-loop μ-loop
+slice-aggregate-turn-frame-4 c = search needs
+
+turn-frame-requires : tie.Need-turn-frame-requires Inv-loop μ-loop
+turn-frame-requires c κs = let l = c .before .before .before .before .before .loop .inv in (
+  l .5 .valid,
+  record {
+    more = omega (arith, l .4, c .before .before .before .before .loop-test .taken);
+    units = omega (arith, l .1);
+    records = omega
+        (arith, l .2);
+  },
+  omega (arith, l .3),
+)
+
+loop-less : tie.Need-loop-less Inv-loop μ-loop
+loop-less c =
+    let c₈ = c .before .before .before .before .before .before .before .before in
+    omega (
+      arith,
+      c₈ .before .before .loop-test .taken,
+      c .before .before .before .before
+          .before .before .before .before .before .before .before .loop .inv .4,
+      turned-on (c .before .before .before .before .before .before .before .before
+          .before .before .before .loop .inv .5) (c .before .before .before .before .before .turn-frame .ensures) .1 (c .if1 .taken),
+    )
+
+loop-again : tie.Need-loop-again Inv-loop μ-loop
+loop-again c =
+    let c₈ = c .before .before .before .before .before .before .before .before in (
+      search needs,
+      search needs,
+      search needs,
+      search needs,
+      refl,
+      turned-on (c₈ .before
+          .before .before .loop .inv .5) (c .before .before .before .before .before .turn-frame .ensures) .0,
+    )
+
+returns : tie.Need-returns Inv-loop μ-loop
+returns c = finished _ _ (c .before .before .first-turn .ensures) (c .before .loop .inv .5)
+
+returns-2 : tie.Need-returns-2 Inv-loop μ-loop
+returns-2 c =
+    let c₈ = c .before .before .before .before .before .before .before .before in
+    finished _ _ (c₈ .before .before .before .before .first-turn .ensures) (turned-on
+    (c₈ .before .before .before .loop .inv .5)
+    (c .before .before .before .before .before .turn-frame .ensures) .0)
+
+pub take-all-spec : {M : Type 1} → statement M
+take-all-spec =
+    tie.close
+    (tie.spec
+    Inv-loop
+    μ-loop
+    first-turn-requires
+    loop-holds
+    slice-aggregate-turn-frame
+    slice-aggregate-turn-frame-2
+    slice-aggregate-turn-frame-3
+    slice-aggregate-turn-frame-4
+    turn-frame-requires
+    loop-less
+    loop-again
+    returns
+    returns-2)

@@ -1,0 +1,160 @@
+-- What unpack carries from frame to frame.
+use Prim.Native.Nat.{ℕ, _+_, _*_, _≤_, _<_}
+use mathlib.Core.Path.{_≡_}
+use mathlib.Core.Bool.{Bool, true, false, cond, not}
+use mathlib.Core.List.{List, [], _∷_}
+use lib.ListN.{length, take, replicate}
+use Rattle.rules.specs.declared.Answer.{Answer}
+use Rattle.rules.specs.declared.Reader.{Reader}
+use Rattle.rules.specs.declared.Setting.{Setting}
+use Rattle.rules.specs.declared.Verdict.{Verdict}
+use Rattle.rules.specs.Tests.{_=?_}
+use Rattle.rules.specs.Settings.{readerOk}
+use Rattle.rules.specs.Calls.{setUpReader, Got, read, verdict}
+use Rattle.unpack_text.specs.Lines.{Wrote, frameLine}
+use Rattle.refusals.specs.declared.Totals.{Totals}
+use Rattle.refusals.specs.Counts.{totalled, noTotals}
+use Rattle.unit_table.specs.declared.Origin.{Origin}
+use Rattle.unit_table.specs.Rows.{originOf}
+use Rattle.unpack.specs.declared.each_frame.Came.{Came}
+use Rattle.unpack.specs.declared.each_frame.Went.{Went}
+use Rattle.unpack.specs.declared.each_frame.Went.the-variants.{Well, NotRead, NotPrinted, NotWritten}
+use Rattle.unpack.specs.declared.each_frame.Turn.{Turn}
+use Rattle.rules.specs.Areas.{heldSize, recordSize, recordsSize, unitsSize}
+
+-- The reader's state, the areas, and the totals.
+pub record Stage : Type 0 where
+  pub reader : Reader
+  pub held : List ℕ
+  pub units : List ℕ
+  pub records : List ℕ
+  pub totals : Totals
+
+unfoldable pub got : Stage → List ℕ → Got
+got g f = read (g .reader) f (g .held) (g .units) (g .records)
+
+unfoldable pub ruled : Stage → List ℕ → Verdict
+ruled g f = verdict (g .reader) f (g .held) (g .units) (g .records)
+
+unfoldable pub told : Stage → List ℕ → Answer
+told g f = (got g f) .taken .answer
+
+-- After one frame more: what the rules' read leaves, and the totals with its answer.
+unfoldable pub advanced : Stage → List ℕ → Stage
+advanced g f =
+    record {
+      reader = (got g f) .taken .state;
+      held = (got g f) .heldArea;
+      units = (got g f) .unitArea;
+      records = (got g f) .recordArea;
+      totals = totalled (g .reader .setting) (g .totals) (ruled g f) (told g f) f;
+    }
+
+-- After these frames, in order.
+unfoldable pub through : Stage → List (List ℕ) → Stage
+through g [] = g
+through g (f ∷ fs) = through (advanced g f) fs
+
+-- Before the first.
+unfoldable pub begun : Setting → Stage
+begun s =
+    record {
+      reader = (setUpReader s) .state;
+      held = replicate heldSize 0;
+      units = replicate unitsSize 0;
+      records = replicate recordsSize 0;
+      totals = noTotals;
+    }
+
+-- The rules' reading of k frames from one stage on comes to another, whose state is valid.
+pub record Reached (g₀ : Stage) (k : ℕ) (g : Stage) : Type 0 where
+  pub frames : List (List ℕ)
+  pub many : length frames ≡ k
+  pub stage : g ≡ through g₀ frames
+  pub valid : readerOk (g .reader) ≡ true
+
+-- Frame k was taken: the stage after it, its line in the area, whose it is, its answer, and where its units come from.
+pub record Took (k : ℕ) (g : Stage) (f area : List ℕ) (g′ : Stage) (area′ : List ℕ) (v : Verdict) (a : Answer) (o : Origin) (end : ℕ) : Type 0 where
+  pub stage : g′ ≡ advanced g f
+  pub line : Wrote 176 (frameLine k v a) area 0 area′ end
+  pub whose : v ≡ ruled g f
+  pub answer : a ≡ told g f
+  pub origin : o ≡ originOf (g .reader .setting) (g .totals .tally) k v
+
+-- Areas in which a turn has room, and a frame number that another one follows.
+pub record AreasFit (k : ℕ) (u c : List ℕ) : Type 0 where
+  pub more : k < 18446744073709551615
+  pub units : unitsSize ≤ length u
+  pub records : recordsSize ≤ length c
+
+-- ---- what is handed to the system, and what it answers
+
+-- A lane's units go to its output. Other frames have none.
+unfoldable pub outputOf : Verdict → ℕ
+outputOf (Verdict.Refused n) = 10
+outputOf Verdict.Idle = 10
+outputOf (Verdict.Counted c) = 10
+outputOf (Verdict.Read l) = l
+
+-- The octets that are handed out for a frame: its line, and the front of the unit and record areas as the rules' read of a frame, with this
+-- verdict and answer, leaves them; and where its units come from.
+pub record Handed (o : Origin) (v : Verdict) (a : Answer) (l u c : List ℕ) : Type 0 where
+  pub line : l ≡ frameLine (o .frame) v a
+  pub stage : Stage
+  pub frame : List ℕ
+  pub whose : v ≡ ruled stage frame
+  pub answer : a ≡ told stage frame
+  pub origin : o ≡ originOf (stage .reader .setting) (stage .totals .tally) (o .frame) v
+  pub units : u ≡ take (a .octets) ((advanced stage frame) .units)
+  pub records : c ≡ take (recordSize * a .units) ((advanced stage frame) .records)
+
+unfoldable pub wellGone : Went → Bool
+wellGone Well = true
+wellGone NotRead = false
+wellGone NotPrinted = false
+wellGone (NotWritten i) = false
+
+-- There may be more after a whole frame, if all went well; and lines go to a table that there is.
+unfoldable pub goesOn : Bool → Went → Bool
+goesOn whole w = cond whole (wellGone w) false
+
+-- ---- turns
+
+-- "Reads the recording's frames, F octets each, to its end (a last frame that is short is a frame too ...)": what came is a frame.
+unfoldable pub taken : Came → Bool
+taken c = cond (c .failed) false (not (c .octets =? 0))
+
+-- A turn in which a frame came: one frame more.
+unfoldable pub takenTurn : Turn → Came → Stage → Went → Turn
+takenTurn u c g w =
+    record { state = g .reader; totals = g .totals; count = u .count + 1; came = c; went = w; more = goesOn (c .octets =? u .state .setting .length) w }
+
+-- "A recording that cannot be read is told apart from its end."
+unfoldable pub endingOf : Bool → Went
+endingOf failed = cond failed NotRead Well
+
+-- A turn in which none came: nothing changes.
+unfoldable pub haltedTurn : Turn → Came → Turn
+haltedTurn u c = record { state = u .state; totals = u .totals; count = u .count; came = c; went = endingOf (c .failed); more = false }
+
+-- A turn with this frame, up to how the writes went.
+pub record Handled (u : Turn) (c : Came) (g : Stage) (f : List ℕ) (u′ : Turn) (g′ : Stage) : Type 0 where
+  pub stage : g′ ≡ advanced g f
+  pub turn : u′ ≡ takenTurn u c g′ (u′ .went)
+
+-- A turn in which this came into the frame area, up to how the writes went: the frame is what came.
+pub record Turned (u : Turn) (c : Came) (g : Stage) (area : List ℕ) (u′ : Turn) (g′ : Stage) : Type 0 where
+  pub stage : g′ ≡ cond (taken c) (advanced g (take (c .octets) area)) g
+  pub turn : u′ ≡ cond (taken c) (takenTurn u c g′ (u′ .went)) (haltedTurn u c)
+
+-- Before the first.
+unfoldable pub firstTurn : Setting → Turn
+firstTurn s =
+    record { state = (setUpReader s) .state; totals = noTotals; count = 0; came = record { octets = 0; failed = false }; went = Well; more = true }
+
+-- State and totals after k frames from the beginning, with areas that are no longer lent.
+pub record Finished (s : Setting) (k : ℕ) (r : Reader) (t : Totals) : Type 0 where
+  pub held : List ℕ
+  pub units : List ℕ
+  pub records : List ℕ
+  pub reached : Reached (begun s) k (record { reader = r; held = held; units = units; records = records; totals = t })
