@@ -1,11 +1,12 @@
-// What the archive's programs say to the people who run them. How names and words of others are printed is promised; no contract can speak of
-// what is written to a descriptor.
+// What the archive's programs say to the people who run them, and whether they may: nothing is said into an input. How names and words of others are
+// printed is promised; no contract can speak of what is written to a descriptor.
 ghost use mathlib.Core.Path.{_≡_};
 ghost use Prim.Native.Nat.{_≤_};
 ghost use lib.ListN.{length, take};
 ghost use mathlib.Core.Bool.{cond};
 ghost use Rattle.rules.specs.Tests.{_<?_};
 ghost use Rattle.console.specs.Shown.{plainOf, shown};
+use files::Known;
 
 // The octet that stands for one of a name: a question mark for those that would end the line or do something to a terminal.
 fn plain(x: u8) -> u8
@@ -113,4 +114,73 @@ pub fn say_count(program: &[u8], word: &[u8], n: u64, what: &[u8]) {
     io::print_decimal(2, n);
     io::write_all(2, what);
     io::write_all(2, b"\n");
+}
+
+// ---- whether something may be said
+
+// Whether what is said would go into the file of word i, or into that of what stands behind its `=`.
+fn is_word_spoiled(e: Known, i: usize) -> bool {
+    let mut word = io::buffer();
+    let n = os::arg(i, &mut word);
+    let at = words::behind(&word[..n]);
+    let a = files::of_name(&word[..n]);
+    let b = files::of_name(&word[at..n]);
+    files::is_spoiled(e, a, b)
+}
+
+// Whether what is said would go into the file of one of n words, but for word `but`, which names no input.
+fn is_any_spoiled(e: Known, n: usize, but: usize) -> bool {
+    let mut i: usize = 1;
+    while i < n {
+        if i != but {
+            let spoiled = is_word_spoiled(e, i);
+            if spoiled {
+                return true;
+            }
+        }
+        i += 1;
+    }
+    false
+}
+
+// The file, beside standard input, into which nothing may be said: standard output where octets go there that nothing else may stand between.
+fn guarded(i: Known, apart: bool) -> Known {
+    if apart {
+        return files::of_descriptor(1);
+    }
+    i
+}
+
+// Whether what is said would go into standard input or, with `apart`, into standard output: a regular file.
+fn is_own_spoiled(e: Known, apart: bool) -> bool {
+    let i = files::of_descriptor(0);
+    let o = guarded(i, apart);
+    files::is_spoiled(e, i, o)
+}
+
+// Whether a program may say something: what is said goes neither into standard input nor, with `apart`, into standard output, nor into the file of one
+// of its n words, but for word `but`. Where it may not, there is no place to say so.
+pub fn may_say(apart: bool, n: usize, but: usize) -> bool {
+    let e = files::of_descriptor(2);
+    let own = is_own_spoiled(e, apart);
+    if own {
+        return false;
+    }
+    let any = is_any_spoiled(e, n, but);
+    !any
+}
+
+// The same of a program that reads standard input alone, and whether it may print: standard output is not that file either, which is said.
+pub fn may_print(program: &[u8], apart: bool) -> bool {
+    let e = files::of_descriptor(2);
+    let own = is_own_spoiled(e, apart);
+    if own {
+        return false;
+    }
+    let o = files::of_descriptor(1);
+    let spoiled = is_own_spoiled(o, false);
+    if spoiled {
+        say(program, b"standard input", b"standard output is this file");
+    }
+    !spoiled
 }

@@ -1,6 +1,6 @@
 -- Which file a file is.
 use Prim.Native.Nat.{ℕ, _/_, _%_}
-use mathlib.Core.Bool.{Bool, false, cond, not}
+use mathlib.Core.Bool.{Bool, true, false, cond, not}
 use lib.IntN.{ℤ, pos, negsuc}
 use Rattle.rules.specs.Tests.{_=?_}
 use Rattle.files.specs.declared.Known.{Known}
@@ -24,3 +24,7 @@ isRegular k = k .mode / 4096 % 16 =? 8
 
 unfoldable pub isFolder : Known → Bool
 isFolder k = k .mode / 4096 % 16 =? 4
+
+-- What is written to a regular file would go into an input, which is one of these two.
+unfoldable pub spoils : Known → Known → Known → Bool
+spoils k a b = cond (isRegular k) (cond (sameFile k a) true (sameFile k b)) false

@@ -2,7 +2,7 @@
 // is decided by it has a definition. Two functions ask the system, and their proofs are by hand: the struct that it fills is lent to it.
 ghost use mathlib.Core.Path.{_≡_};
 ghost use Rattle.libc.specs.Io.{Ended};
-ghost use Rattle.files.specs.Known.{wholeOf, knownOf, sameFile, isRegular, isFolder};
+ghost use Rattle.files.specs.Known.{wholeOf, knownOf, sameFile, isRegular, isFolder, spoils};
 use libc::types;
 
 // A file as the system knows it: whether there is one, its device and inode, its mode, and its size.
@@ -138,4 +138,19 @@ pub fn folder(k: Known) -> bool
     ensures { λ r. ⌜ r ≡ isFolder k ⌝ }
 {
     k.mode / 4096 % 16 == 4
+}
+
+// Whether what is written to a regular file would go into an input, which is one of these two.
+pub fn is_spoiled(k: Known, a: Known, b: Known) -> bool
+    ensures { λ r. ⌜ r ≡ spoils k a b ⌝ }
+{
+    let plain = regular(k);
+    if plain {
+        let one = same(k, a);
+        if one {
+            return true;
+        }
+        return same(k, b);
+    }
+    false
 }

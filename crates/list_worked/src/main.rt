@@ -185,7 +185,7 @@ fn say_end(t: Turn) {
 }
 
 // Lists standard input to its end. A proved loop has to end: this one counts its frames, to a number that no run reaches.
-fn main() {
+fn list_all() {
     let mut held = [0u8; rules::HELD_SIZE];
     let mut units = [0u8; rules::UNITS_SIZE];
     let mut records = [0u8; rules::RECORDS_SIZE];
@@ -203,5 +203,13 @@ fn main() {
             say_end(t);
             break;
         }
+    }
+}
+
+// The program. What it prints and says goes into no input; the listing and what is said may stand in one file.
+fn main() {
+    let may = console::may_print(b"list_worked", false);
+    if may {
+        list_all();
     }
 }

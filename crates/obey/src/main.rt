@@ -129,7 +129,7 @@ fn say_end(good: bool, k: u64) {
 }
 
 // Obeys standard input, request after request, to its end.
-fn main() {
+fn obey_all() {
     let mut q = [0u8; 65536];
     let mut desk = [0u8; 6440];
     let mut held = [0x55u8; 65552];
@@ -149,5 +149,13 @@ fn main() {
             break;
         }
         k += 1;
+    }
+}
+
+// The program. What it prints and says goes into no input, and nothing is said between the answers.
+fn main() {
+    let may = console::may_print(b"obey", true);
+    if may {
+        obey_all();
     }
 }

@@ -999,10 +999,13 @@ fn begin(start: Start, q: Asked, n: usize) {
     }
 }
 
-// The program.
+// The program. Nothing is said into a file that a word names, nor between the frames.
 fn main() {
     let n = os::arg_count();
-    let q = read_words(n);
-    let start = pack_start::start_of(q);
-    begin(start, q, n);
+    let may = console::may_say(true, n, 0);
+    if may {
+        let q = read_words(n);
+        let start = pack_start::start_of(q);
+        begin(start, q, n);
+    }
 }

@@ -420,12 +420,12 @@ fn outside(f: Kept) -> bool {
     let a = f.setting;
     let b = f.recording;
     let e = f.said;
-    let mixed = unpack_start::is_spoiled(e, a, b);
+    let mixed = files::is_spoiled(e, a, b);
     if mixed {
         return false;
     }
     let o = f.printed;
-    let same = unpack_start::is_spoiled(o, a, b);
+    let same = files::is_spoiled(o, a, b);
     if same {
         console::say(
             b"unpack",
@@ -540,9 +540,8 @@ fn add_word(q: Asked, i: usize) -> Asked {
     words::next_word(q, i, w)
 }
 
-// What all words ask for.
-fn read_words() -> Asked {
-    let n = os::arg_count();
+// What n words ask for.
+fn read_words(n: usize) -> Asked {
     let mut q = words::no_asked();
     let mut i: usize = 1;
     while i < n {
@@ -598,12 +597,22 @@ fn begin(start: Start, q: Asked) {
     }
 }
 
+// Does what n words ask for, where nothing is said into a file that one of them names.
+fn begin_with(n: usize) {
+    let q = read_words(n);
+    let prefix = unpack_start::prefix_at(q);
+    let may = console::may_say(false, n, prefix);
+    if may {
+        let start = unpack_start::start_of(q);
+        begin(start, q);
+    }
+}
+
 // Unpacks what the command line names, or says why it cannot.
 fn main() {
     let open = open_ends();
     if open {
-        let q = read_words();
-        let start = unpack_start::start_of(q);
-        begin(start, q);
+        let n = os::arg_count();
+        begin_with(n);
     }
 }

@@ -1,11 +1,12 @@
 -- What unpack decides beside its frames.
 use Prim.Native.Nat.{ℕ, _-_}
-use mathlib.Core.Bool.{Bool, true, false, cond}
+use mathlib.Core.Bool.{cond}
 use mathlib.Core.List.{List}
 use lib.ListN.{length, getD}
 use Rattle.rules.specs.Tests.{_=?_, _<?_}
+use Rattle.words.specs.declared.Asked.{Asked}
 use Rattle.files.specs.declared.Known.{Known}
-use Rattle.files.specs.Known.{sameFile, isRegular, isFolder}
+use Rattle.files.specs.Known.{isFolder}
 use Rattle.unpack_start.specs.declared.Prefix.{Prefix}
 use Rattle.unpack_start.specs.declared.Prefix.the-variants.{Fine, Empty, Folder}
 use Rattle.unpack_start.specs.declared.Little.{Little}
@@ -16,9 +17,9 @@ unfoldable pub prefixOf : List ℕ → Known → Prefix
 prefixOf xs k =
     cond (length xs =? 0) Empty (cond (getD xs (length xs - 1) 0 =? 47) Folder (cond (isFolder k) Folder Fine))
 
--- What is printed would go into a regular file that is an input.
-unfoldable pub spoils : Known → Known → Known → Bool
-spoils k a b = cond (isRegular k) (cond (sameFile k a) true (sameFile k b)) false
+-- The last of "the three names in order"; 0 for none.
+unfoldable pub prefixAt : Asked → ℕ
+prefixAt a = cond (a .names =? 3) (a .three) 0
 
 -- "When nothing was read, or more frames were refused than read."
 unfoldable pub littleOf : ℕ → ℕ → Little

@@ -1,8 +1,8 @@
-// What unpack decides beside its frames: what a word of its command line is, whether names of files can begin with a prefix, whether what is
-// printed would go into an input, and whether little was read.
+// What unpack decides beside its frames: what a word of its command line is, whether names of files can begin with a prefix, and whether little
+// was read.
 ghost use mathlib.Core.Path.{_≡_};
 ghost use Rattle.words.specs.Asked.{startOf};
-ghost use Rattle.unpack_start.specs.Starts.{prefixOf, spoils, littleOf};
+ghost use Rattle.unpack_start.specs.Starts.{prefixOf, prefixAt, littleOf};
 ghost use Rattle.unpack_start.specs.Words.{wordOf};
 use files::Known;
 use words::Asked;
@@ -32,21 +32,6 @@ pub fn prefix_of(prefix: &[u8], k: Known) -> Prefix
         return Prefix::Folder;
     }
     Prefix::Fine
-}
-
-// Whether what is printed would go into an input: a regular file that is one of these.
-pub fn is_spoiled(k: Known, a: Known, b: Known) -> bool
-    ensures { λ r. ⌜ r ≡ spoils k a b ⌝ }
-{
-    let plain = files::regular(k);
-    if plain {
-        let one = files::same(k, a);
-        if one {
-            return true;
-        }
-        return files::same(k, b);
-    }
-    false
 }
 
 // ---- how much was read
@@ -105,4 +90,14 @@ pub fn start_of(a: Asked) -> Start
     ensures { λ r. ⌜ r ≡ startOf a 3 3 ⌝ }
 {
     words::start_of(a, 3, 3)
+}
+
+// Which word is the prefix: the third of three names, and none where there are more or fewer, for then nothing is unpacked.
+pub fn prefix_at(a: Asked) -> usize
+    ensures { λ r. ⌜ r ≡ prefixAt a ⌝ }
+{
+    if a.names == 3 {
+        return a.three;
+    }
+    0
 }

@@ -1,4 +1,4 @@
--- A word at the front, one octet at a time.
+-- A word at the front, and the first `=` of a word, one octet at a time.
 use mathlib.Core.Path.{_≡_}
 use Prim.Native.Nat.{ℕ, _+_, _≤_, _<_}
 use native.Mathlib.Numerals.{add-one}
@@ -7,7 +7,7 @@ use mathlib.Core.List.{List}
 use lib.ListN.{length, getD, drop, drop-of-length-le}
 use lib.Seq.{drop-cons}
 use borrow.Author.Tests.{eq-eqb, ne-eqb}
-use Rattle.words.specs.Words.{begins}
+use Rattle.words.specs.Words.{begins, behind}
 
 -- The words' rests from octet i on.
 abbrev pub from : List ℕ → List ℕ → ℕ → Bool
@@ -31,3 +31,21 @@ module _ (word s : List ℕ) (i : ℕ) where
       pub begins-more : getD s i 0 ≡ getD word i 0 → from word s i ≡ from word s (i + 1)
       unfolding begins
       begins-more e = rw (drop-cons word i 0 h, drop-cons s i 0 k, eq-eqb (getD s i 0) (getD word i 0) e, add-one i)
+
+-- The first `=` from octet i on.
+abbrev pub rest : List ℕ → ℕ → ℕ
+rest s i = behind i (drop i s)
+
+module _ (s : List ℕ) (i : ℕ) where
+  pub behind-end : length s ≤ i → rest s i ≡ 0
+  unfolding behind
+  behind-end h = rw (drop-of-length-le s h)
+
+  module _ (h : i < length s) where
+    pub behind-here : getD s i 0 ≡ 61 → rest s i ≡ i + 1
+    unfolding behind
+    behind-here e = rw (drop-cons s i 0 h, eq-eqb (getD s i 0) 61 e)
+
+    pub behind-more : (getD s i 0 ≡ 61 → ⊥) → rest s i ≡ rest s (i + 1)
+    unfolding behind
+    behind-more d = rw (drop-cons s i 0 h, ne-eqb (getD s i 0) 61 d, add-one i)

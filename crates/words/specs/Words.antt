@@ -1,6 +1,6 @@
 -- Words of a command line.
-use Prim.Native.Nat.{ℕ}
-use mathlib.Core.Bool.{Bool, true, false, _&&_}
+use Prim.Native.Nat.{ℕ, _+_}
+use mathlib.Core.Bool.{Bool, true, false, cond, _&&_}
 use mathlib.Core.List.{List, [], _∷_}
 use lib.ListN.{length}
 use Rattle.rules.specs.Tests.{_=?_}
@@ -23,3 +23,8 @@ isOption xs = begins (text "--") xs
 -- "`-` there is standard input."
 unfoldable pub isDash : List ℕ → Bool
 isDash xs = isWord (text "-") xs
+
+-- "What stands behind `=` in a word": how many octets there are before it, when i were passed over. Octet 61 is =.
+unfoldable pub behind : ℕ → List ℕ → ℕ
+behind i [] = 0
+behind i (x ∷ xs) = cond (x =? 61) (i + 1) (behind (i + 1) xs)

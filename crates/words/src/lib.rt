@@ -1,7 +1,9 @@
 // Words of a command line: what they begin with, whether they are a given word, an option, or stand for standard input; and what all of them ask
 // for.
 ghost use mathlib.Core.Path.{_≡_};
-ghost use Rattle.words.specs.Words.{begins as beginsWith, isWord, isOption, isDash};
+ghost use Prim.Native.Nat.{_≤_};
+ghost use lib.ListN.{length};
+ghost use Rattle.words.specs.Words.{begins as beginsWith, isWord, isOption, isDash, behind as behindOf};
 ghost use Rattle.words.specs.Asked.{noAsked, named, askedNext, startOf};
 
 // Whether these octets begin with that word.
@@ -44,6 +46,20 @@ pub fn is_dash(s: &[u8]) -> bool
     ensures { λ r. ⌜ r ≡ isDash (now (s .entry)) ⌝ }
 {
     is_word(s, b"-")
+}
+
+// How many octets of a word stand up to its first `=`, with it: what stands behind names a file, where a word names one. 0 where it has none.
+pub fn behind(s: &[u8]) -> usize
+    ensures { λ r. ⌜ (r ≡ behindOf 0 (now (s .entry))) × (r ≤ length (now (s .entry))) ⌝ }
+{
+    let mut i: usize = 0;
+    while i < s.len() {
+        if s[i] == b'=' {
+            return i + 1;
+        }
+        i += 1;
+    }
+    0
 }
 
 // ---- what all words ask for

@@ -1,11 +1,11 @@
--- `obey::main` meets its contract. The areas keep their lengths, and the requests are counted.
+-- `obey::obey_all` meets its contract. The areas keep their lengths, and the requests are counted.
 use Prim.Native.Nat.{ℕ, _-_}
 use lib.ListN.{length}
 use mathlib.Core.List.{List}
 use mathlib.Core.Path.{_≡_}
 use borrow.Author.Needs.{needs}
-use Rattle.obey.proofs.main.Statement.{statement}
-use Rattle.obey.proofs.main.Tie as tie
+use Rattle.obey.proofs.obey_all.Statement.{statement}
+use Rattle.obey.proofs.obey_all.Tie as tie
 
 -- The areas keep their lengths.
 abbrev Kept : List ℕ → List ℕ → List ℕ → List ℕ → List ℕ → Type 0
@@ -78,8 +78,8 @@ returns-2 c = search needs
 returns-3 : tie.Need-returns-3 Inv-loop μ-loop
 returns-3 c = search needs
 
-pub main-spec : {M : Type 1} → statement M
-main-spec =
+pub obey-all-spec : {M : Type 1} → statement M
+obey-all-spec =
     tie.close
     (tie.spec
     Inv-loop

@@ -1,12 +1,12 @@
--- `list_worked::main` meets its contract. Before each frame the listing goes on from what is carried; the areas keep their lengths, and the frames are counted.
+-- `list_worked::list_all` meets its contract. Before each frame the listing goes on from what is carried; the areas keep their lengths, and the frames are counted.
 use Prim.Native.Nat.{_-_}
 use lib.ListN.{length}
 use mathlib.Core.Path.{_≡_}
 use Rattle.list_worked.specs.Runs.{Reached}
 use Rattle.list_worked.proofs.Carried.{begins-from, goes-then}
 use borrow.Author.Needs.{needs}
-use Rattle.list_worked.proofs.main.Statement.{statement}
-use Rattle.list_worked.proofs.main.Tie as tie
+use Rattle.list_worked.proofs.list_all.Statement.{statement}
+use Rattle.list_worked.proofs.list_all.Tie as tie
 use Rattle.rules.specs.Areas.{heldSize, recordsSize, unitsSize}
 
 abbrev Inv-loop : tie.InvT-loop
@@ -55,8 +55,8 @@ returns c = search needs
 returns-2 : tie.Need-returns-2 Inv-loop μ-loop
 returns-2 c = search needs
 
-pub main-spec : {M : Type 1} → statement M
-main-spec =
+pub list-all-spec : {M : Type 1} → statement M
+list-all-spec =
     tie.close
     (tie.spec
     Inv-loop

@@ -1,8 +1,8 @@
-use Rattle.unpack_start.specs.Starts.{spoils}
+use Rattle.files.specs.Known.{spoils}
 use mathlib.Core.Path.{sym, _∙_}
 use borrow.Author.Needs.{needs}
-use Rattle.unpack_start.proofs.is_spoiled.Statement.{statement}
-use Rattle.unpack_start.proofs.is_spoiled.Tie as tie
+use Rattle.files.proofs.is_spoiled.Statement.{statement}
+use Rattle.files.proofs.is_spoiled.Tie as tie
 
 regular-requires : tie.Need-regular-requires
 regular-requires c κs = search needs
