@@ -1,4 +1,4 @@
--- `list_worked::list_all` meets its contract. Before each frame the listing goes on from what is carried; the areas keep their lengths, and the frames are counted.
+-- `list_worked::list_all` meets its contract. Before each frame the listing goes on from what is carried; areas keep their lengths, and frames are counted.
 use Prim.Native.Nat.{_-_}
 use lib.ListN.{length}
 use mathlib.Core.Path.{_≡_}
