@@ -17,6 +17,7 @@ use Rattle.turns.specs.declared.Source.{Source}
 use Rattle.turns.specs.declared.Move.{Move}
 use Rattle.turns.specs.Turns.{TakenAt}
 use Rattle.pack.specs.declared.Files.{Files}
+use Rattle.pack.specs.declared.Place.{Place}
 use Rattle.pack.specs.declared.Round.{Round}
 
 -- "An access lane's file is one unit; or, with a list, the list's units."
@@ -60,6 +61,22 @@ anyMore f (suc n) = cond (fileOf f n .more) true (anyMore f n)
 -- "A file that is at its end drops out": turns go on while nothing is wrong and a file may have more.
 unfoldable pub hasNext : Course → Files → Bool
 hasNext c f = cond (sound (c .fault)) (anyMore f 8) false
+
+-- Where a round is after the turn of the file whose turn it was, which left this.
+abbrev pub placeAfter : Place → Move → Place
+placeAfter p m = record {
+  course = m .course;
+  files = withFile (p .files) (p .next) (m .source);
+  next = nextPlace (p .next) (p .files .count);
+  last = p .next;
+  on = hasNext (m .course) (withFile (p .files) (p .next) (m .source));
+}
+
+-- The turn of the file whose turn it is.
+pub record Stepped (writing : Bool) (p : Place) (insert ocf areas lists : List ℕ) (q : Place) (areas′ lists′ : List ℕ) : Type 0 where
+  pub move : Move
+  pub taken : TakenAt (p .next) writing (p .course) (fileOf (p .files) (p .next)) insert ocf areas lists move areas′ lists′
+  pub place : q ≡ placeAfter p move
 
 -- So many turns dealt out from this course on, with these files and windows of zeros, after each of which there was a next: whose turn that is,
 -- and the course, the files and the windows that it is handed, which are those that the turn before left.

@@ -4,10 +4,10 @@
 // a turn of a file writes and leaves. Here files are opened and closed, the turns are dealt out, and what went wrong is said: what no contract
 // can follow into the system is shown by runs. The stored run is document 01's batch of worked frame 2, on its setting.
 ghost use mathlib.Core.Path.{_≡_};
-ghost use Prim.Native.Nat.{_<_};
+ghost use Prim.Native.Nat.{_<_, _≤_};
 ghost use lib.ListN.{length};
 ghost use Rattle.rules.specs.Settings.{lane, channel, ocfOctets};
-ghost use Rattle.pack.specs.Rounds.{formOf, nextPlace, anyMore, hasNext, Rounded, Passed};
+ghost use Rattle.pack.specs.Rounds.{formOf, nextPlace, anyMore, hasNext, placeAfter, Stepped, Rounded, Passed};
 ghost use Rattle.pack.specs.Sources.{freshWindow, unopenedFile, lookWay, isAccess, isUnits};
 use file_batches::Wrong;
 use files::Known;
@@ -24,11 +24,27 @@ use streams::Fault;
 use streams::Form;
 use streams::Stream;
 use turns::Course;
+use turns::Move;
 use turns::Source;
 use words::Asked;
 use words::Start;
 
 // ---- what is said
+
+// A line to standard error: about what, and what is wrong there.
+fn say(about: &[u8], what: &[u8]) {
+    console::say(b"pack", about, what);
+}
+
+// A line to standard error that ends in the system's word for the call that failed last.
+fn say_failed(about: &[u8]) {
+    console::say_failed(b"pack", about);
+}
+
+// Says that the program is done, after so many frames.
+fn say_done(frames: u64) {
+    console::say_count(b"pack", b"done: ", frames, b" frames");
+}
 
 // Says how many octets a file should have.
 fn say_expected(path: &[u8], n: u64) {
@@ -72,31 +88,37 @@ fn say_refused(path: &[u8], n: u8) {
     io::write_all(2, b"\n");
 }
 
-// Says what went wrong with a file of this name, or with its list of that name, if anything did.
-fn say_fault(path: &[u8], list: &[u8], f: Fault) {
+// Says what is wrong with the units of a file of this name, if anything is.
+fn say_unit(path: &[u8], f: Fault) {
     match f {
-        Fault::Nothing => {}
-        Fault::NotRead => console::say_failed(b"pack", path),
-        Fault::NotListed => console::say_failed(b"pack", list),
-        Fault::Packet(at, w) => say_wrong(path, at, w),
         Fault::NoUnit => say_octet(path, 0, b"expected a unit of at least 1 octet"),
         Fault::LongUnit => say_octet(path, 0, b"a unit above the lane's longest"),
         Fault::CutUnit(at) => say_octet(path, at, b"a unit that the file's end cuts"),
         Fault::Left(at) => say_octet(path, at, b"after the last unit of the list"),
+        _ => {}
+    }
+}
+
+// Says what went wrong with a file of this name, or with its list of that name, if anything did.
+fn say_fault(path: &[u8], list: &[u8], f: Fault) {
+    match f {
+        Fault::NotRead => say_failed(path),
+        Fault::NotListed => say_failed(list),
+        Fault::Packet(at, w) => say_wrong(path, at, w),
         Fault::NoLength(at) => say_octet(
             list,
             at,
             b"expected a length of 1 up to the lane's longest",
         ),
         Fault::Refused(n) => say_refused(path, n),
-        Fault::NotSent => console::say_failed(b"pack", b"standard output"),
+        Fault::NotSent => say_failed(b"standard output"),
+        _ => say_unit(path, f),
     }
 }
 
 // Says how pack is called.
 fn say_usage() {
-    console::say(
-        b"pack",
+    say(
         b"usage",
         b"pack [--interleave] SETTING LANE=FILE [lengths=FILE] .. [insert=FILE] [ocf=FILE]",
     );
@@ -111,11 +133,11 @@ fn allowed(path: &[u8], k: Known, twice: bool) -> bool {
     match o {
         Objection::Nothing => true,
         Objection::NotRegular => {
-            console::say(b"pack", path, b"not a regular file, which is read twice");
+            say(path, b"not a regular file, which is read twice");
             false
         }
         Objection::Output => {
-            console::say(b"pack", path, b"standard output is this file");
+            say(path, b"standard output is this file");
             false
         }
     }
@@ -190,7 +212,7 @@ fn unopened() -> Opened
 fn open_file(path: &[u8]) -> i32 {
     let fd = os::open_read(path);
     if fd < 0 {
-        console::say_failed(b"pack", path);
+        say_failed(path);
         return fd;
     }
     let k = files::of_descriptor(fd);
@@ -201,12 +223,22 @@ fn open_file(path: &[u8]) -> i32 {
     -1
 }
 
-// Opens the file that word i names after its first `from` octets, and keeps its name.
-fn open_word(i: usize, from: usize, name: &mut [u8]) -> Opened {
+// Keeps a name in an area, from octet `to` on.
+fn keep_name(name: &[u8], to: usize, names: &mut [u8])
+    requires { ⌜ (to ≤ 61440) × (length (now names) ≡ 65536) ⌝ }
+{
+    let end = to + 4096;
+    octets::copy(&mut names[to..end], name);
+}
+
+// Opens the file that word i names after its first `from` octets, and keeps its name from octet `to` of this area on.
+fn open_word(i: usize, from: usize, to: usize, names: &mut [u8]) -> Opened
+    requires { ⌜ (to ≤ 61440) × (length (now names) ≡ 65536) ⌝ }
+{
     let mut word = io::buffer();
     let n = os::arg(i, &mut word);
     let at = intake::least(from, n);
-    octets::copy(name, &word[at..n]);
+    keep_name(&word[at..n], to, names);
     let fd = open_file(&word[at..n]);
     Opened {
         fd: fd,
@@ -252,11 +284,13 @@ fn list_of(i: usize, n: usize) -> usize {
 }
 
 // Opens a list, where a word names one.
-fn open_list(j: usize, name: &mut [u8]) -> Opened {
+fn open_list(j: usize, to: usize, names: &mut [u8]) -> Opened
+    requires { ⌜ (to ≤ 61440) × (length (now names) ≡ 65536) ⌝ }
+{
     if j == 0 {
         return unopened();
     }
-    open_word(j, 8, name)
+    open_word(j, 8, to, names)
 }
 
 // The source of lane l's file and of its list, which are open.
@@ -286,12 +320,25 @@ fn source_of(s: Setting, l: usize, file: Opened, listed: bool, list: Opened) -> 
 }
 
 // No source.
-fn no_source(s: Setting) -> Source {
-    let none = unopened();
-    let x = source_of(s, 0, none, false, none);
-    let mut y = x;
-    y.more = false;
-    y
+fn no_source() -> Source {
+    let window = fresh();
+    let stream = Stream {
+        window: window,
+        list: window,
+        batch: 0,
+        lane: 0,
+        longest: 0,
+        form: Form::Packets,
+    };
+    Source {
+        stream: stream,
+        name: 0,
+        list_name: 0,
+        ocf: 0,
+        fd: -1,
+        list_fd: -1,
+        more: false,
+    }
 }
 
 // Whether word j names a list that is not open.
@@ -302,33 +349,31 @@ fn is_missing(j: usize, list: Opened) -> bool {
     list.fd < 0
 }
 
-// The source of lane l's file, which is open, with the list that word j names, if any does. Where the list is not opened, there is no source.
-fn with_list(s: Setting, l: usize, file: Opened, j: usize, list_name: &mut [u8]) -> Source {
-    let list = open_list(j, list_name);
+// The source of lane l's file, which is open, with the list that word j names, if any does, whose name is kept from octet `to` of this area on.
+// Where the list is not opened, there is no source.
+fn with_list(s: Setting, l: usize, file: Opened, j: usize, to: usize, names: &mut [u8]) -> Source
+    requires { ⌜ (to ≤ 61440) × (length (now names) ≡ 65536) ⌝ }
+{
+    let list = open_list(j, to, names);
     let missing = is_missing(j, list);
     if missing {
-        return no_source(s);
+        return no_source();
     }
     source_of(s, l, file, j != 0, list)
 }
 
-// Opens the file of lane l that word i of n names, and its list if it has one. Where one is not opened, there is no source.
-fn open_source(
-    s: Setting,
-    l: usize,
-    i: usize,
-    n: usize,
-    name: &mut [u8],
-    list_name: &mut [u8],
-) -> Source
-    requires { ⌜ i < n ⌝ }
+// Opens the file of lane l that word i of n names, and its list if it has one, and keeps their names in the k-th parts of this area. Where one
+// is not opened, there is no source.
+fn open_source(s: Setting, l: usize, i: usize, n: usize, k: usize, names: &mut [u8]) -> Source
+    requires { ⌜ (i < n) × (k < 8) × (length (now names) ≡ 65536) ⌝ }
 {
-    let file = open_word(i, 2, name);
+    let to = 8192 * k;
+    let file = open_word(i, 2, to, names);
     if file.fd < 0 {
-        return no_source(s);
+        return no_source();
     }
     let j = list_of(i + 1, n);
-    with_list(s, l, file, j, list_name)
+    with_list(s, l, file, j, to + 4096, names)
 }
 
 // ---- turns
@@ -419,38 +464,84 @@ struct Round {
     last: usize,
 }
 
-// Deals out turns, a frame each, until all files are at their end or something is wrong: each is handed what the one before left. A proved loop has to end: this one
-// goes to a number of turns that no run reaches.
+// Where a round is: the course and the files, whose turn is next and whose was the last, and whether there is a next one.
+struct Place {
+    course: Course,
+    files: Files,
+    next: usize,
+    last: usize,
+    on: bool,
+}
+
+// Where a round is after the turn of the file whose turn it was, which left this.
+fn after_move(p: Place, m: Move) -> Place
+    requires { ⌜ p .next < 8 ⌝ }
+    ensures { λ r. ⌜ (r .next < 8) × (r ≡ placeAfter p m) ⌝ }
+{
+    let k = p.next;
+    let c = m.course;
+    let x = m.source;
+    let mut f = p.files;
+    f.sources[k] = x;
+    let on = has_next(c, f);
+    let next = next_place(k, f.count);
+    Place {
+        course: c,
+        files: f,
+        next: next,
+        last: k,
+        on: on,
+    }
+}
+
+// The turn of the file whose turn it is.
+fn deal(
+    way: Way,
+    p: Place,
+    areas: &mut [u8; 524288],
+    lists: &mut [u8; 2048],
+    insert: &[u8],
+    ocf: &[u8],
+) -> Place
+    requires { ⌜ p .next < 8 ⌝ }
+    ensures { λ r. ⌜ (r .next < 8) × Stepped (way .writing) p (now (insert .entry)) (now (ocf .entry)) (now (areas .entry)) (now (lists .entry)) r (now (areas .exit)) (now (lists .exit)) ⌝ }
+{
+    let k = p.next;
+    let c = p.course;
+    let f = p.files;
+    let x = f.sources[k];
+    let m = turns::turn_at(k, way.writing, c, x, areas, lists, insert, ocf);
+    let d = m.course;
+    say_progress(way, c.frames, d);
+    after_move(p, m)
+}
+
+// Deals out turns, a frame each, until all files are at their end or something is wrong: each is handed what the one before left. A proved loop
+// has to end: this one goes to a number of turns that no run reaches.
 fn go_round(way: Way, c: Course, files: Files, insert: &[u8], ocf: &[u8]) -> Round
     ensures { λ r. ⌜ (r .last < 8) × Rounded (way .writing) c files (now (insert .entry)) (now (ocf .entry)) r ⌝ }
 {
     let mut areas = [0u8; 524288];
     let mut lists = [0u8; 2048];
-    let mut f = files;
-    let mut course = c;
-    let mut k: usize = 0;
-    let mut last: usize = 0;
+    let mut p = Place {
+        course: c,
+        files: files,
+        next: 0,
+        last: 0,
+        on: true,
+    };
     let mut turns: u64 = 0;
     while turns < 18446744073709551615 {
-        last = k;
-        let before = course.frames;
-        let x = f.sources[k];
-        let writing = way.writing;
-        let t = turns::turn_at(k, writing, course, x, &mut areas, &mut lists, insert, ocf);
-        course = t.course;
-        let y = t.source;
-        f.sources[k] = y;
-        say_progress(way, before, course);
-        let on = has_next(course, f);
-        if on {} else {
+        p = deal(way, p, &mut areas, &mut lists, insert, ocf);
+        if p.on {} else {
             break;
         }
-        k = next_place(k, f.count);
         turns += 1;
     }
+    let d = p.course;
     Round {
-        course: course,
-        last: last,
+        course: d,
+        last: p.last,
     }
 }
 
@@ -466,6 +557,13 @@ fn close_all(f: Files) {
     }
 }
 
+// Says what went wrong with a file whose names stand at the front of these areas.
+fn say_in(x: Source, file: &[u8], list: &[u8], fault: Fault) {
+    let a = streams::within(x.name, file);
+    let b = streams::within(x.list_name, list);
+    say_fault(&file[..a], &list[..b], fault);
+}
+
 // Says what went wrong with file k, whose names stand in the k-th parts of this area.
 fn say_of(f: Files, k: usize, names: &[u8], fault: Fault)
     requires { ⌜ (k < 8) × (length (now names) ≡ 65536) ⌝ }
@@ -475,11 +573,7 @@ fn say_of(f: Files, k: usize, names: &[u8], fault: Fault)
     let from = 8192 * k;
     let middle = from + 4096;
     let to = middle + 4096;
-    let file = &names[from..middle];
-    let list = &names[middle..to];
-    let a = streams::within(x.name, file);
-    let b = streams::within(x.list_name, list);
-    say_fault(&file[..a], &list[..b], fault);
+    say_in(x, &names[from..middle], &names[middle..to], fault);
 }
 
 // A round with these files, whose names stand in this area: says what went wrong, and closes them.
@@ -504,8 +598,8 @@ struct Stage {
 }
 
 // No files.
-fn no_files(s: Setting) -> Files {
-    let none = no_source(s);
+fn no_files() -> Files {
+    let none = no_source();
     Files {
         sources: [none; 8],
         count: 0,
@@ -523,23 +617,10 @@ fn add_file(f: Files, x: Source) -> Files {
     g
 }
 
-// Opens lane l's file that word i of n names, and puts it to those that wait.
-fn wait_for(p: Stage, l: usize, i: usize, n: usize, names: &mut [u8]) -> Stage
-    requires { ⌜ (i < n) × (length (now names) ≡ 65536) ⌝ }
-{
+// With a file more that waits, if it was opened.
+fn with_file(p: Stage, x: Source) -> Stage {
     let c = p.course;
-    let w = c.state;
-    let s = w.setting;
     let f = p.files;
-    let k = place_of(f);
-    let from = 8192 * k;
-    let middle = from + 4096;
-    let to = middle + 4096;
-    let mut name = io::buffer();
-    let mut list = io::buffer();
-    let x = open_source(s, l, i, n, &mut name, &mut list);
-    octets::copy(&mut names[from..middle], &name);
-    octets::copy(&mut names[middle..to], &list);
     if x.more {
         let g = add_file(f, x);
         return Stage {
@@ -552,6 +633,16 @@ fn wait_for(p: Stage, l: usize, i: usize, n: usize, names: &mut [u8]) -> Stage
         course: d,
         files: f,
     }
+}
+
+// Opens lane l's file that word i of n names, and puts it to those that wait.
+fn wait_for(p: Stage, s: Setting, l: usize, i: usize, n: usize, names: &mut [u8]) -> Stage
+    requires { ⌜ (i < n) × (length (now names) ≡ 65536) ⌝ }
+{
+    let f = p.files;
+    let k = place_of(f);
+    let x = open_source(s, l, i, n, k, names);
+    with_file(p, x)
 }
 
 // Where the next file's names stand.
@@ -570,9 +661,7 @@ fn round_of(way: Way, p: Stage, names: &[u8], insert: &[u8], ocf: &[u8]) -> Stag
 {
     let c = p.course;
     let f = p.files;
-    let w = c.state;
-    let s = w.setting;
-    let none = no_files(s);
+    let none = no_files();
     let fault = c.fault;
     let good = streams::is_sound(fault);
     if good {
@@ -604,12 +693,8 @@ fn word_on(p: Stage, i: usize, n: usize, names: &mut [u8]) -> Stage
     let s = w.setting;
     let name = named_at(i, s.numbered);
     match name {
-        Named::ToLane(l) => wait_for(p, l, i, n, names),
-        Named::Lengths => p,
-        Named::Insert => p,
-        Named::Ocf => p,
-        Named::Option => p,
-        Named::Other => p,
+        Named::ToLane(l) => wait_for(p, s, l, i, n, names),
+        _ => p,
     }
 }
 
@@ -682,7 +767,7 @@ fn pass(way: Way, s: Setting, from: usize, n: usize, insert: &[u8], ocf: &[u8]) 
         octets: 0,
         fault: Fault::Nothing,
     };
-    let f = no_files(s);
+    let f = no_files();
     let p = Stage {
         course: c,
         files: f,
@@ -692,28 +777,25 @@ fn pass(way: Way, s: Setting, from: usize, n: usize, insert: &[u8], ocf: &[u8]) 
 
 // ---- the insert and OCF octets
 
+// Says that a word names what a word before it names, if it does.
+fn say_twice(word: &[u8], bad: Bad) {
+    match bad {
+        Bad::InsertTwice => say(word, b"insert is named twice"),
+        Bad::OcfTwice => say(word, b"ocf is named twice"),
+        Bad::LaneTwice => say(word, b"the lane is named twice, which --interleave forbids"),
+        _ => {}
+    }
+}
+
 // Says what is wrong with a word, if anything is.
 fn say_bad(word: &[u8], bad: Bad) {
     match bad {
-        Bad::Nothing => {}
-        Bad::InsertTwice => console::say(b"pack", word, b"insert is named twice"),
-        Bad::OcfTwice => console::say(b"pack", word, b"ocf is named twice"),
-        Bad::LaneTwice => console::say(
-            b"pack",
-            word,
-            b"the lane is named twice, which --interleave forbids",
-        ),
-        Bad::NoUnits => console::say(
-            b"pack",
-            word,
-            b"expected directly after an access lane's file",
-        ),
-        Bad::NoName => console::say(
-            b"pack",
+        Bad::NoUnits => say(word, b"expected directly after an access lane's file"),
+        Bad::NoName => say(
             word,
             b"expected a lane of the setting, lengths, insert or ocf, then = and a file",
         ),
-        Bad::NoWord => {}
+        _ => say_twice(word, bad),
     }
 }
 
@@ -745,20 +827,25 @@ fn is_access(kind: Kind) -> bool
     }
 }
 
+// The plan after word i, which is this. Says what is wrong with it.
+fn plan_word(p: Plan, i: usize, word: &[u8], s: Setting, once: bool) -> Plan {
+    let name = pack_start::name_of(word, s.numbered);
+    let access = is_units(s, name);
+    let q = pack_start::planned(p, i, name, access, once);
+    let bad = q.bad;
+    say_bad(word, bad);
+    q
+}
+
 // The plan after word i.
 fn plan_next(p: Plan, i: usize, s: Setting, once: bool) -> Plan {
     let mut word = io::buffer();
     let n = os::arg(i, &mut word);
     if os::errno() != 0 {
-        console::say_failed(b"pack", b"an argument");
+        say_failed(b"an argument");
         return pack_start::bad_plan(p, Bad::NoWord);
     }
-    let name = pack_start::name_of(&word[..n], s.numbered);
-    let access = is_units(s, name);
-    let q = pack_start::planned(p, i, name, access, once);
-    let bad = q.bad;
-    say_bad(&word[..n], bad);
-    q
+    plan_word(p, i, &word[..n], s, once)
 }
 
 // The plan of all words from word `from` of n on.
@@ -787,7 +874,7 @@ fn load_open(path: &[u8], fd: i32, n: usize, area: &mut [u8]) -> bool {
     };
     let w = intake::fill_up(fd, &mut space, none);
     if !w.good {
-        console::say_failed(b"pack", path);
+        say_failed(path);
         return false;
     }
     let have = w.have;
@@ -803,7 +890,7 @@ fn load_open(path: &[u8], fd: i32, n: usize, area: &mut [u8]) -> bool {
 fn load_file(path: &[u8], n: usize, area: &mut [u8]) -> bool {
     let fd = os::open_read(path);
     if fd < 0 {
-        console::say_failed(b"pack", path);
+        say_failed(path);
         return false;
     }
     let k = files::of_descriptor(fd);
@@ -830,6 +917,31 @@ fn load_octets(i: usize, from: usize, n: usize, area: &mut [u8]) -> bool {
 
 // ---- the program
 
+// Writes the frames of files that are good, with so many octets to a hundredth of them.
+fn write_frames(
+    s: Setting,
+    together: bool,
+    hundredth: u64,
+    from: usize,
+    n: usize,
+    insert: &[u8],
+    ocf: &[u8],
+) {
+    let live = progress::is_live();
+    let way = Way {
+        writing: true,
+        together: together,
+        live: live,
+        hundredth: hundredth,
+    };
+    let c = pass(way, s, from, n, insert, ocf);
+    let fault = c.fault;
+    let done = streams::is_sound(fault);
+    if done {
+        say_done(c.frames);
+    }
+}
+
 // Writes the frames, once all files are good. Of the insert octets the setting's are taken.
 fn pack_files(s: Setting, q: Asked, n: usize, insert: &[u8], ocf: &[u8]) {
     let i = streams::within(s.insert, insert);
@@ -839,19 +951,7 @@ fn pack_files(s: Setting, q: Asked, n: usize, insert: &[u8], ocf: &[u8]) {
     let found = looked.fault;
     let good = streams::is_sound(found);
     if good {
-        let live = progress::is_live();
-        let way = Way {
-            writing: true,
-            together: q.first,
-            live: live,
-            hundredth: looked.octets / 100,
-        };
-        let c = pass(way, s, from, n, &insert[..i], ocf);
-        let fault = c.fault;
-        let done = streams::is_sound(fault);
-        if done {
-            console::say_count(b"pack", b"done: ", c.frames, b" frames");
-        }
+        write_frames(s, q.first, looked.octets / 100, from, n, &insert[..i], ocf);
     }
 }
 
@@ -923,20 +1023,25 @@ fn pack_by(path: &[u8], q: Asked, n: usize) {
     }
 }
 
+// Packs by the setting of this name, or by the one in standard input.
+fn with_name(path: &[u8], q: Asked, n: usize) {
+    let dash = words::is_dash(path);
+    if dash {
+        pack_input(q, n);
+        return;
+    }
+    pack_by(path, q, n);
+}
+
 // Takes the setting from the command line, and goes on.
 fn with_words(q: Asked, n: usize) {
     let mut path = io::buffer();
     let k = os::arg(q.one, &mut path);
     if os::errno() != 0 {
-        console::say_failed(b"pack", b"SETTING");
+        say_failed(b"SETTING");
         return;
     }
-    let dash = words::is_dash(&path[..k]);
-    if dash {
-        pack_input(q, n);
-        return;
-    }
-    pack_by(&path[..k], q, n);
+    with_name(&path[..k], q, n);
 }
 
 // ---- the command line
@@ -964,8 +1069,7 @@ fn read_words(n: usize) -> Asked {
 fn say_unknown(i: usize) {
     let mut word = io::buffer();
     let n = os::arg(i, &mut word);
-    console::say(
-        b"pack",
+    say(
         &word[..n],
         b"is no option; expected --interleave, --help or --version",
     );
@@ -975,10 +1079,10 @@ fn say_unknown(i: usize) {
 fn print_text(text: &[u8]) {
     let good = io::write_all(1, text);
     if good {
-        console::say_count(b"pack", b"done: ", 0, b" frames");
+        say_done(0);
         return;
     }
-    console::say_failed(b"pack", b"standard output");
+    say_failed(b"standard output");
 }
 
 // Prints how the program is called.

@@ -14,9 +14,6 @@ slice-aggregate-fill-up c = search needs
 fill-up-requires : tie.Need-fill-up-requires
 fill-up-requires c κs = search needs
 
-slice-aggregate-say-failed : tie.Need-slice-aggregate-say-failed
-slice-aggregate-say-failed c = search needs
-
 say-failed-requires : tie.Need-say-failed-requires
 say-failed-requires c κs = search needs
 
@@ -51,7 +48,6 @@ load-open-spec =
     buffer-requires
     slice-aggregate-fill-up
     fill-up-requires
-    slice-aggregate-say-failed
     say-failed-requires
     returns
     say-expected-requires
