@@ -85,12 +85,17 @@ fn put_marked(name: &mut [u8], n: usize, number: u64, i: usize, old: bool) -> us
     put_mark(name, at, number, old)
 }
 
-// Says that the last call of the system failed on output i's unfinished file.
+// Says that the last call of the system failed on this name.
+fn say_failed(name: &[u8]) {
+    console::say_failed(b"unpack", name);
+}
+
+// Says that it failed on output i's unfinished file.
 pub fn say_part(p: Plan, name: &mut [u8], n: usize, i: usize)
     requires { ⌜ n + 51 ≤ length (now name) ⌝ }
 {
     let end = put_marked(name, n, p.number, i, false);
-    console::say_failed(b"unpack", &name[..end]);
+    say_failed(&name[..end]);
 }
 
 // ---- what is there already
@@ -136,47 +141,29 @@ fn fit_of(k: Known, f: Kept) -> Fit
     Fit::Free
 }
 
+// Says what is in the way of a name, which then may not be taken.
+fn refuse(name: &[u8], what: &[u8]) -> bool {
+    console::say(b"unpack", name, what);
+    false
+}
+
 // Says what is in the way of a name, if anything is; whether nothing is.
 fn say_fit(f: Fit, name: &[u8]) -> bool {
     match f {
         Fit::Free => true,
-        Fit::Setting => {
-            console::say(
-                b"unpack",
-                name,
-                b"is the setting, which nothing may replace",
-            );
-            false
-        }
-        Fit::Recording => {
-            console::say(
-                b"unpack",
-                name,
-                b"is the recording, which nothing may replace",
-            );
-            false
-        }
-        Fit::Printed => {
-            console::say(
-                b"unpack",
-                name,
-                b"is standard output, which nothing may replace",
-            );
-            false
-        }
-        Fit::Said => {
-            console::say(
-                b"unpack",
-                name,
-                b"is standard error, which nothing may replace",
-            );
-            false
-        }
-        Fit::Strange => {
-            console::say(b"unpack", name, b"is there and is no regular file");
-            false
-        }
+        Fit::Setting => refuse(name, b"is the setting, which nothing may replace"),
+        Fit::Recording => refuse(name, b"is the recording, which nothing may replace"),
+        Fit::Printed => refuse(name, b"is standard output, which nothing may replace"),
+        Fit::Said => refuse(name, b"is standard error, which nothing may replace"),
+        Fit::Strange => refuse(name, b"is there and is no regular file"),
     }
+}
+
+// Whether an output may take this name; says why where it may not.
+fn is_free(name: &[u8], f: Kept) -> bool {
+    let k = files::of_name(name);
+    let fit = fit_of(k, f);
+    say_fit(fit, name)
 }
 
 // Whether output i, if there is one, may take its name.
@@ -188,9 +175,7 @@ fn may_take(p: Plan, name: &mut [u8], n: usize, i: usize, f: Kept) -> bool
         return true;
     }
     let end = put_ending(name, n, i);
-    let k = files::of_name(&name[..end]);
-    let fit = fit_of(k, f);
-    say_fit(fit, &name[..end])
+    is_free(&name[..end], f)
 }
 
 // Whether each output may take its name: none leads to a file that nothing may replace, by link or by name, and what is there is a regular file.
@@ -217,7 +202,7 @@ fn make_new(p: Plan, name: &mut [u8], n: usize, i: usize) -> i32
     let end = put_marked(name, n, p.number, i, false);
     let fd = os::create(&name[..end]);
     if fd < 0 {
-        console::say_failed(b"unpack", &name[..end]);
+        say_failed(&name[..end]);
     }
     fd
 }
@@ -305,7 +290,7 @@ fn move_off(number: u64, old: bool, long: &[u8], at: usize) -> Moved
         if os::errno() == libc::ENOENT {
             return Moved::Nothing;
         }
-        console::say_failed(b"unpack", &long[..at]);
+        say_failed(&long[..at]);
         return Moved::Failed;
     }
     Moved::Done
@@ -317,7 +302,7 @@ fn move_on(number: u64, old: bool, long: &[u8], at: usize) -> bool
 {
     let given = os::rename(long, &long[..at]);
     if given < 0 {
-        console::say_failed(b"unpack", long);
+        say_failed(long);
         return false;
     }
     true
@@ -439,11 +424,11 @@ fn give_name(p: Plan, name: &mut [u8], n: usize, i: usize, s: Stage) -> Stage
     after_given(s, i, good)
 }
 
-// Gives each output its name, the records last, up to the first failure.
-fn give_each(p: Plan, name: &mut [u8], n: usize, before: Stage) -> Stage
+// Puts what has the names aside, and then gives each output its name, the records last, up to the first failure.
+fn give_each(p: Plan, name: &mut [u8], n: usize) -> Stage
     requires { ⌜ n + 51 ≤ length (now name) ⌝ }
 {
-    let mut s = before;
+    let mut s = put_all_aside(p, name, n);
     let mut i: usize = 0;
     while i < 10 {
         if s.well {} else {
@@ -480,7 +465,7 @@ fn keep_folder(folder: &[u8]) -> bool {
             return true;
         }
     }
-    console::say_failed(b"unpack", folder);
+    say_failed(folder);
     false
 }
 
@@ -493,14 +478,14 @@ fn keep_names(prefix: &[u8]) -> bool {
     keep_folder(&prefix[..k])
 }
 
-// Removes the earlier file of output i, if it was put aside, where that can be done.
-fn remove_old(p: Plan, name: &mut [u8], n: usize, i: usize, aside: bool)
+// Removes output i's unfinished file, or the earlier one that was put aside, if there is one, where that can be done.
+fn remove(p: Plan, name: &mut [u8], n: usize, i: usize, old: bool, there: bool)
     requires { ⌜ n + 51 ≤ length (now name) ⌝ }
 {
-    if !aside {
+    if !there {
         return;
     }
-    let end = put_marked(name, n, p.number, i, true);
+    let end = put_marked(name, n, p.number, i, old);
     os::unlink(&name[..end]);
 }
 
@@ -512,7 +497,7 @@ fn forget_all(p: Plan, name: &mut [u8], n: usize, s: Stage)
     let mut i: usize = 0;
     while i < 10 {
         let a = aside[i];
-        remove_old(p, name, n, i, a);
+        remove(p, name, n, i, true, a);
         i += 1;
     }
 }
@@ -563,8 +548,7 @@ fn settled(s: Stage, prefix: &[u8]) -> bool {
 pub fn give_names(p: Plan, name: &mut [u8], n: usize) -> bool
     requires { ⌜ n + 51 ≤ length (now name) ⌝ }
 {
-    let first = put_all_aside(p, name, n);
-    let s = give_each(p, name, n, first);
+    let s = give_each(p, name, n);
     let good = settled(s, &name[..n]);
     if good {
         forget_all(p, name, n, s);
@@ -576,25 +560,14 @@ pub fn give_names(p: Plan, name: &mut [u8], n: usize) -> bool
 
 // ---- a run that fails
 
-// Removes output i's unfinished file, if this run made it. The program ends then, and closes it.
-fn remove(p: Plan, fd: i32, name: &mut [u8], n: usize, i: usize)
-    requires { ⌜ n + 51 ≤ length (now name) ⌝ }
-{
-    if fd < 0 {
-        return;
-    }
-    let end = put_marked(name, n, p.number, i, false);
-    os::unlink(&name[..end]);
-}
-
-// Removes the unfinished files that this run made, where that still can be done.
+// Removes the unfinished files that this run made, where that still can be done. The program ends then, and closes them.
 pub fn remove_all(p: Plan, fds: [i32; 10], name: &mut [u8], n: usize)
     requires { ⌜ n + 51 ≤ length (now name) ⌝ }
 {
     let mut i: usize = 0;
     while i < 10 {
         let fd = fds[i];
-        remove(p, fd, name, n, i);
+        remove(p, name, n, i, false, 0 <= fd);
         i += 1;
     }
 }

@@ -66,22 +66,36 @@ fn put_wanted(w: Wanted) {
         Wanted::Fact => put(
             b"expected frame, spacecraft, source, destination, insert, check, channel or lane",
         ),
+        Wanted::YesOrNo => put(b"expected yes or no"),
+        Wanted::End => put(b"expected the line's end"),
+        Wanted::Number(low, high) => put_range(low, high),
+        _ => put_word(w),
+    }
+}
+
+// Says which word was expected, of those that a frame or a channel has.
+fn put_word(w: Wanted) {
+    match w {
         Wanted::Length => put(b"expected the word length"),
         Wanted::Service => put(b"expected the word service"),
         Wanted::Count => put(b"expected the word count"),
         Wanted::Ocf => put(b"expected the word ocf"),
+        _ => put_lane_word(w),
+    }
+}
+
+// Says which word was expected, of those that only a lane has.
+fn put_lane_word(w: Wanted) {
+    match w {
         Wanted::Channel => put(b"expected the word channel"),
         Wanted::Map => put(b"expected the word map"),
         Wanted::Carries => put(b"expected the word packets or access"),
         Wanted::Longest => put(b"expected the word longest"),
-        Wanted::YesOrNo => put(b"expected yes or no"),
-        Wanted::End => put(b"expected the line's end"),
-        Wanted::Number(low, high) => put_range(low, high),
         _ => put_rule(w),
     }
 }
 
-// Says which rule the line breaks together with the lines before it.
+// Says which rule the line breaks together with the lines before it: one on facts and channels.
 fn put_rule(w: Wanted) {
     match w {
         Wanted::NewFact => put(b"expected a fact that was not said before"),
@@ -89,9 +103,16 @@ fn put_rule(w: Wanted) {
             b"expected a virtual channel and service that were not listed before",
         ),
         Wanted::SameOcf => put(b"expected the ocf of the other channel of this virtual channel"),
+        Wanted::FewerChannels => put(b"expected at most 8 channels"),
+        _ => put_lane_rule(w),
+    }
+}
+
+// The same of the rules on lanes.
+fn put_lane_rule(w: Wanted) {
+    match w {
         Wanted::ListedChannel => put(b"expected a channel that was listed before"),
         Wanted::NewMap => put(b"expected a map that has no lane of this channel yet"),
-        Wanted::FewerChannels => put(b"expected at most 8 channels"),
         Wanted::FewerLanes => put(b"expected at most 8 lanes"),
         _ => put(b"expected nothing else"),
     }
@@ -118,9 +139,8 @@ fn put_return() {
     put(b"a carriage return alone does not end a line; lines end with a line feed");
 }
 
-// Says what is wrong with line n, of which word k does not fit: this was wanted.
-fn say_line(program: &[u8], path: &[u8], octets: &[u8], n: usize, k: usize, w: Wanted) {
-    say_place(program, path, n);
+// Says what is wrong in line n, of which word k does not fit: this was wanted.
+fn put_fault(octets: &[u8], n: usize, k: usize, w: Wanted) {
     let f = setting_quote::fault_of(octets, n, k);
     match f {
         Fault::Mark => put(b"begins with a byte order mark; save it as plain text"),
@@ -134,20 +154,41 @@ fn say_line(program: &[u8], path: &[u8], octets: &[u8], n: usize, k: usize, w: W
             put_quote(octets, n, k);
         }
     }
+}
+
+// Says which line that is, and what is wrong in it.
+fn say_line(program: &[u8], path: &[u8], octets: &[u8], n: usize, k: usize, w: Wanted) {
+    say_place(program, path, n);
+    put_fault(octets, n, k, w);
     put(b"\n");
+}
+
+// Says which fact of the frame as a whole is missing, or which part of it.
+fn put_missing(m: Missing) {
+    match m {
+        Missing::Length => put(b"the frame length is missing"),
+        Missing::Spacecraft => put(b"the spacecraft is missing"),
+        Missing::Direction => put(b"source or destination is missing"),
+        _ => put_missing_part(m),
+    }
+}
+
+// Says which part is missing.
+fn put_missing_part(m: Missing) {
+    match m {
+        Missing::Insert => put(b"the insert zone is missing"),
+        Missing::Check => put(b"the check is missing"),
+        Missing::Channel => put(b"no channel is listed"),
+        _ => put(b"no lane is given"),
+    }
 }
 
 // Says what the file never says.
 fn say_missing(program: &[u8], path: &[u8], m: Missing) {
-    match m {
-        Missing::Length => console::say(program, path, b"the frame length is missing"),
-        Missing::Spacecraft => console::say(program, path, b"the spacecraft is missing"),
-        Missing::Direction => console::say(program, path, b"source or destination is missing"),
-        Missing::Insert => console::say(program, path, b"the insert zone is missing"),
-        Missing::Check => console::say(program, path, b"the check is missing"),
-        Missing::Channel => console::say(program, path, b"no channel is listed"),
-        Missing::Lane => console::say(program, path, b"no lane is given"),
-    }
+    console::say_front(program, path);
+    put(b": ");
+    put_missing(m);
+    put(b"\n");
 }
 
 // Says what the file never says, or that its first line has a carriage return that ends no line: a file without line feeds is one line.

@@ -17,7 +17,7 @@ use Rattle.setting_text.specs.declared.Heard.{Heard}
 use Rattle.setting_text.specs.declared.Trace.{Trace}
 use Rattle.setting_text.specs.Texts.{blank, stops, onto, cut, full, words, first, others, numberOf}
 use Rattle.setting_text.specs.Texts as texts
-use Rattle.setting_text.specs.Table.{END, Item, item, word, one, from, end, frameLines, partLines, channelLine, laneHead, packetsEnd, accessEnd, table, place, worth, fresh, counted, noted, further, Seen, turned, step, follow, through, heard}
+use Rattle.setting_text.specs.Table.{END, Item, item, word, one, from, end, frameLines, partLines, channelLine, laneHead, packetsEnd, accessEnd, laneLines, table, place, worth, fresh, counted, noted, further, Seen, turned, step, follow, through, heard}
 use Rattle.setting_text.specs.Places.{seen, most, Bounded, Known, Asked, Sound}
 
 -- ---- each item keeps its bounds
@@ -169,13 +169,12 @@ heard-sound ws = (through-sound ws table _ table-fine (record { now = fresh-soun
 
 -- ---- one part of the table after another
 
-module _ (l : List ℕ) (now best : Heard) (a b c d e f g : Trace) where
+module _ (l : List ℕ) (now best : Heard) (a b c d : Trace) where
   pub hears : now ≡ fresh true → best ≡ fresh false → seen l a ≡ follow (words l) frameLines (seen l (record { at = 0; now = now; best = best }))
       → seen l b ≡ follow (words l) partLines (seen l a) → seen l c ≡ follow (words l) channelLine (seen l b)
-      → seen l d ≡ follow (words l) laneHead (seen l c) → seen l e ≡ follow (words l) packetsEnd (seen l d)
-      → seen l f ≡ follow (words l) laneHead (seen l e) → seen l g ≡ follow (words l) accessEnd (seen l f) → g .best ≡ heard (words l)
+      → seen l d ≡ through (words l) laneLines (seen l c) → d .best ≡ heard (words l)
   unfolding heard through table seen
-  hears n o p1 p2 p3 p4 p5 p6 p7 = ap (λ (s : Seen). s .best) all
+  hears n o p1 p2 p3 p4 = ap (λ (s : Seen). s .best) all
     where
-      all : seen l g ≡ through (words l) table (record { rest = words l; now = fresh true; best = fresh false })
-      all = p7 ∙ rw (p6, p5, p4, p3, p2, p1, n, o)
+      all : seen l d ≡ through (words l) table (record { rest = words l; now = fresh true; best = fresh false })
+      all = p4 ∙ rw (p3, p2, p1, n, o)

@@ -78,6 +78,10 @@ word k w = item (text k) (ask.Word w) ASIDE
 unfoldable pub one : String → Wanted → ℕ → Item
 one k w f = item (text k) (ask.Word w) f
 
+-- Yes or no.
+abbrev pub yesOrNo : ℕ → Item
+yesOrNo f = one "no yes" want.YesOrNo f
+
 -- A number in this range.
 unfoldable pub from : ℕ → ℕ → ℕ → Item
 from low high f = item [] (ask.Number low high) f
@@ -86,38 +90,48 @@ from low high f = item [] (ask.Number low high) f
 unfoldable pub end : Says → Item
 end s = item [] (ask.End s) END
 
+-- Source or destination, and nothing more.
+abbrev pub directionLine : List Item
+directionLine = one "source destination" want.Fact DIRECTION ∷ end (say.Fact DIRECTION) ∷ []
+
 -- The lines, one after another; docs/PROGRAMS.md has the same table.
 unfoldable pub frameLines : List Item
 frameLines =
     word "frame" want.Fact ∷ word "length" want.Length ∷ from 32 4096 LENGTH ∷ end (say.Fact LENGTH)
-    ∷ word "spacecraft" want.Fact ∷ from 0 65535 CRAFT ∷ end (say.Fact CRAFT)
-    ∷ one "source destination" want.Fact DIRECTION ∷ end (say.Fact DIRECTION) ∷ []
+    ∷ word "spacecraft" want.Fact ∷ from 0 65535 CRAFT ∷ end (say.Fact CRAFT) ∷ directionLine
 
 -- A line without words says nothing.
 unfoldable pub partLines : List Item
 partLines =
     word "insert" want.Fact ∷ from 0 64 INSERT ∷ end (say.Fact INSERT)
-    ∷ word "check" want.Fact ∷ one "no yes" want.YesOrNo CHECK ∷ end (say.Fact CHECK)
+    ∷ word "check" want.Fact ∷ yesOrNo CHECK ∷ end (say.Fact CHECK)
     ∷ end say.Nothing ∷ []
 
+-- Which channel it is, and then the rest of the line.
+abbrev pub channelName : Wanted → List Item → List Item
+channelName w rest = word "channel" w ∷ from 0 62 VC ∷ word "service" want.Service ∷ from 0 1 SERVICE ∷ rest
+
 unfoldable pub channelLine : List Item
-channelLine =
-    word "channel" want.Fact ∷ from 0 62 VC ∷ word "service" want.Service ∷ from 0 1 SERVICE
-    ∷ word "count" want.Count ∷ from 1 7 OCTETS ∷ word "ocf" want.Ocf ∷ one "no yes" want.YesOrNo OCF ∷ end say.Channel ∷ []
+channelLine = channelName want.Fact (word "count" want.Count ∷ from 1 7 OCTETS ∷ word "ocf" want.Ocf ∷ yesOrNo OCF ∷ end say.Channel ∷ [])
 
 unfoldable pub laneHead : List Item
-laneHead =
-    word "lane" want.Fact ∷ word "channel" want.Channel ∷ from 0 62 VC ∷ word "service" want.Service ∷ from 0 1 SERVICE
-    ∷ word "map" want.Map ∷ from 0 15 MAP ∷ []
+laneHead = word "lane" want.Fact ∷ channelName want.Channel (word "map" want.Map ∷ from 0 15 MAP ∷ [])
+
+-- The longest unit, with which a lane's line ends.
+abbrev pub longestEnd : ℕ → List Item
+longestEnd low = word "longest" want.Longest ∷ from low 8192 LONGEST ∷ end say.Lane ∷ []
 
 unfoldable pub packetsEnd : List Item
-packetsEnd = one "packets" want.Carries UPID ∷ word "longest" want.Longest ∷ from 7 8192 LONGEST ∷ end say.Lane ∷ []
+packetsEnd = one "packets" want.Carries UPID ∷ longestEnd 7
 
 unfoldable pub accessEnd : List Item
-accessEnd = word "access" want.Carries ∷ from 1 30 UPID ∷ word "longest" want.Longest ∷ from 1 8192 LONGEST ∷ end say.Lane ∷ []
+accessEnd = word "access" want.Carries ∷ from 1 30 UPID ∷ longestEnd 1
+
+abbrev pub laneLines : List (List Item)
+laneLines = laneHead ∷ packetsEnd ∷ laneHead ∷ accessEnd ∷ []
 
 unfoldable pub table : List (List Item)
-table = frameLines ∷ partLines ∷ channelLine ∷ laneHead ∷ packetsEnd ∷ laneHead ∷ accessEnd ∷ []
+table = frameLines ∷ partLines ∷ channelLine ∷ laneLines
 
 -- ---- a word, at its place in a line of the table
 

@@ -2,12 +2,15 @@
 ghost use mathlib.Core.Path.{_≡_};
 ghost use mathlib.Core.Bool.{_&&_, cond};
 ghost use Prim.Native.Nat.{_≤_, _<_};
+ghost use mathlib.Core.List.{[], _∷_};
 ghost use lib.ListN.{getD};
 ghost use Rattle.rules.specs.Tests.{_≤?_, _=?_};
 ghost use Rattle.rules.specs.Refusals.{channelAt};
 ghost use Rattle.rules.specs.declared.Kind.the-variants as kinds;
+ghost use Rattle.setting_text.specs.declared.Ask.the-variants as ask;
+ghost use Rattle.setting_text.specs.declared.Says.the-variants as say;
 ghost use Rattle.setting_text.specs.Texts.{blank, stops, same, words, numberOf};
-ghost use Rattle.setting_text.specs.Table.{VC, SERVICE, item, from, end, frameLines, partLines, channelLine, laneHead, packetsEnd, accessEnd, place, worth, fresh, counted, noted, step, follow, heard};
+ghost use Rattle.setting_text.specs.Table.{VC, SERVICE, ASIDE, item, from, end, yesOrNo, directionLine, frameLines, partLines, channelName, channelLine, laneHead, longestEnd, packetsEnd, accessEnd, laneLines, place, worth, fresh, counted, noted, step, follow, through, heard};
 ghost use Rattle.setting_text.specs.Places.{Until, Word, seen, moved, most, Bounded, Known, Sound, Gathering};
 ghost use Rattle.setting_text.specs.Facts.{nothing, refuse, forbid, told, withFact, addFact, withChannel, withLane, ocfUnlike, addChannel, channelOf, addLane, laneOf, addLaneOf, takeSaid, takeAsked, takeLine, zoneless, judged, lacking, allFound, found, answered, parsed};
 use rules::Channel;
@@ -441,17 +444,60 @@ fn hear_end(line: &[u8], t: Trace, says: Says) -> Trace
     hear_word(line, t, b"", Ask::End(says), END)
 }
 
-// The table: frame length, spacecraft, source or destination.
-fn hear_frame(line: &[u8], t: Trace) -> Trace
-    ensures { λ r. ⌜ seen (now (line .entry)) r ≡ follow (words (now (line .entry))) frameLines (seen (now (line .entry)) t) ⌝ }
+// The next word, which has to be this one and has no number of its own.
+fn hear_key(line: &[u8], t: Trace, key: &[u8], wanted: Wanted) -> Trace
+    ensures { λ r. ⌜ seen (now (line .entry)) r ≡ step (words (now (line .entry))) (item (now (key .entry)) (ask.Word wanted) ASIDE) (seen (now (line .entry)) t) ⌝ }
 {
-    let t = hear_word(line, t, b"frame", Ask::Word(Wanted::Fact), ASIDE);
-    let t = hear_word(line, t, b"length", Ask::Word(Wanted::Length), ASIDE);
-    let t = hear_number(line, t, 32, 4096, LENGTH);
-    let t = hear_end(line, t, Says::Fact(LENGTH));
-    let t = hear_word(line, t, b"spacecraft", Ask::Word(Wanted::Fact), ASIDE);
-    let t = hear_number(line, t, 0, 65535, CRAFT);
-    let t = hear_end(line, t, Says::Fact(CRAFT));
+    hear_word(line, t, key, Ask::Word(wanted), ASIDE)
+}
+
+// This word, and a number after it.
+fn hear_named(
+    line: &[u8],
+    t: Trace,
+    key: &[u8],
+    wanted: Wanted,
+    low: usize,
+    high: usize,
+    field: usize,
+) -> Trace
+    requires { ⌜ field < 14 ⌝ }
+    ensures { λ r. ⌜ seen (now (line .entry)) r ≡ follow (words (now (line .entry))) (item (now (key .entry)) (ask.Word wanted) ASIDE ∷ from low high field ∷ []) (seen (now (line .entry)) t) ⌝ }
+{
+    let t = hear_key(line, t, key, wanted);
+    hear_number(line, t, low, high, field)
+}
+
+// This word, and a number after it, which is all that the line says.
+fn hear_fact(
+    line: &[u8],
+    t: Trace,
+    key: &[u8],
+    wanted: Wanted,
+    low: usize,
+    high: usize,
+    field: usize,
+) -> Trace
+    requires { ⌜ field < 14 ⌝ }
+    ensures { λ r. ⌜ seen (now (line .entry)) r ≡ follow (words (now (line .entry))) (item (now (key .entry)) (ask.Word wanted) ASIDE ∷ from low high field ∷ end (say.Fact field) ∷ []) (seen (now (line .entry)) t) ⌝ }
+{
+    let t = hear_named(line, t, key, wanted, low, high, field);
+    hear_end(line, t, Says::Fact(field))
+}
+
+// This word, and whether after it stands yes.
+fn hear_whether(line: &[u8], t: Trace, key: &[u8], wanted: Wanted, field: usize) -> Trace
+    requires { ⌜ field < 14 ⌝ }
+    ensures { λ r. ⌜ seen (now (line .entry)) r ≡ follow (words (now (line .entry))) (item (now (key .entry)) (ask.Word wanted) ASIDE ∷ yesOrNo field ∷ []) (seen (now (line .entry)) t) ⌝ }
+{
+    let t = hear_key(line, t, key, wanted);
+    hear_word(line, t, b"no yes", Ask::Word(Wanted::YesOrNo), field)
+}
+
+// The table: source or destination.
+fn hear_direction(line: &[u8], t: Trace) -> Trace
+    ensures { λ r. ⌜ seen (now (line .entry)) r ≡ follow (words (now (line .entry))) directionLine (seen (now (line .entry)) t) ⌝ }
+{
     let t = hear_word(
         line,
         t,
@@ -462,31 +508,41 @@ fn hear_frame(line: &[u8], t: Trace) -> Trace
     hear_end(line, t, Says::Fact(DIRECTION))
 }
 
+// The table: frame length, spacecraft, source or destination.
+fn hear_frame(line: &[u8], t: Trace) -> Trace
+    ensures { λ r. ⌜ seen (now (line .entry)) r ≡ follow (words (now (line .entry))) frameLines (seen (now (line .entry)) t) ⌝ }
+{
+    let t = hear_key(line, t, b"frame", Wanted::Fact);
+    let t = hear_fact(line, t, b"length", Wanted::Length, 32, 4096, LENGTH);
+    let t = hear_fact(line, t, b"spacecraft", Wanted::Fact, 0, 65535, CRAFT);
+    hear_direction(line, t)
+}
+
 // The table: insert, check, and a line without words.
 fn hear_parts(line: &[u8], t: Trace) -> Trace
     ensures { λ r. ⌜ seen (now (line .entry)) r ≡ follow (words (now (line .entry))) partLines (seen (now (line .entry)) t) ⌝ }
 {
-    let t = hear_word(line, t, b"insert", Ask::Word(Wanted::Fact), ASIDE);
-    let t = hear_number(line, t, 0, 64, INSERT);
-    let t = hear_end(line, t, Says::Fact(INSERT));
-    let t = hear_word(line, t, b"check", Ask::Word(Wanted::Fact), ASIDE);
-    let t = hear_word(line, t, b"no yes", Ask::Word(Wanted::YesOrNo), CHECK);
+    let t = hear_fact(line, t, b"insert", Wanted::Fact, 0, 64, INSERT);
+    let t = hear_whether(line, t, b"check", Wanted::Fact, CHECK);
     let t = hear_end(line, t, Says::Fact(CHECK));
     hear_end(line, t, Says::Nothing)
+}
+
+// The table: which channel it is, in its own line and in that of a lane.
+fn hear_name(line: &[u8], t: Trace, wanted: Wanted) -> Trace
+    ensures { λ r. ⌜ seen (now (line .entry)) r ≡ follow (words (now (line .entry))) (channelName wanted []) (seen (now (line .entry)) t) ⌝ }
+{
+    let t = hear_named(line, t, b"channel", wanted, 0, 62, VC);
+    hear_named(line, t, b"service", Wanted::Service, 0, 1, SERVICE)
 }
 
 // The table: a channel.
 fn hear_channel(line: &[u8], t: Trace) -> Trace
     ensures { λ r. ⌜ seen (now (line .entry)) r ≡ follow (words (now (line .entry))) channelLine (seen (now (line .entry)) t) ⌝ }
 {
-    let t = hear_word(line, t, b"channel", Ask::Word(Wanted::Fact), ASIDE);
-    let t = hear_number(line, t, 0, 62, VC);
-    let t = hear_word(line, t, b"service", Ask::Word(Wanted::Service), ASIDE);
-    let t = hear_number(line, t, 0, 1, SERVICE);
-    let t = hear_word(line, t, b"count", Ask::Word(Wanted::Count), ASIDE);
-    let t = hear_number(line, t, 1, 7, OCTETS);
-    let t = hear_word(line, t, b"ocf", Ask::Word(Wanted::Ocf), ASIDE);
-    let t = hear_word(line, t, b"no yes", Ask::Word(Wanted::YesOrNo), OCF);
+    let t = hear_name(line, t, Wanted::Fact);
+    let t = hear_named(line, t, b"count", Wanted::Count, 1, 7, OCTETS);
+    let t = hear_whether(line, t, b"ocf", Wanted::Ocf, OCF);
     hear_end(line, t, Says::Channel)
 }
 
@@ -494,13 +550,17 @@ fn hear_channel(line: &[u8], t: Trace) -> Trace
 fn hear_lane(line: &[u8], t: Trace) -> Trace
     ensures { λ r. ⌜ seen (now (line .entry)) r ≡ follow (words (now (line .entry))) laneHead (seen (now (line .entry)) t) ⌝ }
 {
-    let t = hear_word(line, t, b"lane", Ask::Word(Wanted::Fact), ASIDE);
-    let t = hear_word(line, t, b"channel", Ask::Word(Wanted::Channel), ASIDE);
-    let t = hear_number(line, t, 0, 62, VC);
-    let t = hear_word(line, t, b"service", Ask::Word(Wanted::Service), ASIDE);
-    let t = hear_number(line, t, 0, 1, SERVICE);
-    let t = hear_word(line, t, b"map", Ask::Word(Wanted::Map), ASIDE);
-    hear_number(line, t, 0, 15, MAP)
+    let t = hear_key(line, t, b"lane", Wanted::Fact);
+    let t = hear_name(line, t, Wanted::Channel);
+    hear_named(line, t, b"map", Wanted::Map, 0, 15, MAP)
+}
+
+// The table: the longest unit of a lane, with which its line ends.
+fn hear_longest(line: &[u8], t: Trace, low: usize) -> Trace
+    ensures { λ r. ⌜ seen (now (line .entry)) r ≡ follow (words (now (line .entry))) (longestEnd low) (seen (now (line .entry)) t) ⌝ }
+{
+    let t = hear_named(line, t, b"longest", Wanted::Longest, low, 8192, LONGEST);
+    hear_end(line, t, Says::Lane)
 }
 
 // The table: the rest of a packet lane.
@@ -508,20 +568,25 @@ fn hear_packets(line: &[u8], t: Trace) -> Trace
     ensures { λ r. ⌜ seen (now (line .entry)) r ≡ follow (words (now (line .entry))) packetsEnd (seen (now (line .entry)) t) ⌝ }
 {
     let t = hear_word(line, t, b"packets", Ask::Word(Wanted::Carries), UPID);
-    let t = hear_word(line, t, b"longest", Ask::Word(Wanted::Longest), ASIDE);
-    let t = hear_number(line, t, 7, 8192, LONGEST);
-    hear_end(line, t, Says::Lane)
+    hear_longest(line, t, 7)
 }
 
 // The table: the rest of an access lane.
 fn hear_access(line: &[u8], t: Trace) -> Trace
     ensures { λ r. ⌜ seen (now (line .entry)) r ≡ follow (words (now (line .entry))) accessEnd (seen (now (line .entry)) t) ⌝ }
 {
-    let t = hear_word(line, t, b"access", Ask::Word(Wanted::Carries), ASIDE);
-    let t = hear_number(line, t, 1, 30, UPID);
-    let t = hear_word(line, t, b"longest", Ask::Word(Wanted::Longest), ASIDE);
-    let t = hear_number(line, t, 1, 8192, LONGEST);
-    hear_end(line, t, Says::Lane)
+    let t = hear_named(line, t, b"access", Wanted::Carries, 1, 30, UPID);
+    hear_longest(line, t, 1)
+}
+
+// The table: a lane, of packets or of access.
+fn hear_lanes(line: &[u8], t: Trace) -> Trace
+    ensures { λ r. ⌜ seen (now (line .entry)) r ≡ through (words (now (line .entry))) laneLines (seen (now (line .entry)) t) ⌝ }
+{
+    let t = hear_lane(line, t);
+    let t = hear_packets(line, t);
+    let t = hear_lane(line, t);
+    hear_access(line, t)
 }
 
 // What is heard of a line.
@@ -538,10 +603,7 @@ fn hear_line(line: &[u8]) -> Heard
     let t = hear_frame(line, t);
     let t = hear_parts(line, t);
     let t = hear_channel(line, t);
-    let t = hear_lane(line, t);
-    let t = hear_packets(line, t);
-    let t = hear_lane(line, t);
-    let t = hear_access(line, t);
+    let t = hear_lanes(line, t);
     t.best
 }
 

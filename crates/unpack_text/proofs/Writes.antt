@@ -1,7 +1,7 @@
 -- Texts of bounded length, put one after another.
 use Prim.Native.Nat.{ℕ, _+_, _≤_}
 use mathlib.Core.Path.{_≡_, sym, ap, subst, _∙_}
-use mathlib.Core.List.{List, _++_}
+use mathlib.Core.List.{List, _++_, append-assoc}
 use lib.ListN.{length, length-append}
 use native.Mathlib.Numerals.{add-one}
 use native.Mathlib.Omega.{arith}
@@ -49,6 +49,10 @@ pub wrote-named : (v : ℕ) {xs area : List ℕ} {from : ℕ} {area₁ : List �
     (xs ++ decimal v) area from area₂ end
 wrote-named v p q room = wrote-then (wrote-text p) (wrote-decimal v q) (omega arith)
 
+module _ {n₁ n₂ : ℕ} {x₁ x₂ area : List ℕ} {from : ℕ} {a₁ : List ℕ} {e₁ : ℕ} {a₂ : List ℕ} {e₂ : ℕ} where
+  pub wrote-two : Wrote n₁ x₁ area from a₁ e₁ → Wrote n₂ x₂ a₁ e₁ a₂ e₂ → from + (n₁ + n₂) ≤ length area → Wrote (n₁ + n₂) (x₁ ++ x₂) area from a₂ e₂
+  wrote-two p q room = wrote-then p q (omega arith)
+
 module _ {n₁ n₂ n₃ : ℕ} {x₁ x₂ x₃ area : List ℕ} {from : ℕ} {a₁ : List ℕ} {e₁ : ℕ} {a₂ : List ℕ} {e₂ : ℕ} {a₃ : List ℕ} {e₃ : ℕ} where
   pub wrote-three : Wrote n₁ x₁ area from a₁ e₁ → Wrote n₂ x₂ a₁ e₁ a₂ e₂ → Wrote n₃ x₃ a₂ e₂ a₃ e₃ → from + (n₁ + n₂ + n₃) ≤ length area
       → Wrote (n₁ + n₂ + n₃) (x₁ ++ x₂ ++ x₃) area from a₃ e₃
@@ -60,11 +64,12 @@ module _ {n₁ n₂ n₃ n₄ : ℕ} {x₁ x₂ x₃ x₄ area : List ℕ} {from
       → from + (n₁ + n₂ + n₃ + n₄) ≤ length area → Wrote (n₁ + n₂ + n₃ + n₄) (x₁ ++ x₂ ++ x₃ ++ x₄) area from a₄ e₄
   wrote-four p q r s room = wrote-then (wrote-three p q r (omega arith)) s (omega arith)
 
-module _ {n₁ n₂ n₃ n₄ n₅ : ℕ} {x₁ x₂ x₃ x₄ x₅ area : List ℕ} {from : ℕ} {a₁ : List ℕ} {e₁ : ℕ} {a₂ : List ℕ} {e₂ : ℕ} {a₃ : List ℕ} {e₃ : ℕ} {a₄ : List ℕ}
-    {e₄ : ℕ} {a₅ : List ℕ} {e₅ : ℕ} where
-  pub wrote-five : Wrote n₁ x₁ area from a₁ e₁ → Wrote n₂ x₂ a₁ e₁ a₂ e₂ → Wrote n₃ x₃ a₂ e₂ a₃ e₃ → Wrote n₄ x₄ a₃ e₃ a₄ e₄ → Wrote n₅ x₅ a₄ e₄ a₅ e₅
-      → from + (n₁ + n₂ + n₃ + n₄ + n₅) ≤ length area → Wrote (n₁ + n₂ + n₃ + n₄ + n₅) (x₁ ++ x₂ ++ x₃ ++ x₄ ++ x₅) area from a₅ e₅
-  wrote-five p q r s t room = wrote-then (wrote-four p q r s (omega arith)) t (omega arith)
+-- Then two at once, and one more.
+module _ {n₁ n₂ n₃ : ℕ} {x₁ x₄ area : List ℕ} {from : ℕ} {a₁ : List ℕ} {e₁ : ℕ} {a₂ : List ℕ} {e₂ : ℕ} {a₃ : List ℕ} {e₃ : ℕ} where
+  pub wrote-pair : (x₂ x₃ : List ℕ) → Wrote n₁ x₁ area from a₁ e₁ → Wrote n₂ (x₂ ++ x₃) a₁ e₁ a₂ e₂ → Wrote n₃ x₄ a₂ e₂ a₃ e₃
+      → from + (n₁ + n₂ + n₃) ≤ length area → Wrote (n₁ + n₂ + n₃) (x₁ ++ x₂ ++ x₃ ++ x₄) area from a₃ e₃
+  wrote-pair x₂ x₃ p q r room =
+      subst (λ (xs : List ℕ). Wrote (n₁ + n₂ + n₃) (xs ++ x₄) area from a₃ e₃) (sym (append-assoc x₁ x₂ x₃)) (wrote-three p q r room)
 
 -- ---- line after line
 

@@ -289,6 +289,15 @@ pub fn put_named(area: &mut [u8], from: usize, label: &[u8], v: u64) -> usize
     listing_text::put_decimal(area, at, v)
 }
 
+// Puts some text and a number, and then others.
+fn put_two(area: &mut [u8], from: usize, a: &[u8], v: u64, b: &[u8], w: u64) -> usize
+    requires { ⌜ from + (length (now a) + 20 + (length (now b) + 20)) ≤ length (now area) ⌝ }
+    ensures { λ r. ⌜ Wrote (length (now (a .entry)) + 20 + (length (now (b .entry)) + 20)) (now (a .entry) ++ decimal v ++ (now (b .entry) ++ decimal w)) (now (area .entry)) from (now (area .exit)) r ⌝ }
+{
+    let at = put_named(area, from, a, v);
+    put_named(area, at, b, w)
+}
+
 // Puts a line's third field: the lane, the refusal number, or neither.
 fn put_third(area: &mut [u8], from: usize, v: Verdict) -> usize
     requires { ⌜ from + 20 ≤ length (now area) ⌝ }
@@ -307,8 +316,7 @@ fn put_given(area: &mut [u8], from: usize, a: Answer) -> usize
     requires { ⌜ from + 63 ≤ length (now area) ⌝ }
     ensures { λ r. ⌜ Wrote 63 (givenText a) (now (area .entry)) from (now (area .exit)) r ⌝ }
 {
-    let at = put_named(area, from, b" ", a.units as u64);
-    let at = put_named(area, at, b" ", a.octets as u64);
+    let at = put_two(area, from, b" ", a.units as u64, b" ", a.octets as u64);
     put_named(area, at, b" ", a.missing)
 }
 
@@ -317,8 +325,7 @@ fn put_rest(area: &mut [u8], from: usize, a: Answer) -> usize
     requires { ⌜ from + 64 ≤ length (now area) ⌝ }
     ensures { λ r. ⌜ Wrote 64 (restText a) (now (area .entry)) from (now (area .exit)) r ⌝ }
 {
-    let at = put_named(area, from, b" ", a.idle as u64);
-    let at = put_named(area, at, b" ", a.fill as u64);
+    let at = put_two(area, from, b" ", a.idle as u64, b" ", a.fill as u64);
     let at = put_named(area, at, b" ", a.dropped as u64);
     listing_text::put_octet(area, at, b'\n')
 }
@@ -352,10 +359,8 @@ fn put_lane(area: &mut [u8], from: usize, l: u64, t: LaneTally) -> usize
     requires { ⌜ from + 109 ≤ length (now area) ⌝ }
     ensures { λ r. ⌜ Wrote 109 (laneLine l t) (now (area .entry)) from (now (area .exit)) r ⌝ }
 {
-    let at = put_named(area, from, b"lane ", l);
-    let at = put_named(area, at, b" frames ", t.frames);
-    let at = put_named(area, at, b" units ", t.units);
-    let at = put_named(area, at, b" octets ", t.octets);
+    let at = put_two(area, from, b"lane ", l, b" frames ", t.frames);
+    let at = put_two(area, at, b" units ", t.units, b" octets ", t.octets);
     listing_text::put_octet(area, at, b'\n')
 }
 
@@ -364,10 +369,15 @@ fn put_channel(area: &mut [u8], from: usize, vc: u8, service: u8, t: ChannelTall
     requires { ⌜ from + 115 ≤ length (now area) ⌝ }
     ensures { λ r. ⌜ Wrote 115 (channelLine vc service t) (now (area .entry)) from (now (area .exit)) r ⌝ }
 {
-    let at = put_named(area, from, b"channel ", vc as u64);
-    let at = put_named(area, at, b" service ", service as u64);
-    let at = put_named(area, at, b" frames ", t.frames);
-    let at = put_named(area, at, b" missing ", t.missing);
+    let at = put_two(
+        area,
+        from,
+        b"channel ",
+        vc as u64,
+        b" service ",
+        service as u64,
+    );
+    let at = put_two(area, at, b" frames ", t.frames, b" missing ", t.missing);
     listing_text::put_octet(area, at, b'\n')
 }
 
@@ -376,10 +386,8 @@ fn put_classes(area: &mut [u8], from: usize, t: Classes) -> usize
     requires { ⌜ from + 143 ≤ length (now area) ⌝ }
     ensures { λ r. ⌜ Wrote 143 (classesText t) (now (area .entry)) from (now (area .exit)) r ⌝ }
 {
-    let at = put_named(area, from, b"total frames ", t.frames);
-    let at = put_named(area, at, b" read ", t.read);
-    let at = put_named(area, at, b" counted ", t.counted);
-    let at = put_named(area, at, b" idle ", t.idle);
+    let at = put_two(area, from, b"total frames ", t.frames, b" read ", t.read);
+    let at = put_two(area, at, b" counted ", t.counted, b" idle ", t.idle);
     put_named(area, at, b" refused ", t.refused)
 }
 
@@ -388,10 +396,8 @@ fn put_sums(area: &mut [u8], from: usize, t: Sums) -> usize
     requires { ⌜ from + 136 ≤ length (now area) ⌝ }
     ensures { λ r. ⌜ Wrote 136 (sumsText t) (now (area .entry)) from (now (area .exit)) r ⌝ }
 {
-    let at = put_named(area, from, b" units ", t.units);
-    let at = put_named(area, at, b" octets ", t.octets);
-    let at = put_named(area, at, b" idle ", t.idle);
-    let at = put_named(area, at, b" fill ", t.fill);
+    let at = put_two(area, from, b" units ", t.units, b" octets ", t.octets);
+    let at = put_two(area, at, b" idle ", t.idle, b" fill ", t.fill);
     put_named(area, at, b" dropped ", t.dropped)
 }
 

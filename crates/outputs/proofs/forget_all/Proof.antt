@@ -18,8 +18,8 @@ loop-holds c = search needs
 array-read-a : tie.Need-array-read-a Inv-loop μ-loop
 array-read-a c = search needs
 
-remove-old-requires : tie.Need-remove-old-requires Inv-loop μ-loop
-remove-old-requires c κs = search needs
+remove-requires : tie.Need-remove-requires Inv-loop μ-loop
+remove-requires c κs = search needs
 
 add-i : tie.Need-add-i Inv-loop μ-loop
 add-i c = search needs
@@ -44,7 +44,7 @@ forget-all-spec =
     μ-loop
     loop-holds
     array-read-a
-    remove-old-requires
+    remove-requires
     add-i
     loop-less
     loop-again

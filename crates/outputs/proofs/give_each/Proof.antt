@@ -12,6 +12,9 @@ Inv-loop p name₀ n s₀ i₀ name s i = (i ≤ 10) × (length name ≡ length 
 abbrev μ-loop : tie.MeasureT-loop
 μ-loop p name₀ n s₀ i₀ name s i = 10 - i
 
+put-all-aside-requires : tie.Need-put-all-aside-requires Inv-loop μ-loop
+put-all-aside-requires c κs = search needs
+
 loop-holds : tie.Need-loop-holds Inv-loop μ-loop
 loop-holds c = search needs
 
@@ -45,6 +48,7 @@ give-each-spec =
     (tie.spec
     Inv-loop
     μ-loop
+    put-all-aside-requires
     loop-holds
     same-length
     returns

@@ -5,9 +5,6 @@ use borrow.Author.Needs.{needs}
 use Rattle.outputs.proofs.give_names.Statement.{statement}
 use Rattle.outputs.proofs.give_names.Tie as tie
 
-put-all-aside-requires : tie.Need-put-all-aside-requires
-put-all-aside-requires c κs = search needs
-
 give-each-requires : tie.Need-give-each-requires
 give-each-requires c κs = search needs
 
@@ -42,7 +39,6 @@ pub give-names-spec : {M : Type 1} → statement M
 give-names-spec =
     tie.close
     (tie.spec
-    put-all-aside-requires
     give-each-requires
     slice-reshare-prefix-settled
     slice-aggregate-settled

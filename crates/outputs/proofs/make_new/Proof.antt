@@ -17,14 +17,11 @@ slice-aggregate-create c = sym (length-take-le _ _ (search needs))
 create-requires : tie.Need-create-requires
 create-requires c κs = search needs
 
-slice-aggregate-say-failed : tie.Need-slice-aggregate-say-failed
-slice-aggregate-say-failed c = search needs
-
 slice-reshare-prefix-say-failed : tie.Need-slice-reshare-prefix-say-failed
 slice-reshare-prefix-say-failed c = search needs
 
-slice-aggregate-say-failed-2 : tie.Need-slice-aggregate-say-failed-2
-slice-aggregate-say-failed-2 c = sym (length-take-le _ _ (search needs))
+slice-aggregate-say-failed : tie.Need-slice-aggregate-say-failed
+slice-aggregate-say-failed c = sym (length-take-le _ _ (search needs))
 
 say-failed-requires : tie.Need-say-failed-requires
 say-failed-requires c κs = search needs
@@ -49,9 +46,8 @@ make-new-spec =
     slice-reshare-prefix-create
     slice-aggregate-create
     create-requires
-    slice-aggregate-say-failed
     slice-reshare-prefix-say-failed
-    slice-aggregate-say-failed-2
+    slice-aggregate-say-failed
     say-failed-requires
     same-length
     returns

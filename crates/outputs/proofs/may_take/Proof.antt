@@ -14,26 +14,14 @@ returns c = search needs
 put-ending-requires : tie.Need-put-ending-requires
 put-ending-requires c κs = search needs
 
-slice-reshare-prefix-of-name : tie.Need-slice-reshare-prefix-of-name
-slice-reshare-prefix-of-name c = search needs
+slice-reshare-prefix-is-free : tie.Need-slice-reshare-prefix-is-free
+slice-reshare-prefix-is-free c = search needs
 
-slice-aggregate-of-name : tie.Need-slice-aggregate-of-name
-slice-aggregate-of-name c = sym (length-take-le _ _ (search needs))
+slice-aggregate-is-free : tie.Need-slice-aggregate-is-free
+slice-aggregate-is-free c = sym (length-take-le _ _ (search needs))
 
-of-name-requires : tie.Need-of-name-requires
-of-name-requires c κs = search needs
-
-fit-of-requires : tie.Need-fit-of-requires
-fit-of-requires c κs = search needs
-
-slice-reshare-prefix-say-fit : tie.Need-slice-reshare-prefix-say-fit
-slice-reshare-prefix-say-fit c = search needs
-
-slice-aggregate-say-fit : tie.Need-slice-aggregate-say-fit
-slice-aggregate-say-fit c = sym (length-take-le _ _ (search needs))
-
-say-fit-requires : tie.Need-say-fit-requires
-say-fit-requires c κs = search needs
+is-free-requires : tie.Need-is-free-requires
+is-free-requires c κs = search needs
 
 same-length : tie.Need-same-length
 same-length c = search needs
@@ -48,12 +36,8 @@ may-take-spec =
     has-requires
     returns
     put-ending-requires
-    slice-reshare-prefix-of-name
-    slice-aggregate-of-name
-    of-name-requires
-    fit-of-requires
-    slice-reshare-prefix-say-fit
-    slice-aggregate-say-fit
-    say-fit-requires
+    slice-reshare-prefix-is-free
+    slice-aggregate-is-free
+    is-free-requires
     same-length
     returns-2)

@@ -19,10 +19,7 @@ returns : tie.Need-returns
 returns c = search needs
 
 slice-aggregate-say-failed : tie.Need-slice-aggregate-say-failed
-slice-aggregate-say-failed c = search needs
-
-slice-aggregate-say-failed-2 : tie.Need-slice-aggregate-say-failed-2
-slice-aggregate-say-failed-2 c = sym (length-take-le _ _ (omega arith))
+slice-aggregate-say-failed c = sym (length-take-le _ _ (omega arith))
 
 say-failed-requires : tie.Need-say-failed-requires
 say-failed-requires c κs = search needs
@@ -42,7 +39,6 @@ move-off-spec =
     errno-requires
     returns
     slice-aggregate-say-failed
-    slice-aggregate-say-failed-2
     say-failed-requires
     returns-2
     returns-3)

@@ -12,9 +12,6 @@ slice-aggregate-rename c = sym (length-take-le _ _ (omega arith))
 rename-requires : tie.Need-rename-requires
 rename-requires c κs = search needs
 
-slice-aggregate-say-failed : tie.Need-slice-aggregate-say-failed
-slice-aggregate-say-failed c = search needs
-
 say-failed-requires : tie.Need-say-failed-requires
 say-failed-requires c κs = search needs
 
@@ -30,7 +27,6 @@ move-on-spec =
     (tie.spec
     slice-aggregate-rename
     rename-requires
-    slice-aggregate-say-failed
     say-failed-requires
     returns
     returns-2)

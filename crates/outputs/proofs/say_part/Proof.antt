@@ -8,14 +8,11 @@ use Rattle.outputs.proofs.say_part.Tie as tie
 put-marked-requires : tie.Need-put-marked-requires
 put-marked-requires c κs = search needs
 
-slice-aggregate-say-failed : tie.Need-slice-aggregate-say-failed
-slice-aggregate-say-failed c = search needs
-
 slice-reshare-prefix-say-failed : tie.Need-slice-reshare-prefix-say-failed
 slice-reshare-prefix-say-failed c = search needs
 
-slice-aggregate-say-failed-2 : tie.Need-slice-aggregate-say-failed-2
-slice-aggregate-say-failed-2 c = sym (length-take-le _ _ (search needs))
+slice-aggregate-say-failed : tie.Need-slice-aggregate-say-failed
+slice-aggregate-say-failed c = sym (length-take-le _ _ (search needs))
 
 say-failed-requires : tie.Need-say-failed-requires
 say-failed-requires c κs = search needs
@@ -31,9 +28,8 @@ say-part-spec =
     tie.close
     (tie.spec
     put-marked-requires
-    slice-aggregate-say-failed
     slice-reshare-prefix-say-failed
-    slice-aggregate-say-failed-2
+    slice-aggregate-say-failed
     say-failed-requires
     same-length
     returns)

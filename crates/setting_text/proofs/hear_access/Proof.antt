@@ -1,51 +1,24 @@
--- `setting_text::hear_access` meets its contract. One word after another.
+-- `setting_text::hear_access` meets its contract. What a lane carries, and then the longest.
 use Rattle.rules.specs.Listing.{text}
 use Rattle.setting_text.specs.Table.{word, follow, accessEnd}
 use borrow.Author.Needs.{needs}
 use Rattle.setting_text.proofs.hear_access.Statement.{statement}
 use Rattle.setting_text.proofs.hear_access.Tie as tie
 
-slice-aggregate-hear-word : tie.Need-slice-aggregate-hear-word
-slice-aggregate-hear-word c = search needs
+slice-aggregate-hear-named : tie.Need-slice-aggregate-hear-named
+slice-aggregate-hear-named c = search needs
 
-hear-word-requires : tie.Need-hear-word-requires
-hear-word-requires c κs = search needs
+hear-named-requires : tie.Need-hear-named-requires
+hear-named-requires c κs = search needs
 
-hear-number-requires : tie.Need-hear-number-requires
-hear-number-requires c κs = search needs
-
-slice-aggregate-hear-word-2 : tie.Need-slice-aggregate-hear-word-2
-slice-aggregate-hear-word-2 c = search needs
-
-hear-word-requires-2 : tie.Need-hear-word-requires-2
-hear-word-requires-2 c κs = search needs
-
-hear-number-requires-2 : tie.Need-hear-number-requires-2
-hear-number-requires-2 c κs = search needs
-
-hear-end-requires : tie.Need-hear-end-requires
-hear-end-requires c κs = search needs
+hear-longest-requires : tie.Need-hear-longest-requires
+hear-longest-requires c κs = search needs
 
 returns : tie.Need-returns
 unfolding text word follow accessEnd
-returns c =
-    rw (
-      c .hear-end .ensures,
-      c .before .hear-number2 .ensures,
-      c .before .before .hear-word2 .ensures,
-      c .before .before .before .before .hear-number .ensures,
-      c .before .before .before .before .before .hear-word .ensures,
-    )
+returns c = rw (c .hear-longest .ensures, c .before .hear-named .ensures)
 
 pub hear-access-spec : {M : Type 1} → statement M
 hear-access-spec =
     tie.close
-    (tie.spec
-    slice-aggregate-hear-word
-    hear-word-requires
-    hear-number-requires
-    slice-aggregate-hear-word-2
-    hear-word-requires-2
-    hear-number-requires-2
-    hear-end-requires
-    returns)
+    (tie.spec slice-aggregate-hear-named hear-named-requires hear-longest-requires returns)

@@ -1,80 +1,50 @@
 -- `setting_text::hear_frame` meets its contract. One word after another.
 use Rattle.rules.specs.Listing.{text}
-use Rattle.setting_text.specs.Table.{word, one, follow, frameLines}
+use Rattle.setting_text.specs.Table.{word, follow, frameLines}
 use borrow.Author.Needs.{needs}
 use Rattle.setting_text.proofs.hear_frame.Statement.{statement}
 use Rattle.setting_text.proofs.hear_frame.Tie as tie
 
-slice-aggregate-hear-word : tie.Need-slice-aggregate-hear-word
-slice-aggregate-hear-word c = search needs
+slice-aggregate-hear-key : tie.Need-slice-aggregate-hear-key
+slice-aggregate-hear-key c = search needs
 
-hear-word-requires : tie.Need-hear-word-requires
-hear-word-requires c κs = search needs
+hear-key-requires : tie.Need-hear-key-requires
+hear-key-requires c κs = search needs
 
-slice-aggregate-hear-word-2 : tie.Need-slice-aggregate-hear-word-2
-slice-aggregate-hear-word-2 c = search needs
+slice-aggregate-hear-fact : tie.Need-slice-aggregate-hear-fact
+slice-aggregate-hear-fact c = search needs
 
-hear-word-requires-2 : tie.Need-hear-word-requires-2
-hear-word-requires-2 c κs = search needs
+hear-fact-requires : tie.Need-hear-fact-requires
+hear-fact-requires c κs = search needs
 
-hear-number-requires : tie.Need-hear-number-requires
-hear-number-requires c κs = search needs
+slice-aggregate-hear-fact-2 : tie.Need-slice-aggregate-hear-fact-2
+slice-aggregate-hear-fact-2 c = search needs
 
-hear-end-requires : tie.Need-hear-end-requires
-hear-end-requires c κs = search needs
+hear-fact-requires-2 : tie.Need-hear-fact-requires-2
+hear-fact-requires-2 c κs = search needs
 
-slice-aggregate-hear-word-3 : tie.Need-slice-aggregate-hear-word-3
-slice-aggregate-hear-word-3 c = search needs
-
-hear-word-requires-3 : tie.Need-hear-word-requires-3
-hear-word-requires-3 c κs = search needs
-
-hear-number-requires-2 : tie.Need-hear-number-requires-2
-hear-number-requires-2 c κs = search needs
-
-hear-end-requires-2 : tie.Need-hear-end-requires-2
-hear-end-requires-2 c κs = search needs
-
-slice-aggregate-hear-word-4 : tie.Need-slice-aggregate-hear-word-4
-slice-aggregate-hear-word-4 c = search needs
-
-hear-word-requires-4 : tie.Need-hear-word-requires-4
-hear-word-requires-4 c κs = search needs
-
-hear-end-requires-3 : tie.Need-hear-end-requires-3
-hear-end-requires-3 c κs = search needs
+hear-direction-requires : tie.Need-hear-direction-requires
+hear-direction-requires c κs = search needs
 
 returns : tie.Need-returns
-unfolding text word one follow frameLines
+unfolding text word follow frameLines
 returns c =
-    let c₈ = c .before .before .before .before .before .before .before .before in
     rw (
-      c .hear-end3 .ensures,
-      c .before .hear-word4 .ensures,
-      c .before .before .before .hear-end2 .ensures,
-      c .before .before .before .before .hear-number2 .ensures,
-      c .before .before .before .before .before .hear-word3 .ensures,
-      c .before .before .before .before .before .before .before .hear-end .ensures,
-      c₈ .hear-number .ensures,
-      c₈ .before .hear-word2 .ensures,
-      c₈ .before .before .before .hear-word .ensures,
+      c .hear-direction .ensures,
+      c .before .hear-fact2 .ensures,
+      c .before .before .before .hear-fact .ensures,
+      c .before .before .before .before .before .hear-key .ensures,
     )
 
 pub hear-frame-spec : {M : Type 1} → statement M
 hear-frame-spec =
     tie.close
     (tie.spec
-    slice-aggregate-hear-word
-    hear-word-requires
-    slice-aggregate-hear-word-2
-    hear-word-requires-2
-    hear-number-requires
-    hear-end-requires
-    slice-aggregate-hear-word-3
-    hear-word-requires-3
-    hear-number-requires-2
-    hear-end-requires-2
-    slice-aggregate-hear-word-4
-    hear-word-requires-4
-    hear-end-requires-3
+    slice-aggregate-hear-key
+    hear-key-requires
+    slice-aggregate-hear-fact
+    hear-fact-requires
+    slice-aggregate-hear-fact-2
+    hear-fact-requires-2
+    hear-direction-requires
     returns)

@@ -5,66 +5,37 @@ use borrow.Author.Needs.{needs}
 use Rattle.setting_text.proofs.hear_lane.Statement.{statement}
 use Rattle.setting_text.proofs.hear_lane.Tie as tie
 
-slice-aggregate-hear-word : tie.Need-slice-aggregate-hear-word
-slice-aggregate-hear-word c = search needs
+slice-aggregate-hear-key : tie.Need-slice-aggregate-hear-key
+slice-aggregate-hear-key c = search needs
 
-hear-word-requires : tie.Need-hear-word-requires
-hear-word-requires c κs = search needs
+hear-key-requires : tie.Need-hear-key-requires
+hear-key-requires c κs = search needs
 
-slice-aggregate-hear-word-2 : tie.Need-slice-aggregate-hear-word-2
-slice-aggregate-hear-word-2 c = search needs
+hear-name-requires : tie.Need-hear-name-requires
+hear-name-requires c κs = search needs
 
-hear-word-requires-2 : tie.Need-hear-word-requires-2
-hear-word-requires-2 c κs = search needs
+slice-aggregate-hear-named : tie.Need-slice-aggregate-hear-named
+slice-aggregate-hear-named c = search needs
 
-hear-number-requires : tie.Need-hear-number-requires
-hear-number-requires c κs = search needs
-
-slice-aggregate-hear-word-3 : tie.Need-slice-aggregate-hear-word-3
-slice-aggregate-hear-word-3 c = search needs
-
-hear-word-requires-3 : tie.Need-hear-word-requires-3
-hear-word-requires-3 c κs = search needs
-
-hear-number-requires-2 : tie.Need-hear-number-requires-2
-hear-number-requires-2 c κs = search needs
-
-slice-aggregate-hear-word-4 : tie.Need-slice-aggregate-hear-word-4
-slice-aggregate-hear-word-4 c = search needs
-
-hear-word-requires-4 : tie.Need-hear-word-requires-4
-hear-word-requires-4 c κs = search needs
-
-hear-number-requires-3 : tie.Need-hear-number-requires-3
-hear-number-requires-3 c κs = search needs
+hear-named-requires : tie.Need-hear-named-requires
+hear-named-requires c κs = search needs
 
 returns : tie.Need-returns
 unfolding text word follow laneHead
 returns c =
-    let c₈ = c .before .before .before .before .before .before .before .before in
     rw (
-      c .hear-number3 .ensures,
-      c .before .hear-word4 .ensures,
-      c .before .before .before .hear-number2 .ensures,
-      c .before .before .before .before .hear-word3 .ensures,
-      c .before .before .before .before .before .before .hear-number .ensures,
-      c .before .before .before .before .before .before .before .hear-word2 .ensures,
-      c₈ .before .hear-word .ensures,
+      c .hear-named .ensures,
+      c .before .before .hear-name .ensures,
+      c .before .before .before .hear-key .ensures,
     )
 
 pub hear-lane-spec : {M : Type 1} → statement M
 hear-lane-spec =
     tie.close
     (tie.spec
-    slice-aggregate-hear-word
-    hear-word-requires
-    slice-aggregate-hear-word-2
-    hear-word-requires-2
-    hear-number-requires
-    slice-aggregate-hear-word-3
-    hear-word-requires-3
-    hear-number-requires-2
-    slice-aggregate-hear-word-4
-    hear-word-requires-4
-    hear-number-requires-3
+    slice-aggregate-hear-key
+    hear-key-requires
+    hear-name-requires
+    slice-aggregate-hear-named
+    hear-named-requires
     returns)
