@@ -47,29 +47,51 @@ fn cut() -> Came
     }
 }
 
+// Fills an area from standard input; nothing came where the input ends before. That it ends is said, but not where a request would begin.
+fn fill(area: &mut [u8], begins: bool) -> Came
+    ensures { λ r. ⌜ r .size ≤ length (now (area .entry)) ⌝ }
+{
+    let none = Window {
+        have: 0,
+        at: 0,
+        good: true,
+    };
+    let w = intake::fill_up(0, area, none);
+    if !w.good {
+        return not_read();
+    }
+    if w.have < area.len() {
+        if begins && w.have == 0 {
+            return Came {
+                size: 0,
+                good: true,
+            };
+        }
+        return cut();
+    }
+    Came {
+        size: area.len(),
+        good: true,
+    }
+}
+
 // The octets behind the row at the front of `q`, as many as it says; no more than there is room for.
 fn behind(q: &mut [u8]) -> Came
     requires { ⌜ 64 ≤ length (now q) ⌝ }
     ensures { λ r. ⌜ Counts (r .size) (now (q .exit)) ⌝ }
 {
     let size = word_in(q, 1);
-    let m = least(size, q.len() - 64);
-    let to = 64 + m;
-    let none = Window {
-        have: 0,
-        at: 0,
-        good: true,
-    };
-    let w = intake::fill_up(0, &mut q[64..to], none);
-    if !w.good {
-        return not_read();
-    }
-    if w.have < m {
-        return cut();
+    let to = 64 + least(size, q.len() - 64);
+    let came = fill(&mut q[64..to], false);
+    if came.good {
+        return Came {
+            size: to,
+            good: true,
+        };
     }
     Came {
-        size: to,
-        good: true,
+        size: 0,
+        good: false,
     }
 }
 
@@ -78,23 +100,9 @@ fn next(q: &mut [u8]) -> Came
     requires { ⌜ 64 ≤ length (now q) ⌝ }
     ensures { λ r. ⌜ Counts (r .size) (now (q .exit)) ⌝ }
 {
-    let none = Window {
-        have: 0,
-        at: 0,
-        good: true,
-    };
-    let w = intake::fill_up(0, &mut q[..64], none);
-    if !w.good {
-        return not_read();
-    }
-    if w.have == 0 {
-        return Came {
-            size: 0,
-            good: true,
-        };
-    }
-    if w.have < 64 {
-        return cut();
+    let row = fill(&mut q[..64], true);
+    if row.size < 64 {
+        return row;
     }
     behind(q)
 }
@@ -113,12 +121,21 @@ fn tell(what: u64, desk: &[u8], held: &[u8], units: &[u8], records: &[u8]) -> bo
     true
 }
 
+// Says what the system had against standard output, where it did not take an answer; whether it did.
+fn told(sent: bool) -> bool {
+    if sent {
+        return true;
+    }
+    console::say_failed(b"obey", b"standard output");
+    false
+}
+
 // Obeys a request, and answers it.
 fn turn(q: &[u8], desk: &mut [u8], held: &mut [u8], units: &mut [u8], records: &mut [u8]) -> bool
     requires { ⌜ (64 ≤ length (now q)) × (length (now desk) ≡ 6440) ⌝ }
 {
     obey(q, desk, held, units, records);
-    tell(word_in(q, 0), desk, held, units, records)
+    told(tell(word_in(q, 0), desk, held, units, records))
 }
 
 // Says how many requests were obeyed, where all went well.
@@ -145,7 +162,6 @@ fn obey_all() {
         }
         let sent = turn(&q[..n], &mut desk, &mut held, &mut units, &mut records);
         if !sent {
-            console::say_failed(b"obey", b"standard output");
             break;
         }
         k += 1;

@@ -4,6 +4,7 @@ ghost use Prim.Native.Nat.{_+_, _≤_, _<_, min};
 ghost use lib.ListN.{length, replicate};
 ghost use Rattle.rules.specs.Octets.{checkOf};
 ghost use Rattle.rules.specs.Calls.{refusalOf, classRefusal, setUpWriter, setUpReader};
+ghost use Rattle.rows.specs.Rows.{word};
 ghost use Rattle.rows.specs.States.{settingIn};
 ghost use Rattle.obey.specs.Requests.{cut, behind, laidIn, one, answered, sentOn, heardOn, classNumber, answerRow, takenOn};
 ghost use Rattle.obey.specs.Requests.{asked, sent, written, sizesIn, readIn, whole, frameIn, readOn, Left, deskAfter, obeyed};
@@ -70,6 +71,15 @@ fn lay_in(area: &mut [u8], from: usize, src: &[u8])
             octets::lay(area, from, src);
         }
     }
+}
+
+// Lays the octets behind the row into an area from where the row says.
+fn lay_asked(q: &[u8], area: &mut [u8])
+    requires { ⌜ 64 ≤ length (now q) ⌝ }
+    ensures { λ _. ⌜ now (area .exit) ≡ laidIn (now (area .entry)) (word (now (q .entry)) 2) (behind (now (q .entry))) ⌝ }
+{
+    let octets = rest(q);
+    lay_in(area, word_in(q, 2) as usize, octets);
 }
 
 // ---- onto the desk
@@ -291,8 +301,7 @@ fn on_desk(q: &[u8], desk: &mut [u8])
 {
     let what = word_in(q, 0);
     if what == 4 {
-        let octets = rest(q);
-        lay_in(desk, word_in(q, 2) as usize, octets);
+        lay_asked(q, desk);
         return;
     }
     if what == 5 {
@@ -323,8 +332,7 @@ pub fn obey(q: &[u8], desk: &mut [u8], held: &mut [u8], units: &mut [u8], record
         return;
     }
     if what == 2 {
-        let octets = rest(q);
-        lay_in(held, word_in(q, 2) as usize, octets);
+        lay_asked(q, held);
         return;
     }
     if what == 3 {

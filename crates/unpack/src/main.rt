@@ -5,6 +5,7 @@ ghost use mathlib.Core.Path.{_≡_};
 ghost use mathlib.Core.Bool.{true};
 ghost use Prim.Native.Nat.{_+_, _≤_};
 ghost use lib.ListN.{length};
+ghost use Rattle.io.specs.Counts.{Counts};
 ghost use Rattle.rules.specs.Settings.{settingOk, readerOk};
 ghost use Rattle.refusals.specs.Words.{commonText, firstText};
 ghost use Rattle.setting_file.specs.Files.{judged};
@@ -58,14 +59,31 @@ fn settle(job: Job, name: &mut [u8], n: usize) -> bool
     false
 }
 
+// ---- what is said
+
+// Says something of a file or a word.
+fn say(of: &[u8], text: &[u8]) {
+    console::say(b"unpack", of, text);
+}
+
+// Says what the system had against a file or a word.
+fn say_failed(of: &[u8]) {
+    console::say_failed(b"unpack", of);
+}
+
+// Says that all is done, with so many frames.
+fn say_done(count: u64) {
+    console::say_count(b"unpack", b"done: ", count, b" frames");
+}
+
 // Says what failed in a turn, if anything did.
 fn say_went(went: Went, recording: &[u8], p: Plan, name: &mut [u8], n: usize)
     requires { ⌜ n + 51 ≤ length (now name) ⌝ }
 {
     match went {
         Went::Well => {}
-        Went::NotRead => console::say_failed(b"unpack", recording),
-        Went::NotPrinted => console::say_failed(b"unpack", b"standard output"),
+        Went::NotRead => say_failed(recording),
+        Went::NotPrinted => say_failed(b"standard output"),
         Went::NotWritten(i) => outputs::say_part(p, name, n, i),
     }
 }
@@ -76,14 +94,14 @@ fn say_went(went: Went, recording: &[u8], p: Plan, name: &mut [u8], n: usize)
 fn hand_common(recording: &[u8], r: Refusals, text: &[u8])
     requires { ⌜ now text ≡ commonText (r .counts) ⌝ }
 {
-    console::say(b"unpack", recording, text);
+    say(recording, text);
 }
 
 // Says what the first refused frame says of itself.
 fn hand_first(recording: &[u8], p: First, own: u16, text: &[u8])
     requires { ⌜ now text ≡ firstText p own ⌝ }
 {
-    console::say(b"unpack", recording, text);
+    say(recording, text);
 }
 
 // Puts which refusal is the commonest, and says it.
@@ -106,8 +124,7 @@ fn say_marker(recording: &[u8], p: First) {
     let front = p.front;
     let marked = refusals::is_marked(front);
     if marked {
-        console::say(
-            b"unpack",
+        say(
             recording,
             b"that frame begins with 1A CF FC 1D, a sync marker; markers are to be taken out first",
         );
@@ -129,16 +146,14 @@ fn say_few(few: Little, recording: &[u8]) -> bool {
     match few {
         Little::Enough => false,
         Little::Nothing => {
-            console::say(
-                b"unpack",
+            say(
                 recording,
                 b"no frame was read; see whether this is its setting",
             );
             true
         }
         Little::Fewer => {
-            console::say(
-                b"unpack",
+            say(
                 recording,
                 b"more frames were refused than read; see whether this is its setting",
             );
@@ -259,7 +274,7 @@ fn work(s: Setting, fd: i32, recording: &[u8], job: Job, name: &mut [u8], n: usi
 {
     let e = unpack_all(s, fd, recording, job, name, n);
     if e.whole {
-        console::say_count(b"unpack", b"done: ", e.count, b" frames");
+        say_done(e.count);
     } else {
         let p = job.plan;
         let o = job.sinks;
@@ -336,7 +351,7 @@ fn with_name(s: Setting, fd: i32, recording: &[u8], f: Kept, q: Asked, name: &mu
     let mut drawn = [0u8; 8];
     let got = libc::getentropy(&mut drawn);
     if got < 0 {
-        console::say_failed(b"unpack", b"a number for the unfinished files");
+        say_failed(b"a number for the unfinished files");
         return;
     }
     let number = octets::number(&drawn);
@@ -355,21 +370,40 @@ fn with_name(s: Setting, fd: i32, recording: &[u8], f: Kept, q: Asked, name: &mu
     with_plan(s, fd, recording, job, name, n);
 }
 
+// A word of the command line: how many octets it has, and whether the system gave it. What it had against it is said by then.
+struct Word {
+    octets: usize,
+    good: bool,
+}
+
+// Takes word i of the command line, which is for this.
+fn take_word(i: usize, area: &mut [u8], what: &[u8]) -> Word
+    ensures { λ r. ⌜ Counts (r .octets) (now (area .exit)) ⌝ }
+{
+    let n = os::arg(i, area);
+    let good = os::errno() == 0;
+    if !good {
+        say_failed(what);
+    }
+    Word {
+        octets: n,
+        good: good,
+    }
+}
+
 // Says what is wrong with a prefix, if anything is; whether nothing is.
 fn say_prefix(what: Prefix, prefix: &[u8]) -> bool {
     match what {
         Prefix::Fine => true,
         Prefix::Empty => {
-            console::say(
-                b"unpack",
+            say(
                 b"PREFIX",
                 b"is empty; expected what names of files begin with",
             );
             false
         }
         Prefix::Folder => {
-            console::say(
-                b"unpack",
+            say(
                 prefix,
                 b"is a folder; expected what names of files begin with",
             );
@@ -390,11 +424,11 @@ fn with_prefix(s: Setting, q: Asked, fd: i32, recording: &[u8], f: Kept)
     requires { ⌜ settingOk s ≡ true ⌝ }
 {
     let mut prefix = io::buffer();
-    let n = os::arg(q.three, &mut prefix);
-    if os::errno() != 0 {
-        console::say_failed(b"unpack", b"PREFIX");
+    let w = take_word(q.three, &mut prefix, b"PREFIX");
+    if !w.good {
         return;
     }
+    let n = w.octets;
     let good = good_prefix(&prefix[..n]);
     if good {
         let mut name = [0u8; 4147];
@@ -427,11 +461,7 @@ fn outside(f: Kept) -> bool {
     let o = f.printed;
     let same = files::is_spoiled(o, a, b);
     if same {
-        console::say(
-            b"unpack",
-            b"standard output",
-            b"is the setting or the recording",
-        );
+        say(b"standard output", b"is the setting or the recording");
         return false;
     }
     true
@@ -444,11 +474,7 @@ fn with_recording(s: Setting, q: Asked, fd: i32, recording: &[u8], a: Known)
     let b = files::of_descriptor(fd);
     let twice = files::same(a, b);
     if twice {
-        console::say(
-            b"unpack",
-            recording,
-            b"is the setting; expected a recording",
-        );
+        say(recording, b"is the setting; expected a recording");
         return;
     }
     let f = kept_of(a, b);
@@ -469,7 +495,7 @@ fn with_path(s: Setting, q: Asked, path: &[u8], a: Known)
     }
     let fd = os::open_read(path);
     if fd < 0 {
-        console::say_failed(b"unpack", path);
+        say_failed(path);
         return;
     }
     with_recording(s, q, fd, path, a);
@@ -480,12 +506,11 @@ fn with_setting(s: Setting, q: Asked, a: Known)
     requires { ⌜ settingOk s ≡ true ⌝ }
 {
     let mut path = io::buffer();
-    let n = os::arg(q.two, &mut path);
-    if os::errno() != 0 {
-        console::say_failed(b"unpack", b"RECORDING");
-        return;
+    let w = take_word(q.two, &mut path, b"RECORDING");
+    if w.good {
+        let n = w.octets;
+        with_path(s, q, &path[..n], a);
     }
-    with_path(s, q, &path[..n], a);
 }
 
 // Whether standard output and standard error are open. A file that is opened would take the number of one that is closed.
@@ -496,7 +521,7 @@ fn open_ends() -> bool {
         if o.there {
             return true;
         }
-        console::say_failed(b"unpack", b"standard output");
+        say_failed(b"standard output");
     }
     false
 }
@@ -515,11 +540,11 @@ fn load_from(path: &[u8], area: &mut [u8]) -> Loaded
 // Reads the setting, and goes on.
 fn with_words(q: Asked) {
     let mut path = io::buffer();
-    let n = os::arg(q.one, &mut path);
-    if os::errno() != 0 {
-        console::say_failed(b"unpack", b"SETTING");
+    let w = take_word(q.one, &mut path, b"SETTING");
+    if !w.good {
         return;
     }
+    let n = w.octets;
     let mut area = [0u8; 65537];
     let l = load_from(&path[..n], &mut area);
     let j = l.judged;
@@ -555,8 +580,7 @@ fn read_words(n: usize) -> Asked {
 fn say_unknown(i: usize) {
     let mut word = io::buffer();
     let n = os::arg(i, &mut word);
-    console::say(
-        b"unpack",
+    say(
         &word[..n],
         b"is no option; expected --totals, --units, --help or --version",
     );
@@ -572,7 +596,7 @@ fn print_help() -> bool {
 // Says that the program did what it was asked for in the place of unpacking, where it did.
 fn say_printed(printed: bool) {
     if printed {
-        console::say_count(b"unpack", b"done: ", 0, b" frames");
+        say_done(0);
     }
 }
 
@@ -588,8 +612,7 @@ fn begin(start: Start, q: Asked) {
             say_printed(printed);
         }
         Start::Unknown(i) => say_unknown(i),
-        Start::Usage => console::say(
-            b"unpack",
+        Start::Usage => say(
             b"usage",
             b"unpack [--totals] [--units] SETTING RECORDING PREFIX",
         ),

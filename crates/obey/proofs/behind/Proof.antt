@@ -17,20 +17,17 @@ least-requires c κs = search needs
 add-to : tie.Need-add-to
 add-to c = search needs
 
-sub-fill-up : tie.Need-sub-fill-up
-sub-fill-up c = search needs
+sub-fill : tie.Need-sub-fill
+sub-fill c = search needs
 
-part-fill-up-start : tie.Need-part-fill-up-start
-part-fill-up-start c = search needs
+part-fill-start : tie.Need-part-fill-start
+part-fill-start c = search needs
 
-part-fill-up-end : tie.Need-part-fill-up-end
-part-fill-up-end c = search needs
+part-fill-end : tie.Need-part-fill-end
+part-fill-end c = search needs
 
-fill-up-requires : tie.Need-fill-up-requires
-fill-up-requires c κs = search needs
-
-not-read-requires : tie.Need-not-read-requires
-not-read-requires c κs = search needs
+fill-requires : tie.Need-fill-requires
+fill-requires c κs = search needs
 
 same-length : tie.Need-same-length
 same-length c = search needs
@@ -38,20 +35,11 @@ same-length c = search needs
 returns : tie.Need-returns
 returns c = (search needs, sym (length-take-le _ _ (search needs)))
 
-cut-requires : tie.Need-cut-requires
-cut-requires c κs = search needs
-
 same-length-2 : tie.Need-same-length-2
 same-length-2 c = search needs
 
 returns-2 : tie.Need-returns-2
-returns-2 c = (search needs, sym (length-take-le _ _ (search needs)))
-
-same-length-3 : tie.Need-same-length-3
-same-length-3 c = search needs
-
-returns-3 : tie.Need-returns-3
-returns-3 c = (search needs, sym (length-take-le _ _ (search needs)))
+returns-2 c = search needs
 
 pub behind-spec : {M : Type 1} → statement M
 behind-spec =
@@ -61,15 +49,11 @@ behind-spec =
     sub-least
     least-requires
     add-to
-    sub-fill-up
-    part-fill-up-start
-    part-fill-up-end
-    fill-up-requires
-    not-read-requires
+    sub-fill
+    part-fill-start
+    part-fill-end
+    fill-requires
     same-length
     returns
-    cut-requires
     same-length-2
-    returns-2
-    same-length-3
-    returns-3)
+    returns-2)

@@ -1,6 +1,6 @@
 -- `obey::obey_all` meets its contract. The areas keep their lengths, and the requests are counted.
-use Prim.Native.Nat.{ℕ, _-_}
-use lib.ListN.{length}
+use Prim.Native.Nat.{ℕ, zero, _-_}
+use lib.ListN.{length, length-replicate}
 use mathlib.Core.List.{List}
 use mathlib.Core.Path.{_≡_}
 use borrow.Author.Needs.{needs}
@@ -13,13 +13,19 @@ Kept q desk held units records =
     (length q ≡ 65536) × (length desk ≡ 6440) × (length held ≡ 65552) × (length units ≡ 12304) × (length records ≡ 9632)
 
 abbrev Inv-loop : tie.InvT-loop
-Inv-loop q₀ desk₀ held₀ units₀ records₀ k₀ t10 t11 q desk held units records k = Kept q desk held units records
+Inv-loop q₀ desk₀ held₀ units₀ records₀ k₀ q desk held units records k = Kept q desk held units records
 
 abbrev μ-loop : tie.MeasureT-loop
-μ-loop q₀ desk₀ held₀ units₀ records₀ k₀ t10 t11 q desk held units records k = 18446744073709551615 - k
+μ-loop q₀ desk₀ held₀ units₀ records₀ k₀ q desk held units records k = 18446744073709551615 - k
 
 loop-holds : tie.Need-loop-holds Inv-loop μ-loop
-loop-holds c = search needs
+loop-holds c = (
+  length-replicate 65536 zero,
+  length-replicate 6440 zero,
+  length-replicate {A = ℕ} 65552 0x55,
+  length-replicate {A = ℕ} 12304 0x55,
+  length-replicate {A = ℕ} 9632 0x55,
+)
 
 slice-aggregate-next : tie.Need-slice-aggregate-next Inv-loop μ-loop
 slice-aggregate-next c = search needs
@@ -51,15 +57,6 @@ slice-aggregate-turn-5 c = search needs
 turn-requires : tie.Need-turn-requires Inv-loop μ-loop
 turn-requires c κs = search needs
 
-slice-aggregate-say-failed : tie.Need-slice-aggregate-say-failed Inv-loop μ-loop
-slice-aggregate-say-failed c = search needs
-
-slice-aggregate-say-failed-2 : tie.Need-slice-aggregate-say-failed-2 Inv-loop μ-loop
-slice-aggregate-say-failed-2 c = search needs
-
-say-failed-requires : tie.Need-say-failed-requires Inv-loop μ-loop
-say-failed-requires c κs = search needs
-
 add-k : tie.Need-add-k Inv-loop μ-loop
 add-k c = search needs
 
@@ -67,7 +64,14 @@ loop-less : tie.Need-loop-less Inv-loop μ-loop
 loop-less c = search needs
 
 loop-again : tie.Need-loop-again Inv-loop μ-loop
-loop-again c = search needs
+loop-again c =
+    let c₈ = c .before .before .before .before .before .before .before .before in (
+      c₈ .before .before .before .before .q2 .given,
+      c .before .before .before .before .desk2 .given,
+      c .before .before .before .held2 .given,
+      c .before .before .units2 .given,
+      c .before .records2 .given,
+    )
 
 returns : tie.Need-returns Inv-loop μ-loop
 returns c = search needs
@@ -95,9 +99,6 @@ obey-all-spec =
     slice-aggregate-turn-4
     slice-aggregate-turn-5
     turn-requires
-    slice-aggregate-say-failed
-    slice-aggregate-say-failed-2
-    say-failed-requires
     add-k
     loop-less
     loop-again

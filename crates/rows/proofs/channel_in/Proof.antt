@@ -36,7 +36,8 @@ word-in-requires-4 c κs = search needs
 
 returns : tie.Need-returns
 unfolding channelIn
-returns c = cc
+returns c =
+    rw (c .before .before .before .word-in .ensures, c .before .before .word-in2 .ensures, c .before .word-in3 .ensures, c .word-in4 .ensures)
 
 pub channel-in-spec : {M : Type 1} → statement M
 channel-in-spec =

@@ -21,7 +21,7 @@ cast-t7 c = search needs
 
 returns : tie.Need-returns
 unfolding channelRow
-returns c = cc
+returns c = rw (c .before .before .before .before .bit-of .ensures, c .before .before .before .bit-of2 .ensures)
 
 pub channel-row-spec : {M : Type 1} → statement M
 channel-row-spec =

@@ -15,7 +15,7 @@ cast-t5 c = search needs
 
 returns : tie.Need-returns
 unfolding frontRow
-returns c = cc
+returns c = rw (c .before .before .bit-of .ensures)
 
 pub front-row-spec : {M : Type 1} → statement M
 front-row-spec = tie.close (tie.spec bit-of-requires cast-t4 cast-t5 returns)

@@ -48,7 +48,15 @@ cast-t20 c = search needs
 
 returns : tie.Need-returns
 unfolding laneIn
-returns c = cc
+returns c =
+    rw (
+      c .before .before .before .before .before .word-in .ensures,
+      c .before .before .before .before .word-in2 .ensures,
+      c .before .before .kind-in .ensures,
+      c .before .before .before .word-in3 .ensures,
+      c .before .word-in4 .ensures,
+      c .word-in5 .ensures,
+    )
 
 pub lane-in-spec : {M : Type 1} → statement M
 lane-in-spec =

@@ -21,7 +21,7 @@ cast-t8 c = search needs
 
 returns : tie.Need-returns
 unfolding laneRow
-returns c = cc
+returns c = rw (c .before .before .before .before .kind-number .ensures)
 
 pub lane-row-spec : {M : Type 1} → statement M
 lane-row-spec =

@@ -66,7 +66,21 @@ word-in-requires-7 c κs = search needs
 
 returns : tie.Need-returns
 unfolding settingIn
-returns c = cc
+returns c =
+    let c₅ = c .before .before .before .before .before in
+    let v = c₅ .before .before .lanes-in in
+    let u = c₅ .before .before .before .channels-in in
+    rw (
+      c₅ .before .word-in .ensures,
+      c₅ .word-in2 .ensures,
+      c .before .before .before .before .word-in3 .ensures,
+      c .before .before .before .word-in4 .ensures,
+      c .before .before .word-in5 .ensures,
+      c .before .word-in6 .ensures,
+      u .ensures,
+      c .word-in7 .ensures,
+      v .ensures,
+    )
 
 pub setting-in-spec : {M : Type 1} → statement M
 setting-in-spec =

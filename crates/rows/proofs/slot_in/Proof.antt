@@ -12,7 +12,7 @@ word-in-requires c κs = search needs
 
 returns : tie.Need-returns
 unfolding slotIn
-returns c = cc
+returns c = rw (c .word-in .ensures)
 
 pub slot-in-spec : {M : Type 1} → statement M
 slot-in-spec = tie.close (tie.spec add-word-in word-in-requires returns)

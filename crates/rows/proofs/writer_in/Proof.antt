@@ -24,7 +24,8 @@ held-of-requires c κs = search needs
 
 returns : tie.Need-returns
 unfolding writerIn
-returns c = cc
+returns c =
+    rw (c .before .before .before .setting-in .ensures, c .before .before .counts-in .ensures, c .held-of .ensures, c .before .slots-in .ensures)
 
 pub writer-in-spec : {M : Type 1} → statement M
 writer-in-spec =

@@ -10,9 +10,6 @@ Inv-loop n q₀ i₀ q i = Unit {0}
 abbrev μ-loop : tie.MeasureT-loop
 μ-loop n q₀ i₀ q i = n - i
 
-arg-count-requires : tie.Need-arg-count-requires Inv-loop μ-loop
-arg-count-requires c κs = search needs
-
 no-asked-requires : tie.Need-no-asked-requires Inv-loop μ-loop
 no-asked-requires c κs = search needs
 
@@ -40,7 +37,6 @@ read-words-spec =
     (tie.spec
     Inv-loop
     μ-loop
-    arg-count-requires
     no-asked-requires
     loop-holds
     add-word-requires

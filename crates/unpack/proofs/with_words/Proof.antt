@@ -10,23 +10,14 @@ use Rattle.unpack.proofs.with_words.Tie as tie
 buffer-requires : tie.Need-buffer-requires
 buffer-requires c κs = search needs
 
-slice-aggregate-arg : tie.Need-slice-aggregate-arg
-slice-aggregate-arg c = search needs
+slice-aggregate-take-word : tie.Need-slice-aggregate-take-word
+slice-aggregate-take-word c = search needs
 
-arg-requires : tie.Need-arg-requires
-arg-requires c κs = search needs
+slice-aggregate-take-word-2 : tie.Need-slice-aggregate-take-word-2
+slice-aggregate-take-word-2 c = search needs
 
-errno-requires : tie.Need-errno-requires
-errno-requires c κs = search needs
-
-slice-aggregate-say-failed : tie.Need-slice-aggregate-say-failed
-slice-aggregate-say-failed c = search needs
-
-slice-aggregate-say-failed-2 : tie.Need-slice-aggregate-say-failed-2
-slice-aggregate-say-failed-2 c = search needs
-
-say-failed-requires : tie.Need-say-failed-requires
-say-failed-requires c κs = search needs
+take-word-requires : tie.Need-take-word-requires
+take-word-requires c κs = search needs
 
 returns : tie.Need-returns
 returns c = search needs
@@ -60,12 +51,9 @@ with-words-spec =
     tie.close
     (tie.spec
     buffer-requires
-    slice-aggregate-arg
-    arg-requires
-    errno-requires
-    slice-aggregate-say-failed
-    slice-aggregate-say-failed-2
-    say-failed-requires
+    slice-aggregate-take-word
+    slice-aggregate-take-word-2
+    take-word-requires
     returns
     array-share-prefix-path
     slice-aggregate-load-from

@@ -12,7 +12,7 @@ class-refusal-requires c κs = search needs
 
 returns : tie.Need-returns
 unfolding answerRow
-returns c = cc
+returns c = rw (c .before .class-number .ensures, c .class-refusal .ensures)
 
 pub answer-row-spec : {M : Type 1} → statement M
 answer-row-spec = tie.close (tie.spec class-number-requires class-refusal-requires returns)

@@ -1,9 +1,8 @@
 -- `obey::requests::obey` meets its contract. Each number has its case.
-use mathlib.Core.Path.{sym, _∙_, ap₂}
+use mathlib.Core.Path.{sym, _∙_}
 use Prim.Native.Nat.{_≤_, _<_}
 use native.Mathlib.Omega.{arith}
 use Rattle.rows.specs.Rows.{word}
-use Rattle.obey.specs.Requests.{laidIn}
 use Rattle.obey.proofs.Obeyed.{reads, holds, blanks, others}
 use borrow.Author.Needs.{needs}
 use Rattle.obey.proofs.requests.obey.Statement.{statement}
@@ -37,14 +36,8 @@ returns c =
     let small : word (a .q .now) 0 < 2 = omega (arith, c₁₀ .before .before .before .before .word-in .ensures) in
     reads (a .q .now) (a .desk .now) (a .held .now) (a .units .now) (a .records .now) _ _ _ _ small (c₅ .before .before .before .read .ensures)
 
-rest-requires : tie.Need-rest-requires
-rest-requires c κs = search needs
-
-word-in-requires-2 : tie.Need-word-in-requires-2
-word-in-requires-2 c κs = search needs
-
-lay-in-requires : tie.Need-lay-in-requires
-lay-in-requires c κs = search needs
+lay-asked-requires : tie.Need-lay-asked-requires
+lay-asked-requires c κs = search needs
 
 same-length-5 : tie.Need-same-length-5
 same-length-5 c = search needs
@@ -52,11 +45,9 @@ same-length-5 c = search needs
 returns-2 : tie.Need-returns-2
 returns-2 c =
     let c₅ = c .before .before .before .before .before in
-    let c₁₀ = c₅ .before .before .before .before .before in
-    let a = c₁₀ .before .before .before .before .args in
+    let a = c₅ .before .before .before .before .before .before .before .args in
     holds (a .q .now) (a .desk .now) (a .held .now) (a .units .now) (a .records .now) _
-    (sym (c₅ .before .before .before .word-in .ensures) ∙ c₅ .before .if2 .taken)
-    (c .before .before .lay-in .ensures ∙ ap₂ (laidIn (a .held .now)) (c .before .before .before .word-in2 .ensures) (c₅ .rest .ensures))
+    (sym (c₅ .before .word-in .ensures) ∙ c .before .before .before .before .if2 .taken) (c .before .before .lay-asked .ensures)
 
 blank-all-requires : tie.Need-blank-all-requires
 blank-all-requires c κs = search needs
@@ -107,9 +98,7 @@ obey-spec =
     same-length-3
     same-length-4
     returns
-    rest-requires
-    word-in-requires-2
-    lay-in-requires
+    lay-asked-requires
     same-length-5
     returns-2
     blank-all-requires

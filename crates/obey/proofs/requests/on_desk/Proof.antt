@@ -1,6 +1,5 @@
 -- `obey::requests::on_desk` meets its contract. Each number has its case.
-use mathlib.Core.Path.{refl, sym, _∙_, ap₂}
-use Rattle.obey.specs.Requests.{laidIn}
+use mathlib.Core.Path.{refl, sym, _∙_}
 use Rattle.obey.proofs.Obeyed.{lays, sets-writer, sets-reader, writes, checks, nothing}
 use borrow.Author.Needs.{needs}
 use Rattle.obey.proofs.requests.on_desk.Statement.{statement}
@@ -9,14 +8,8 @@ use Rattle.obey.proofs.requests.on_desk.Tie as tie
 word-in-requires : tie.Need-word-in-requires
 word-in-requires c κs = search needs
 
-rest-requires : tie.Need-rest-requires
-rest-requires c κs = search needs
-
-word-in-requires-2 : tie.Need-word-in-requires-2
-word-in-requires-2 c κs = search needs
-
-lay-in-requires : tie.Need-lay-in-requires
-lay-in-requires c κs = search needs
+lay-asked-requires : tie.Need-lay-asked-requires
+lay-asked-requires c κs = search needs
 
 same-length : tie.Need-same-length
 same-length c = search needs
@@ -24,9 +17,8 @@ same-length c = search needs
 returns : tie.Need-returns
 returns c =
     let c₅ = c .before .before .before .before .before in
-    let c₁₀ = c₅ .before .before .before .before .before in
-    lays _ (c₁₀ .args .desk .now) _ (sym (c₅ .before .before .word-in .ensures) ∙ c₅ .before .if1 .taken)
-    (c .before .before .lay-in .ensures ∙ ap₂ (laidIn _) (c .before .before .before .word-in2 .ensures) (c₅ .rest .ensures))
+    lays _ (c₅ .before .before .before .args .desk .now) _
+    (sym (c₅ .word-in .ensures) ∙ c .before .before .before .before .if1 .taken) (c .before .before .lay-asked .ensures)
 
 set-writer-requires : tie.Need-set-writer-requires
 set-writer-requires c κs = search needs
@@ -92,9 +84,7 @@ on-desk-spec =
     tie.close
     (tie.spec
     word-in-requires
-    rest-requires
-    word-in-requires-2
-    lay-in-requires
+    lay-asked-requires
     same-length
     returns
     set-writer-requires

@@ -24,7 +24,15 @@ least-requires-3 c κs = search needs
 
 returns : tie.Need-returns
 unfolding sizesIn
-returns c = cc
+returns c =
+    rw (
+      c .before .before .before .before .least .ensures,
+      c .before .before .before .before .before .word-in .ensures,
+      c .before .before .least2 .ensures,
+      c .before .before .before .word-in2 .ensures,
+      c .least3 .ensures,
+      c .before .word-in3 .ensures,
+    )
 
 pub sizes-in-spec : {M : Type 1} → statement M
 sizes-in-spec =

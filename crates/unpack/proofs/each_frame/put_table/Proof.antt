@@ -1,4 +1,8 @@
 -- What was put are the lines of all units.
+use Prim.Native.Nat.{ℕ, _≤_}
+use mathlib.Core.Path.{sym, subst}
+use lib.ListN.{length-replicate}
+use native.Mathlib.Nat.{le-refl}
 use Rattle.unpack_text.proofs.Cuts.{wrote-cut, wrote-front}
 use borrow.Author.Needs.{needs}
 use Rattle.unpack.proofs.each_frame.put_table.Statement.{statement}
@@ -8,7 +12,7 @@ slice-aggregate-put-rows : tie.Need-slice-aggregate-put-rows
 slice-aggregate-put-rows c = search needs
 
 put-rows-requires : tie.Need-put-rows-requires
-put-rows-requires c κs = search needs
+put-rows-requires c κs = (c .before .before .before .pre, subst (λ (n : ℕ). 88200 ≤ n) (sym (length-replicate {A = ℕ} 88200 0)) (le-refl 88200))
 
 array-share-prefix-area : tie.Need-array-share-prefix-area
 array-share-prefix-area c = search needs

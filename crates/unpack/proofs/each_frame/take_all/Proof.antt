@@ -1,7 +1,7 @@
 -- Before each frame the stage is reached, and the areas have their lengths; the frames are counted.
-use Prim.Native.Nat.{_-_}
+use Prim.Native.Nat.{zero, _-_}
 use mathlib.Core.Path.{_≡_, refl}
-use lib.ListN.{length}
+use lib.ListN.{length, length-replicate}
 use native.Mathlib.Omega.{arith}
 use Rattle.unpack.specs.Stages.{Reached}
 use Rattle.unpack.proofs.Carried.{begins, finished, turned-on}
@@ -25,7 +25,7 @@ first-turn-requires c κs = search needs
 
 loop-holds : tie.Need-loop-holds Inv-loop μ-loop
 loop-holds c = let b = begins _ _ (c .before .pre) (c .first-turn .ensures) in
-    (search needs, search needs, search needs, search needs, b .0, b .1)
+    (length-replicate heldSize zero, length-replicate unitsSize zero, length-replicate recordsSize zero, length-replicate 4096 zero, b .0, b .1)
 
 slice-aggregate-turn-frame : tie.Need-slice-aggregate-turn-frame Inv-loop μ-loop
 slice-aggregate-turn-frame c = search needs
@@ -66,10 +66,10 @@ loop-less c =
 loop-again : tie.Need-loop-again Inv-loop μ-loop
 loop-again c =
     let c₈ = c .before .before .before .before .before .before .before .before in (
-      search needs,
-      search needs,
-      search needs,
-      search needs,
+      c .before .before .before .held2 .given,
+      c .before .before .units2 .given,
+      c .before .records2 .given,
+      c .before .before .before .before .frame2 .given,
       refl,
       turned-on (c₈ .before
           .before .before .loop .inv .5) (c .before .before .before .before .before .turn-frame .ensures) .0,
