@@ -19,6 +19,7 @@ pub mod Corollaries
 pub mod Refusing
 pub mod Computes
 pub mod Premises
+pub mod Closing
 pub mod LongRuns
 pub mod Example
 pub mod Shown

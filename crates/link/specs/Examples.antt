@@ -1,4 +1,4 @@
--- Runs that the demand is tried on: two that meet its premises, and one with as many frames gone as there are counts.
+-- Runs that the demand is tried on: some that meet its premises, and one with as many frames gone as there are counts.
 use Prim.Native.Nat.{ℕ, _-_}
 use mathlib.Core.Bool.{false}
 use mathlib.Core.List.{List, [], _∷_, _++_}
@@ -80,6 +80,30 @@ v₂ = replicate 42 0x22
 abbrev pub w₂ : List ℕ
 w₂ = replicate 21 0x32
 
+-- The run's end, which is a run of its own too.
+unfoldable pub closing : List Call
+closing =
+    -- A frame of lane 1 is gone: two of its packets, and one that lane 0 has begun. The octets in its place are nothing to the unit that
+    -- lane 2 has begun, which is as long as may be.
+    keep 0 a₀
+    ∷ keep 2 v₂
+    ∷ lose 1 e₁ ((0xC0 ∷ 0x02 ∷ []) ∷ replicate 32 0x00 ∷ [])
+    ∷ keep 2 v₂
+    ∷ keep 1 e₁
+    ∷ keep 0 a₀
+    -- Two packets of one frame. The first octets of one unit and the last of another; what stands in the places of the frames between is
+    -- nothing to the packet that lane 0 has begun. The last batch is unfinished.
+    ∷ keep 1 f₁
+    ∷ keep 0 d₀
+    ∷ keep 2 v₂
+    ∷ lose 2 v₂ ((0xC0 ∷ 0x02 ∷ []) ∷ [])
+    ∷ lose 2 u₂ (replicate 32 0x00 ∷ [])
+    ∷ keep 2 u₂
+    ∷ keep 0 d₀
+    ∷ keep 0 d₀
+    ∷ keep 0 a₀
+    ∷ []
+
 unfoldable pub calls : List Call
 calls =
     -- The first half of one packet and the second half of another of the same length, and a frame of the neighbor's map between:
@@ -102,26 +126,7 @@ calls =
     ∷ keep 2 v₂
     ∷ keep 1 e₁
     ∷ keep 2 w₂
-    -- A frame of lane 1 is gone: two of its packets, and one that lane 0 has begun. The octets in its place are nothing to the unit that
-    -- lane 2 has begun, which is as long as may be.
-    ∷ keep 0 a₀
-    ∷ keep 2 v₂
-    ∷ lose 1 e₁ ((0xC0 ∷ 0x02 ∷ []) ∷ replicate 32 0x00 ∷ [])
-    ∷ keep 2 v₂
-    ∷ keep 1 e₁
-    ∷ keep 0 a₀
-    -- Two packets of one frame. The first octets of one unit and the last of another; what stands in the places of the frames between is
-    -- nothing to the packet that lane 0 has begun. The last batch is unfinished.
-    ∷ keep 1 f₁
-    ∷ keep 0 d₀
-    ∷ keep 2 v₂
-    ∷ lose 2 v₂ ((0xC0 ∷ 0x02 ∷ []) ∷ [])
-    ∷ lose 2 u₂ (replicate 32 0x00 ∷ [])
-    ∷ keep 2 u₂
-    ∷ keep 0 d₀
-    ∷ keep 0 d₀
-    ∷ keep 0 a₀
-    ∷ []
+    ∷ closing
 
 -- What is due on lanes 0, 1, 2 and on 3, which is none, by hand.
 unfoldable pub wanted : List (List (List ℕ))
