@@ -1,5 +1,7 @@
 // What the archive's programs say to the people who run them, and whether they may: nothing is said into an input. How names and words of others are
 // printed is promised; no contract can speak of what is written to a descriptor.
+pub mod progress;
+
 ghost use mathlib.Core.Path.{_≡_};
 ghost use Prim.Native.Nat.{_≤_};
 ghost use lib.ListN.{length, take};

@@ -11,12 +11,11 @@ use lib.ListN.{length, getD, take, drop, set, length-set, length-take, drop-of-l
 use lib.Seq.{length-take-le, getD-take, drop-cons, take-suc, take-suc-set, drop-set-lt, append-snoc}
 use Rattle.rules.specs.declared.Lane.{Lane}
 use Rattle.rules.specs.declared.Setting.{Setting}
-use Rattle.rules.specs.declared.Expects.{Expects}
 use Rattle.rules.specs.declared.Slot.{Slot}
 use Rattle.rules.specs.declared.Reader.{Reader}
 use Rattle.rules.specs.Tests.{_=?_}
-use Rattle.rules.specs.Settings.{noLane, noSlot, channel, lane, expect, expecting, heldBy, readerOk}
-use Rattle.rules.specs.Reading.{missing, expected, emptied, lost, lanesOf, gapBy, gap}
+use Rattle.rules.specs.Settings.{noLane, noSlot, channel, lane, expect, heldBy, readerOk}
+use Rattle.rules.specs.Reading.{missing, emptied, lost, lanesOf, gapBy, gap}
 use Rattle.rules.specs.Valid.{GoodReader}
 use Rattle.rules.proofs.Valid.{good-reader}
 use Rattle.rules.specs.Areas.{heldSize, partSize}
@@ -169,43 +168,20 @@ takes r c ok h =
       held = λ l k. omega (arith, g .held l k, g .setting .lanes l k .kind .most);
     }
 
-module _ (r : Reader) (c k m : ℕ) (e : m ≡ 256 ^ channel (r .setting) c .octets) where
-  abbrev next : Expects
-  next = expecting (r .expects) c (record { known = true; count = (k + 1) % m })
+module _ (r : Reader) (c : ℕ) where
+  pub gap-none : {n : ℕ} → n ≡ 0 → record { state = r; missing = 0; dropped = 0 } ≡ gapBy r c n
+  unfolding gapBy
+  gap-none e = rw e
 
-  abbrev gone : ℕ
-  gone = missing (channel (r .setting) c .octets) (expect r c) k
-
-  pub gap-none : gone ≡ 0
-      → record { state = record { setting = r .setting; expects = next; slots = r .slots }; missing = 0; dropped = 0 } ≡ gap r c k
-  unfolding gap gapBy expected
-  gap-none h = rw (h, e)
-
-  pub gap-some : (gone ≡ 0 → ⊥)
+  pub gap-some : (n : ℕ) → (n ≡ 0 → ⊥)
       → record {
-        state = record { setting = r .setting; expects = next; slots = emptied (its c) (lanesOf (r .setting)) (r .slots) };
-        missing = gone;
+        state = record { setting = r .setting; expects = r .expects; slots = emptied (its c) (lanesOf (r .setting)) (r .slots) };
+        missing = n;
         dropped = lost (its c) (lanesOf (r .setting)) (r .slots);
-      } ≡ gap r c k
-  unfolding gap expected
-  gap-some h = rw e (by-cases gone h)
-    where
-      state : Reader
-      state = record {
-        setting = r .setting;
-        expects = expecting (r .expects) c
-            (record { known = true; count = (k + 1) % 256 ^ channel (r .setting) c .octets });
-        slots = r .slots;
-      }
-
-      by-cases : (n : ℕ) → (n ≡ 0 → ⊥)
-          → record {
-            state = record { setting = r .setting; expects = state .expects; slots = emptied (its c) (lanesOf (r .setting)) (r .slots) };
-            missing = n;
-            dropped = lost (its c) (lanesOf (r .setting)) (r .slots);
-          } ≡ gapBy state c n
-      by-cases zero q = absurd (q refl)
-      by-cases (suc n) q = unfold gapBy in refl
+      } ≡ gapBy r c n
+  unfolding gapBy
+  gap-some zero q = absurd (q refl)
+  gap-some (suc n) q = refl
 
 -- The channel of a lane.
 pub lane-channel : (r : Reader) (l : ℕ) → readerOk r ≡ true → l < r .setting .numbered → lane (r .setting) l .channel < r .setting .listed

@@ -5,8 +5,9 @@ ghost use Prim.Native.Nat.{ℕ, _+_, _^_, _≤_, _<_};
 ghost use lib.ListN.{getD};
 ghost use Rattle.rules.specs.Tests.{_=?_};
 ghost use Rattle.rules.specs.Settings.{noSlot, readerOk, channel};
-ghost use Rattle.rules.specs.Reading.{missing, emptied, lost, lanesOf, gap};
+ghost use Rattle.rules.specs.Reading.{missing, emptied, lost, lanesOf, gapBy, gap};
 use rules::Expect;
+use rules::Expects;
 use rules::Gap;
 use rules::Reader;
 use rules::Setting;
@@ -64,25 +65,11 @@ fn lost_of(s: Setting, c: usize, slots: [Slot; 8]) -> usize
     lost
 }
 
-// A frame of channel c with count k: what it expects next, what is missing, and what that drops.
-pub fn gap_of(r: Reader, c: usize, k: u64) -> Gap
-    requires { ⌜ (readerOk r ≡ true) × (c < r .setting .listed) × (k < 256 ^ channel (r .setting) c .octets) ⌝ }
-    ensures { λ g. ⌜ g ≡ gap r c k ⌝ }
+// What channel c drops where so many frames are missing, of a reader of setting s.
+fn gap_by(s: Setting, expects: Expects, slots: [Slot; 8], c: usize, missing: u64) -> Gap
+    requires { ⌜ (s .numbered ≤ 8) × ((l : ℕ) → l < s .numbered → (getD slots l noSlot) .held ≤ 8192) ⌝ }
+    ensures { λ g. ⌜ g ≡ gapBy (record { setting = s; expects = expects; slots = slots }) c missing ⌝ }
 {
-    let s = r.setting;
-    let expects = r.expects;
-    let slots = r.slots;
-    let channels = s.channels;
-    let ch = channels[c];
-    let n = ch.octets as usize;
-    let e = setting::expect_of(expects, c);
-    let missing = missing_of(n, e, k);
-    let m = octets::modulus(n);
-    let next = Expect {
-        known: true,
-        count: (k + 1) % m,
-    };
-    let expects = setting::with_expect(expects, c, next);
     if missing == 0 {
         return Gap {
             state: Reader {
@@ -105,4 +92,26 @@ pub fn gap_of(r: Reader, c: usize, k: u64) -> Gap
         missing: missing,
         dropped: dropped,
     }
+}
+
+// A frame of channel c with count k: what it expects next, what is missing, and what that drops.
+pub fn gap_of(r: Reader, c: usize, k: u64) -> Gap
+    requires { ⌜ (readerOk r ≡ true) × (c < r .setting .listed) × (k < 256 ^ channel (r .setting) c .octets) ⌝ }
+    ensures { λ g. ⌜ g ≡ gap r c k ⌝ }
+{
+    let s = r.setting;
+    let expects = r.expects;
+    let slots = r.slots;
+    let channels = s.channels;
+    let ch = channels[c];
+    let n = ch.octets as usize;
+    let e = setting::expect_of(expects, c);
+    let missing = missing_of(n, e, k);
+    let m = octets::modulus(n);
+    let next = Expect {
+        known: true,
+        count: (k + 1) % m,
+    };
+    let expects = setting::with_expect(expects, c, next);
+    gap_by(s, expects, slots, c, missing)
 }

@@ -1,71 +1,171 @@
--- A lane's step by its parts: each part is ready once the whole is, and what they leave together is what the whole leaves.
-use mathlib.Core.Path.{_≡_, ap, _∙_}
+-- A lane's step by its parts: how it begins, that each part is ready once the whole is, and that what they leave together is what the whole leaves.
+use mathlib.Core.Path.{_≡_, refl, sym, ap, subst, _∙_}
 use mathlib.Core.Bool.{Bool, true, false}
 use mathlib.Core.List.{List, [], _++_}
 use Prim.Native.Nat.{ℕ, _≤_}
-use native.Mathlib.Nat.{zero-add}
+use native.Mathlib.Nat.{zero-add, le-refl}
 use native.Mathlib.Omega.{arith}
-use lib.ListN.{length, take}
-use lib.Seq.{length-take-le}
+use lib.ListN.{length, take, drop}
+use lib.Seq.{length-take-le, take-all, take-take}
 use Rattle.rules.specs.declared.Place.{Place}
-use Rattle.rules.specs.declared.Measure.{Measure}
+use Rattle.rules.specs.declared.Place.the-variants.{At, Nowhere}
 use Rattle.rules.specs.declared.Fate.{Fate}
 use Rattle.rules.specs.declared.Info.{Info}
 use Rattle.rules.specs.Areas.{laid}
 use Rattle.rules.specs.Packets.{measure}
-use Rattle.rules.specs.Reading.{unitFrom, Made, drops, both, become, leadFate, lead, unitFate, followFate, portion, laneStep}
+use Rattle.rules.specs.Reading.{unitFrom, Made, fills, both, become, leadFate, lead, walk, packetLane, unitFate, followFate, portion, accessLane, laneStep}
 use Rattle.rules.proofs.Areas.{laid-nil}
-use Rattle.rules.proofs.Lanes.{total, lane-total, lane-below, lane-few}
-use Rattle.units.specs.declared.Tally.{Tally}
-use Rattle.units.specs.declared.Stand.{Stand}
-use Rattle.units.specs.declared.Terms.{Terms}
-use Rattle.units.specs.Hands.{Handed, Ready, Went}
-use Rattle.lanes.specs.Steps.{Lent, Stepped}
-use Rattle.units.proofs.Laws.{room-first, room-second, went-after, held-length}
+use Rattle.rules.proofs.Lanes.{total, lead-held, lane-total, lane-below, lane-few}
+use Rattle.lanes.specs.declared.units.Tally.{Tally}
+use Rattle.lanes.specs.declared.units.Stand.{Stand}
+use Rattle.lanes.specs.declared.units.Terms.{Terms}
+use Rattle.lanes.specs.Hands.{Room, Handed, Ready, Went}
+use Rattle.lanes.specs.declared.Opening.{Opening}
+use Rattle.lanes.specs.Steps.{Lent, portionOpening, counted, opened, Goes, Opens, Stepped}
+use Rattle.lanes.proofs.Hands.{made-same, both-nothing, room-first, room-second, went-after, only-counted}
+
+-- ---- how it begins
+
+whole : (xs : List ℕ) → take (length xs) xs ≡ xs
+whole xs = take-all (length xs) xs (le-refl _)
+
+module _ (longest : ℕ) (held z : List ℕ) where
+  -- By a lead.
+  pub lead-at : {p : ℕ} {f : Fate} → p ≤ length z → f ≡ leadFate longest false (measure (held ++ take p z)) (length held) (length (take p z))
+      → Opens longest (packetLane longest held (At p) z) (record { held = length held; size = p; fill = 0; dropped = 0; fate = f; stops = false }) held z
+  unfolding packetLane lead
+  lead-at {p} {f} h e =
+      let led : lead longest false held (take p z) ≡ become f (unitFrom (take (length held) held) (take p z)) = rw (whole held, e) in
+      record {
+        few = le-refl _;
+        inside = h;
+        rest = packetLane longest held (At p) z;
+        split = both-nothing _;
+        goes = (
+          ap (λ (m : Made). m .held) (sym led) ∙ lead-held longest held (take p z),
+          ap (λ (m : Made). both m (walk longest (drop p z))) led,
+        );
+      }
+
+  pub lead-nowhere : {f : Fate} → f ≡ leadFate longest true (measure (held ++ z)) (length held) (length z)
+      → Opens longest (packetLane longest held Nowhere z) (record { held = length held; size = length z; fill = 0; dropped = 0; fate = f; stops = true }) held z
+  unfolding packetLane lead
+  lead-nowhere e =
+      record {
+        few = le-refl _;
+        inside = le-refl _;
+        rest = packetLane longest held Nowhere z;
+        split = both-nothing _;
+        goes = rw (whole held, whole z, e);
+      }
+
+  -- Of an access unit's octets, with the fill after its last.
+  pub portion-opens : (finished begins : Bool) {n : ℕ} (fill : ℕ) → n ≤ length z
+      → Opens longest (both (fills fill) (portion longest finished begins held (take n z))) (portionOpening longest finished begins (length held) n fill) held z
+  unfolding portion portionOpening both
+  portion-opens finished true {n} fill h =
+      let e = length-take-le n z h in
+      record {
+        few = omega arith;
+        inside = h;
+        rest = become (unitFate longest finished (length (take n z))) (unitFrom [] (take n z));
+        split = made-same refl (omega arith) (omega arith) (omega arith);
+        goes = rw e;
+      }
+  portion-opens finished false {n} fill h =
+      let e = length-take-le n z h in
+      record {
+        few = le-refl _;
+        inside = h;
+        rest = become (followFate longest finished (length held) (length (take n z))) (unitFrom held (take n z));
+        split = refl;
+        goes = rw (e, whole held);
+      }
+
+  pub portion-nowhere : (begins : Bool)
+      → Opens longest (accessLane longest begins held Nowhere z) (portionOpening longest false begins (length held) (length z) 0) held z
+  unfolding accessLane
+  portion-nowhere begins = rw (← both-nothing (portion longest false begins held z)) at (rw (whole z) at (portion-opens false begins 0 (le-refl _)))
 
 -- ---- two parts
 
 module _ {s : Stand} {u r d z : List ℕ} (a b : Made) (ready : Ready s u r d z (both a b)) where
-  pub ready-first : (z′ : List ℕ) → a .held ≡ [] → length z′ ≤ length z → Ready s u r d z′ a
+  ready-first : (z′ : List ℕ) → a .held ≡ [] → length z′ ≤ length z → Ready s u r d z′ a
   ready-first z′ none less =
       let n : length (a .held) ≡ 0 = ap length none in
       record { room = room-first a b (ready .room); held = omega arith; inside = ready .inside; few = omega arith }
 
-  pub ready-second : {i : Info} {s₁ : Stand} {u₁ r₁ : List ℕ} (z′ : List ℕ) → s₁ .held ≤ length d → length z′ ≤ length z
+  ready-second : {i : Info} {s₁ : Stand} {u₁ r₁ : List ℕ} (z′ : List ℕ) → s₁ .held ≤ length d → length z′ ≤ length z
       → Handed i (s .tally) u r a (s₁ .tally) u₁ r₁ → Ready s₁ u₁ r₁ d z′ b
   unfolding both
   ready-second z′ inside less first =
       record { room = room-second a b (ready .room) first; held = ready .held; inside = inside; few = omega arith }
 
   -- The first leaves nothing held.
-  pub went-both : {i : Info} {s₁ s₂ : Stand} {u₁ r₁ d₁ u₂ r₂ d₂ : List ℕ} → a .held ≡ [] → Went i (s .tally) u r d a s₁ u₁ r₁ d₁
+  went-both : {i : Info} {s₁ s₂ : Stand} {u₁ r₁ d₁ u₂ r₂ d₂ : List ℕ} → a .held ≡ [] → Went i (s .tally) u r d a s₁ u₁ r₁ d₁
       → Went i (s₁ .tally) u₁ r₁ d₁ b s₂ u₂ r₂ d₂ → Went i (s .tally) u r d (both a b) s₂ u₂ r₂ d₂
   went-both none first second =
       let stays = first .part ∙ ap (laid d 0) none ∙ laid-nil d 0 in
       went-after a b (ready .room) (first .handed) (rw stays at second)
 
--- ---- held octets and lead
+-- ---- the opening, and what follows it
 
-module _ {s : Stand} {u r d x : List ℕ} {m : Made} (ready : Ready s u r d x m) (longest : ℕ) {fate : Fate} where
-  pub lead-is : (on : Bool) {k : Measure} → k ≡ measure (take (s .held) d ++ x) → fate ≡ leadFate longest on k (s .held) (length x)
-      → lead longest on (take (s .held) d) x ≡ become fate (unitFrom (take (s .held) d) x)
-  unfolding lead
-  lead-is on e f = rw (f, e, held-length ready)
+abbrev empty : Tally
+empty = record { count = 0; octets = 0; idle = 0; fill = 0; dropped = 0 }
 
-  pub begin-is : (finished : Bool) {begins : Bool} → begins ≡ true → fate ≡ unitFate longest finished (length x)
-      → portion longest finished begins (take (s .held) d) x ≡ both (drops (s .held)) (become fate (unitFrom [] x))
-  unfolding portion
-  begin-is finished e f = rw (e, held-length ready, f)
+-- How the lane stands once what is only counted is.
+abbrev pub stand : Opening → Stand
+stand o = record { tally = record { count = 0; octets = 0; idle = 0; fill = o .fill; dropped = o .dropped }; held = o .held }
 
-  pub follow-is : (finished : Bool) {begins : Bool} → begins ≡ false → fate ≡ followFate longest finished (s .held) (length x)
-      → portion longest finished begins (take (s .held) d) x ≡ become fate (unitFrom (take (s .held) d) x)
-  unfolding portion
-  follow-is finished e f = rw (e, held-length ready, f)
+module _ (i : Info) {longest h : ℕ} {m : Made} {o : Opening} {z d u r : List ℕ} (ready : Ready (record { tally = empty; held = h }) u r d z m)
+    (opens : Opens longest m o (take h d) z) where
+  counted-first : Handed i empty u r (counted o) (stand o .tally) u r
+  counted-first = only-counted refl refl refl refl (sym (zero-add _)) (sym (zero-add _))
+
+  held-few : length (take h d) ≡ h
+  held-few = length-take-le h d (ready .inside)
+
+  few-held : o .held ≤ h
+  few-held = omega (arith, held-few, opens .few)
+
+  goes-on : {b : Bool} → o .stops ≡ b → Goes b (opens .rest) (opened o d z) (walk longest (drop (o .size) z))
+  goes-on e =
+      subst (λ (b : Bool). Goes b (opens .rest) (opened o d z) (walk longest (drop (o .size) z))) e (rw (take-take (o .held) h d few-held) at (opens .goes))
+
+  ready-whole : Ready (record { tally = empty; held = h }) u r d z (both (counted o) (opens .rest))
+  ready-whole = rw (opens .split) at ready
+
+  ready-rest : Ready (stand o) u r d (take (o .size) z) (opens .rest)
+  ready-rest =
+      let n = length-take-le (o .size) z (opens .inside) in
+      let inside : o .held ≤ length d = omega (arith, few-held, ready .inside) in
+      ready-second (counted o) (opens .rest) ready-whole (take (o .size) z) inside (omega (arith, opens .inside)) counted-first
+
+  pub opens-ready : Ready (stand o) u r d (take (o .size) z) (opened o d z)
+  opens-ready = go (o .stops) (goes-on refl)
+    where
+      go : (b : Bool) → Goes b (opens .rest) (opened o d z) (walk longest (drop (o .size) z)) → Ready (stand o) u r d (take (o .size) z) (opened o d z)
+      go true e = rw e at ready-rest
+      go false e = ready-first (opened o d z) (walk longest (drop (o .size) z)) (rw (e .1) at ready-rest) (take (o .size) z) (e .0) (le-refl _)
+
+  module _ {s₁ : Stand} {u₁ r₁ d₁ : List ℕ} (led : Went i (stand o .tally) u r d (opened o d z) s₁ u₁ r₁ d₁) where
+    pub stops-went : o .stops ≡ true → Went i empty u r d m s₁ u₁ r₁ d₁
+    stops-went e = rw (opens .split) (went-after (counted o) (opens .rest) (ready-whole .room) counted-first (rw (goes-on e) led))
+
+    module _ (e : o .stops ≡ false) where
+      ready-both : Ready (stand o) u r d (take (o .size) z) (both (opened o d z) (walk longest (drop (o .size) z)))
+      ready-both = rw (goes-on e .1) at ready-rest
+
+      pub walks-room : Room (s₁ .tally) u₁ r₁ (walk longest (drop (o .size) z))
+      walks-room = room-second (opened o d z) (walk longest (drop (o .size) z)) (ready-both .room) (led .handed)
+
+      pub walks-went : {s₂ : Stand} {u₂ r₂ d₂ : List ℕ} → Went i (s₁ .tally) u₁ r₁ d₁ (walk longest (drop (o .size) z)) s₂ u₂ r₂ d₂
+          → Went i empty u r d m s₂ u₂ r₂ d₂
+      walks-went walked =
+          let both-went = went-both (opened o d z) (walk longest (drop (o .size) z)) ready-both (goes-on e .0) led walked in
+          rw (opens .split) (went-after (counted o) (opens .rest) (ready-whole .room) counted-first (rw (goes-on e .1) both-went))
 
 -- ---- the whole
-
-abbrev pub empty : Tally
-empty = record { count = 0; octets = 0; idle = 0; fill = 0; dropped = 0 }
 
 -- What is lent has room for all that a lane makes: every octet goes somewhere, units are few, and less is held than the longest.
 pub lent-ready : {terms : Terms} {h : ℕ} {p : Place} {z d u r : List ℕ} (rule : ℕ) → Lent terms h p z d u r

@@ -1,15 +1,17 @@
--- What a lane's step is lent, and what it leaves in the areas: the rule's own result, laid out.
+-- What a lane's step is lent, how it begins, and what it leaves in the areas: the rule's own result, laid out.
 use mathlib.Core.Path.{_≡_}
-use mathlib.Core.List.{List}
+use mathlib.Core.Bool.{Bool, true, false}
+use mathlib.Core.List.{List, []}
 use Prim.Native.Nat.{ℕ, _≤_, _<_}
-use lib.ListN.{length}
+use lib.ListN.{length, take, drop}
 use Rattle.rules.specs.declared.Place.{Place}
 use Rattle.rules.specs.declared.Info.{Info}
 use Rattle.rules.specs.Areas.{laid, joined, partSize, recordsSize, unitsSize}
-use Rattle.rules.specs.Reading.{octetsOf, Made, recordsFrom}
+use Rattle.rules.specs.Reading.{unitFrom, octetsOf, Made, both, become, walk, unitFate, followFate, recordsFrom}
 use Rattle.rules.specs.Valid.{least, Inside}
-use Rattle.units.specs.declared.Stand.{Stand}
-use Rattle.units.specs.declared.Terms.{Terms}
+use Rattle.lanes.specs.declared.units.Stand.{Stand}
+use Rattle.lanes.specs.declared.units.Terms.{Terms}
+use Rattle.lanes.specs.declared.Opening.{Opening}
 
 -- What it is lent: areas of the paper's sizes, and a zone and held octets as a valid state and a frame that is Read have them.
 pub record Lent (terms : Terms) (h : ℕ) (p : Place) (z d u r : List ℕ) : Type 0 where
@@ -21,6 +23,38 @@ pub record Lent (terms : Terms) (h : ℕ) (p : Place) (z d u r : List ℕ) : Typ
   pub enough : least (terms .kind) ≤ terms .longest
   pub zone : length z ≤ 4086
   pub inside : Inside (length z) p
+
+-- ---- how it begins
+
+-- By n octets of an access unit, which begin it or follow h held ones, and then so much fill.
+unfoldable pub portionOpening : ℕ → Bool → Bool → ℕ → ℕ → ℕ → Opening
+portionOpening longest finished true h n fill =
+    record { held = 0; size = n; fill = fill; dropped = h; fate = unitFate longest finished n; stops = true }
+portionOpening longest finished false h n fill =
+    record { held = h; size = n; fill = fill; dropped = 0; fate = followFate longest finished h n; stops = true }
+
+-- What an opening counts.
+abbrev pub counted : Opening → Made
+counted o = record { units = []; held = []; idle = 0; fill = o .fill; dropped = o .dropped }
+
+-- What it makes of held octets and a zone.
+abbrev pub opened : Opening → List ℕ → List ℕ → Made
+opened o held z = become (o .fate) (unitFrom (take (o .held) held) (take (o .size) z))
+
+-- Where the step stops with it, that is all; else it leaves nothing held, and packets are read after it.
+abbrev pub Goes : Bool → Made → Made → Made → Type 0
+Goes true m a b = m ≡ a
+Goes false m a b = (a .held ≡ []) × (m ≡ both a b)
+
+-- The step that makes m of them begins with it.
+pub record Opens (longest : ℕ) (m : Made) (o : Opening) (held z : List ℕ) : Type 0 where
+  pub few : o .held ≤ length held
+  pub inside : o .size ≤ length z
+  pub rest : Made
+  pub split : m ≡ both (counted o) rest
+  pub goes : Goes (o .stops) rest (opened o held z) (walk longest (drop (o .size) z))
+
+-- ---- what it leaves
 
 -- What was made is laid out as a read's areas have it, and counted.
 pub record Stepped (i : Info) (m : Made) (d u r : List ℕ) (s : Stand) (d′ u′ r′ : List ℕ) : Type 0 where

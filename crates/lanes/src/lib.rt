@@ -1,14 +1,19 @@
 // What a lane makes of a zone and of the octets it holds, laid into lent areas.
 ghost use mathlib.Core.Path.{_≡_};
-ghost use mathlib.Core.List.{_++_};
-ghost use Prim.Native.Nat.{_+_, _≤_};
+ghost use mathlib.Core.List.{List, _++_};
+ghost use Prim.Native.Nat.{ℕ, _+_, _≤_};
 ghost use lib.ListN.{length, getD, take};
 ghost use Rattle.rules.specs.Packets.{measure};
-ghost use Rattle.rules.specs.Reading.{lead, packetLane, portion, accessLane, laneStep};
+ghost use Rattle.rules.specs.Reading.{leadFate, packetLane, accessLane, laneStep};
 ghost use Rattle.rules.specs.Valid.{Inside};
-ghost use Rattle.units.specs.Hands.{Ready, Went};
-ghost use Rattle.lanes.specs.Steps.{Lent, Stepped};
+ghost use Rattle.lanes.specs.Steps.{Lent, portionOpening, Opens, Stepped};
 ghost use Rattle.rules.specs.Areas.{unitsSize};
+
+mod fates;
+pub mod units;
+mod walks;
+
+use rules::Fate;
 use rules::Kind;
 use rules::Measure;
 use rules::Place;
@@ -42,114 +47,114 @@ fn measure_of(first: &[u8], second: &[u8]) -> Measure
     packets::measured_of(first.len() + second.len(), a, b, d, e)
 }
 
-// The lead after the held octets: the packet must end with it, or may go on.
-fn lead_step(
-    terms: Terms,
-    s: Stand,
-    on: bool,
-    part: &mut [u8],
-    next: &[u8],
-    units: &mut [u8],
-    records: &mut [u8],
-) -> Stand
-    requires { ⌜ Ready s (now units) (now records) (now part) (now next) (lead (terms .longest) on (take (s .held) (now part)) (now next)) ⌝ }
-    ensures { λ r. ⌜ Went (terms .info) (s .tally) (now (units .entry)) (now (records .entry)) (now (part .entry)) (lead (terms .longest) on (take (s .held) (now (part .entry))) (now (next .entry))) r (now (units .exit)) (now (records .exit)) (now (part .exit)) ⌝ }
-{
-    let info = terms.info;
-    let h = s.held;
-    let m = measure_of(&part[..h], next);
-    let fate = fates::lead_fate(terms.longest, on, m, h, next.len());
-    units::settle(info, s, fate, part, next, units, records)
+// How a lane begins its step: some octets are only counted, as fill or as dropped; then `held` of those it holds and `size` of the zone become
+// what `fate` says. There the step `stops`, or else packets are read from there on.
+struct Opening {
+    held: usize,
+    size: usize,
+    fill: usize,
+    dropped: usize,
+    fate: Fate,
+    stops: bool,
 }
 
-// A packet lane's step: the lead, and the packets from the pointer on.
-fn packet_step(
-    terms: Terms,
-    s: Stand,
-    place: Place,
-    zone: &[u8],
-    part: &mut [u8],
-    units: &mut [u8],
-    records: &mut [u8],
-) -> Stand
-    requires { ⌜ Inside (length (now zone)) place × (length (now zone) ≤ length (now part)) × Ready s (now units) (now records) (now part) (now zone) (packetLane (terms .longest) (take (s .held) (now part)) place (now zone)) ⌝ }
-    ensures { λ r. ⌜ Went (terms .info) (s .tally) (now (units .entry)) (now (records .entry)) (now (part .entry)) (packetLane (terms .longest) (take (s .held) (now (part .entry))) place (now (zone .entry))) r (now (units .exit)) (now (records .exit)) (now (part .exit)) ⌝ }
+// What becomes of a lead after the held octets: the packet must end with it, or may go `on`.
+fn lead_of(longest: usize, on: bool, held: &[u8], next: &[u8]) -> Fate
+    requires { ⌜ length (now held) + length (now next) ≤ unitsSize ⌝ }
+    ensures { λ r. ⌜ r ≡ leadFate longest on (measure (now (held .entry) ++ now (next .entry))) (length (now (held .entry))) (length (now (next .entry))) ⌝ }
+{
+    let m = measure_of(held, next);
+    fates::lead_fate(longest, on, m, held.len(), next.len())
+}
+
+// A packet lane's opening: the lead, which is the octets before the pointer, or all of the zone.
+fn packet_opening(longest: usize, place: Place, held: &[u8], zone: &[u8]) -> Opening
+    requires { ⌜ Inside (length (now zone)) place × (length (now held) + length (now zone) ≤ unitsSize) ⌝ }
+    ensures { λ r. ⌜ Opens longest (packetLane longest (now (held .entry)) place (now (zone .entry))) r (now (held .entry)) (now (zone .entry)) ⌝ }
 {
     match place {
         Place::At(p) => {
-            let led = lead_step(terms, s, false, part, &zone[..p], units, records);
-            let t = led.tally;
-            return walks::walk_step(terms, t, zone, p, part, units, records);
+            let fate = lead_of(longest, false, held, &zone[..p]);
+            Opening {
+                held: held.len(),
+                size: p,
+                fill: 0,
+                dropped: 0,
+                fate: fate,
+                stops: false,
+            }
         }
         Place::Nowhere => {
-            return lead_step(terms, s, true, part, zone, units, records);
+            let fate = lead_of(longest, true, held, zone);
+            Opening {
+                held: held.len(),
+                size: zone.len(),
+                fill: 0,
+                dropped: 0,
+                fate: fate,
+                stops: true,
+            }
         }
     }
 }
 
-// Octets of an access unit, which begin it or follow those held.
-fn portion_step(
-    terms: Terms,
-    s: Stand,
+// The opening by `size` octets of an access unit, which begin it or follow the h held ones, and `fill` after its last.
+fn portion_opening(
+    longest: usize,
     finished: bool,
     begins: bool,
-    part: &mut [u8],
-    next: &[u8],
-    units: &mut [u8],
-    records: &mut [u8],
-) -> Stand
-    requires { ⌜ Ready s (now units) (now records) (now part) (now next) (portion (terms .longest) finished begins (take (s .held) (now part)) (now next)) ⌝ }
-    ensures { λ r. ⌜ Went (terms .info) (s .tally) (now (units .entry)) (now (records .entry)) (now (part .entry)) (portion (terms .longest) finished begins (take (s .held) (now (part .entry))) (now (next .entry))) r (now (units .exit)) (now (records .exit)) (now (part .exit)) ⌝ }
+    h: usize,
+    size: usize,
+    fill: usize,
+) -> Opening
+    ensures { λ r. ⌜ r ≡ portionOpening longest finished begins h size fill ⌝ }
 {
-    let info = terms.info;
     if begins {
-        let mut t = s.tally;
-        t.dropped = t.dropped + s.held;
-        let empty = Stand { tally: t, held: 0 };
-        let fate = fates::unit_fate(terms.longest, finished, next.len());
-        return units::settle(info, empty, fate, part, next, units, records);
+        let fate = fates::unit_fate(longest, finished, size);
+        return Opening {
+            held: 0,
+            size: size,
+            fill: fill,
+            dropped: h,
+            fate: fate,
+            stops: true,
+        };
     }
-    let fate = fates::follow_fate(terms.longest, finished, s.held, next.len());
-    units::settle(info, s, fate, part, next, units, records)
+    let fate = fates::follow_fate(longest, finished, h, size);
+    Opening {
+        held: h,
+        size: size,
+        fill: fill,
+        dropped: 0,
+        fate: fate,
+        stops: true,
+    }
 }
 
-// An access lane's step: the unit's octets, and the fill after its last.
-fn access_step(
-    terms: Terms,
-    s: Stand,
-    place: Place,
-    begins: bool,
-    zone: &[u8],
-    part: &mut [u8],
-    units: &mut [u8],
-    records: &mut [u8],
-) -> Stand
-    requires { ⌜ Inside (length (now zone)) place × Ready s (now units) (now records) (now part) (now zone) (accessLane (terms .longest) begins (take (s .held) (now part)) place (now zone)) ⌝ }
-    ensures { λ r. ⌜ Went (terms .info) (s .tally) (now (units .entry)) (now (records .entry)) (now (part .entry)) (accessLane (terms .longest) begins (take (s .held) (now (part .entry))) place (now (zone .entry))) r (now (units .exit)) (now (records .exit)) (now (part .exit)) ⌝ }
+// An access lane's opening, of h held octets and a zone of n: the unit's octets go up to its last, or are all of the zone.
+fn access_opening(longest: usize, place: Place, begins: bool, h: usize, n: usize) -> Opening
+    requires { ⌜ Inside n place ⌝ }
+    ensures { λ r. ⌜ ((held zone : List ℕ) → length held ≡ h → length zone ≡ n → Opens longest (accessLane longest begins held place zone) r held zone) ⌝ }
 {
     match place {
         Place::At(p) => {
             let e = p + 1;
-            let mut t = s.tally;
-            t.fill = t.fill + (zone.len() - e);
-            let filled = Stand {
-                tally: t,
-                held: s.held,
-            };
-            return portion_step(
-                terms,
-                filled,
-                true,
-                begins,
-                part,
-                &zone[..e],
-                units,
-                records,
-            );
+            portion_opening(longest, true, begins, h, e, n - e)
         }
-        Place::Nowhere => {
-            return portion_step(terms, s, false, begins, part, zone, units, records);
-        }
+        Place::Nowhere => portion_opening(longest, false, begins, h, n, 0),
+    }
+}
+
+// A lane's opening, by its kind.
+fn opening_of(terms: Terms, place: Place, rule: u8, held: &[u8], zone: &[u8]) -> Opening
+    requires { ⌜ Inside (length (now zone)) place × (length (now held) + length (now zone) ≤ unitsSize) ⌝ }
+    ensures { λ r. ⌜ Opens (terms .longest) (laneStep (terms .kind) (terms .longest) rule (now (held .entry)) place (now (zone .entry))) r (now (held .entry)) (now (zone .entry)) ⌝ }
+{
+    let kind = terms.kind;
+    let longest = terms.longest;
+    match kind {
+        Kind::Packets => packet_opening(longest, place, held, zone),
+        Kind::Access => access_opening(longest, place, rule == 0b001, held.len(), zone.len()),
     }
 }
 
@@ -167,17 +172,25 @@ pub fn lane_step(
     requires { ⌜ Lent terms h place (now zone) (now part) (now units) (now records) ⌝ }
     ensures { λ r. ⌜ Stepped (terms .info) (laneStep (terms .kind) (terms .longest) rule (take h (now (part .entry))) place (now (zone .entry))) (now (part .entry)) (now (units .entry)) (now (records .entry)) r (now (part .exit)) (now (units .exit)) (now (records .exit)) ⌝ }
 {
+    let o = opening_of(terms, place, rule, &part[..h], zone);
     let t = Tally {
         count: 0,
         octets: 0,
         idle: 0,
-        fill: 0,
-        dropped: 0,
+        fill: o.fill,
+        dropped: o.dropped,
     };
-    let s = Stand { tally: t, held: h };
-    let kind = terms.kind;
-    match kind {
-        Kind::Packets => packet_step(terms, s, place, zone, part, units, records),
-        Kind::Access => { access_step(terms, s, place, rule == 0b001, zone, part, units, records) }
+    let s = Stand {
+        tally: t,
+        held: o.held,
+    };
+    let info = terms.info;
+    let fate = o.fate;
+    let e = o.size;
+    let led = units::settle(info, s, fate, part, &zone[..e], units, records);
+    if o.stops {
+        return led;
     }
+    let t = led.tally;
+    walks::walk_step(terms, t, zone, e, part, units, records)
 }

@@ -1,1 +1,4 @@
 pub mod Laws
+pub mod Turns
+pub mod Patterns
+pub mod Lines

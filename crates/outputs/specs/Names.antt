@@ -1,13 +1,15 @@
 -- The files that unpack writes: which, and what they are called.
-use Prim.Native.Nat.{ℕ, suc, _-_}
+use Prim.Native.Nat.{ℕ, suc, _-_, _≤_}
+use mathlib.Core.Path.{_≡_}
 use mathlib.Core.Bool.{Bool, true, false, cond}
 use mathlib.Core.List.{List, [], _∷_, _++_}
-use lib.ListN.{set, replicate}
+use lib.ListN.{length, take, set, replicate}
 use Rattle.rules.specs.Tests.{_<?_, _=?_}
 use Rattle.rules.specs.Listing.{text, decimal}
 use Rattle.files.specs.declared.Known.{Known}
 use Rattle.files.specs.Known.{sameFile, isRegular}
 use Rattle.outputs.specs.declared.Plan.{Plan}
+use Rattle.outputs.specs.declared.Name.{Name}
 use Rattle.outputs.specs.declared.Moved.{Moved}
 use Rattle.outputs.specs.declared.Moved.the-variants.{Done, Nothing, Failed}
 use Rattle.outputs.specs.declared.Stage.{Stage}
@@ -26,6 +28,17 @@ ending i = cond (i <? 8) (text ".lane" ++ decimal i) (cond (i =? 8) (text ".unit
 -- What follows that in the name of an unfinished file, and of an earlier one that is put aside.
 unfoldable pub mark : Bool → ℕ → List ℕ
 mark old number = text "." ++ decimal number ++ cond old (text ".old") (text ".part")
+
+-- The name of output i. Of a prefix 4,096 octets at most: no word of a command line has more, and the system takes no name that has so many.
+unfoldable pub finished : List ℕ → ℕ → List ℕ
+finished prefix i = take 4096 prefix ++ ending i
+
+-- A name that is made: that of output i, and the mark behind it.
+pub record Named (prefix : List ℕ) (i : ℕ) (m : List ℕ) (w : Name) : Type 0 where
+  pub short : take (w .at) (w .octets) ≡ finished prefix i
+  pub long : take (w .end) (w .octets) ≡ finished prefix i ++ m
+  pub order : w .at ≤ w .end
+  pub room : w .end ≤ length (w .octets)
 
 -- Of a regular file: what is printed or said may stand in it.
 unfoldable pub plainFit : Known → Known → Known → Fit

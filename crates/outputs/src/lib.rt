@@ -3,11 +3,10 @@
 // place that does so. Outputs have numbers: 0 to 7 are the lanes', 8 is the table of units, 9 the records. Which of them there are, what each
 // is called, and in which order they are taken is promised; what the system then does with a name is shown by runs.
 ghost use mathlib.Core.Path.{_≡_};
-ghost use mathlib.Core.List.{_++_};
 ghost use Prim.Native.Nat.{_+_, _≤_, _<_};
-ghost use lib.ListN.{length, drop};
+ghost use lib.ListN.{length, take, drop};
 ghost use Rattle.unpack_text.specs.Lines.{Wrote};
-ghost use Rattle.outputs.specs.Names.{hasOutput, ending, mark, plainFit, fitOf, asideTurn, noStage, putAside, gave, lastSlash};
+ghost use Rattle.outputs.specs.Names.{hasOutput, ending, mark, Named, plainFit, fitOf, asideTurn, noStage, putAside, gave, lastSlash};
 use files::Known;
 
 // How many lanes a run has, whether it writes a table of units, and the number that its unfinished files have in their names.
@@ -76,13 +75,37 @@ fn put_mark(name: &mut [u8], n: usize, number: u64, old: bool) -> usize
     listing_text::put_text(name, at, b".part")
 }
 
-// Puts what follows the prefix in the name of output i's unfinished file, or of the earlier one that is put aside.
-fn put_marked(name: &mut [u8], n: usize, number: u64, i: usize, old: bool) -> usize
-    requires { ⌜ n + 51 ≤ length (now name) ⌝ }
-    ensures { λ r. ⌜ Wrote 51 (ending i ++ mark old number) (now (name .entry)) n (now (name .exit)) r ⌝ }
+// Puts a prefix to the front of an area, 4,096 octets at most: no word of a command line has more, and the system takes no name that has so many.
+fn put_prefix(name: &mut [u8], prefix: &[u8]) -> usize
+    requires { ⌜ 4096 ≤ length (now name) ⌝ }
+    ensures { λ r. ⌜ Wrote 4096 (take 4096 (now (prefix .entry))) (now (name .entry)) 0 (now (name .exit)) r ⌝ }
 {
-    let at = put_ending(name, n, i);
-    put_mark(name, at, number, old)
+    if 4096 < prefix.len() {
+        return listing_text::put_text(name, 0, &prefix[..4096]);
+    }
+    listing_text::put_text(name, 0, prefix)
+}
+
+// A name: its octets, how many of them are the finished name, and how many are that with the mark behind it.
+struct Name {
+    octets: [u8; 4147],
+    at: usize,
+    end: usize,
+}
+
+// Makes the name of output i's unfinished file, or of the earlier one that is put aside. The finished name is its front.
+fn name_of(prefix: &[u8], number: u64, i: usize, old: bool) -> Name
+    ensures { λ r. ⌜ Named (now (prefix .entry)) i (mark old number) r ⌝ }
+{
+    let mut octets = [0u8; 4147];
+    let n = put_prefix(&mut octets, prefix);
+    let at = put_ending(&mut octets, n, i);
+    let end = put_mark(&mut octets, at, number, old);
+    Name {
+        octets: octets,
+        at: at,
+        end: end,
+    }
 }
 
 // Says that the last call of the system failed on this name.
@@ -91,10 +114,10 @@ fn say_failed(name: &[u8]) {
 }
 
 // Says that it failed on output i's unfinished file.
-pub fn say_part(p: Plan, name: &mut [u8], n: usize, i: usize)
-    requires { ⌜ n + 51 ≤ length (now name) ⌝ }
-{
-    let end = put_marked(name, n, p.number, i, false);
+pub fn say_part(p: Plan, prefix: &[u8], i: usize) {
+    let w = name_of(prefix, p.number, i, false);
+    let name = w.octets;
+    let end = w.end;
     say_failed(&name[..end]);
 }
 
@@ -167,24 +190,22 @@ fn is_free(name: &[u8], f: Kept) -> bool {
 }
 
 // Whether output i, if there is one, may take its name.
-fn may_take(p: Plan, name: &mut [u8], n: usize, i: usize, f: Kept) -> bool
-    requires { ⌜ n + 51 ≤ length (now name) ⌝ }
-{
+fn may_take(p: Plan, prefix: &[u8], i: usize, f: Kept) -> bool {
     let wanted = has(p, i);
     if !wanted {
         return true;
     }
-    let end = put_ending(name, n, i);
-    is_free(&name[..end], f)
+    let w = name_of(prefix, p.number, i, false);
+    let name = w.octets;
+    let at = w.at;
+    is_free(&name[..at], f)
 }
 
 // Whether each output may take its name: none leads to a file that nothing may replace, by link or by name, and what is there is a regular file.
-pub fn may_take_all(p: Plan, name: &mut [u8], n: usize, f: Kept) -> bool
-    requires { ⌜ n + 51 ≤ length (now name) ⌝ }
-{
+pub fn may_take_all(p: Plan, prefix: &[u8], f: Kept) -> bool {
     let mut i: usize = 0;
     while i < 10 {
-        let good = may_take(p, name, n, i, f);
+        let good = may_take(p, prefix, i, f);
         if !good {
             return false;
         }
@@ -195,44 +216,51 @@ pub fn may_take_all(p: Plan, name: &mut [u8], n: usize, f: Kept) -> bool
 
 // ---- making and keeping
 
-// Makes the unfinished file of output i. A name that is taken is refused: nothing is opened over.
-fn make_new(p: Plan, name: &mut [u8], n: usize, i: usize) -> i32
-    requires { ⌜ n + 51 ≤ length (now name) ⌝ }
-{
-    let end = put_marked(name, n, p.number, i, false);
-    let fd = os::create(&name[..end]);
+// Makes a file of this name. A name that is taken is refused: nothing is opened over.
+fn make_new(name: &[u8]) -> i32 {
+    let fd = os::create(name);
     if fd < 0 {
-        say_failed(&name[..end]);
+        say_failed(name);
     }
     fd
 }
 
-// The same, if there is such an output; its descriptor goes among the others.
-fn make(p: Plan, name: &mut [u8], n: usize, i: usize, fds: &mut [i32]) -> bool
-    requires { ⌜ (n + 51 ≤ length (now name)) × (i < length (now fds)) × (length (now fds) ≡ 10) ⌝ }
-{
-    let wanted = has(p, i);
-    if !wanted {
-        return true;
-    }
-    let fd = make_new(p, name, n, i);
-    fds[i] = fd;
-    0 <= fd
+// Makes the unfinished file of output i.
+fn make(p: Plan, prefix: &[u8], i: usize) -> i32 {
+    let w = name_of(prefix, p.number, i, false);
+    let name = w.octets;
+    let end = w.end;
+    make_new(&name[..end])
 }
 
-// Makes each unfinished file. The descriptors were all -1, and those of the files that were made are not.
-pub fn make_all(p: Plan, name: &mut [u8], n: usize, fds: &mut [i32]) -> bool
-    requires { ⌜ (n + 51 ≤ length (now name)) × (length (now fds) ≡ 10) ⌝ }
-{
+// The descriptors of unfinished files, -1 where none was made, and whether all that are wanted were.
+pub struct Made {
+    pub fds: [i32; 10],
+    pub good: bool,
+}
+
+// Makes each unfinished file, up to the first failure.
+pub fn make_all(p: Plan, prefix: &[u8]) -> Made {
+    let mut fds = [-1i32; 10];
     let mut i: usize = 0;
     while i < 10 {
-        let good = make(p, name, n, i, fds);
-        if !good {
-            return false;
+        let wanted = has(p, i);
+        if wanted {
+            let fd = make(p, prefix, i);
+            fds[i] = fd;
+            if fd < 0 {
+                return Made {
+                    fds: fds,
+                    good: false,
+                };
+            }
         }
         i += 1;
     }
-    true
+    Made {
+        fds: fds,
+        good: true,
+    }
 }
 
 // Puts an output on its device and closes it.
@@ -246,9 +274,7 @@ fn keep(fd: i32) -> bool {
 }
 
 // Puts each output on its device and closes it.
-pub fn keep_all(p: Plan, fds: [i32; 10], name: &mut [u8], n: usize) -> bool
-    requires { ⌜ n + 51 ≤ length (now name) ⌝ }
-{
+pub fn keep_all(p: Plan, fds: [i32; 10], prefix: &[u8]) -> bool {
     let mut i: usize = 0;
     while i < 10 {
         let wanted = has(p, i);
@@ -256,7 +282,7 @@ pub fn keep_all(p: Plan, fds: [i32; 10], name: &mut [u8], n: usize) -> bool
             let fd = fds[i];
             let kept = keep(fd);
             if !kept {
-                say_part(p, name, n, i);
+                say_part(p, prefix, i);
                 return false;
             }
         }
@@ -309,20 +335,20 @@ fn move_on(number: u64, old: bool, long: &[u8], at: usize) -> bool
 }
 
 // What has the name of output i leaves it: for the name of one put aside, or of an unfinished one.
-fn leave_name(p: Plan, name: &mut [u8], n: usize, i: usize, old: bool) -> Moved
-    requires { ⌜ n + 51 ≤ length (now name) ⌝ }
-{
-    let at = put_ending(name, n, i);
-    let end = put_mark(name, at, p.number, old);
+fn leave_name(p: Plan, prefix: &[u8], i: usize, old: bool) -> Moved {
+    let w = name_of(prefix, p.number, i, old);
+    let name = w.octets;
+    let at = w.at;
+    let end = w.end;
     move_off(p.number, old, &name[..end], at)
 }
 
 // The unfinished file of output i, or the one that was put aside, takes its name.
-fn take_name(p: Plan, name: &mut [u8], n: usize, i: usize, old: bool) -> bool
-    requires { ⌜ n + 51 ≤ length (now name) ⌝ }
-{
-    let at = put_ending(name, n, i);
-    let end = put_mark(name, at, p.number, old);
+fn take_name(p: Plan, prefix: &[u8], i: usize, old: bool) -> bool {
+    let w = name_of(prefix, p.number, i, old);
+    let name = w.octets;
+    let at = w.at;
+    let end = w.end;
     move_on(p.number, old, &name[..end], at)
 }
 
@@ -384,26 +410,24 @@ fn after_given(s: Stage, i: usize, good: bool) -> Stage
 }
 
 // Puts what has the name of output i aside, if there is such an output.
-fn put_aside(p: Plan, name: &mut [u8], n: usize, i: usize, s: Stage) -> Stage
-    requires { ⌜ (n + 51 ≤ length (now name)) × (i < 10) ⌝ }
+fn put_aside(p: Plan, prefix: &[u8], i: usize, s: Stage) -> Stage
+    requires { ⌜ i < 10 ⌝ }
 {
     let wanted = has(p, i);
     if !wanted {
         return s;
     }
-    let m = leave_name(p, name, n, i, true);
+    let m = leave_name(p, prefix, i, true);
     after_aside(s, i, m)
 }
 
 // Puts what has the names of outputs aside, the records first, up to the first failure.
-fn put_all_aside(p: Plan, name: &mut [u8], n: usize) -> Stage
-    requires { ⌜ n + 51 ≤ length (now name) ⌝ }
-{
+fn put_all_aside(p: Plan, prefix: &[u8]) -> Stage {
     let mut s = no_stage();
     let mut k: usize = 0;
     while k < 10 {
         let i = aside_turn(k);
-        s = put_aside(p, name, n, i, s);
+        s = put_aside(p, prefix, i, s);
         if s.well {} else {
             return s;
         }
@@ -413,28 +437,26 @@ fn put_all_aside(p: Plan, name: &mut [u8], n: usize) -> Stage
 }
 
 // Gives output i its name, if there is such an output.
-fn give_name(p: Plan, name: &mut [u8], n: usize, i: usize, s: Stage) -> Stage
-    requires { ⌜ (n + 51 ≤ length (now name)) × (i < 10) ⌝ }
+fn give_name(p: Plan, prefix: &[u8], i: usize, s: Stage) -> Stage
+    requires { ⌜ i < 10 ⌝ }
 {
     let wanted = has(p, i);
     if !wanted {
         return s;
     }
-    let good = take_name(p, name, n, i, false);
+    let good = take_name(p, prefix, i, false);
     after_given(s, i, good)
 }
 
 // Puts what has the names aside, and then gives each output its name, the records last, up to the first failure.
-fn give_each(p: Plan, name: &mut [u8], n: usize) -> Stage
-    requires { ⌜ n + 51 ≤ length (now name) ⌝ }
-{
-    let mut s = put_all_aside(p, name, n);
+fn give_each(p: Plan, prefix: &[u8]) -> Stage {
+    let mut s = put_all_aside(p, prefix);
     let mut i: usize = 0;
     while i < 10 {
         if s.well {} else {
             return s;
         }
-        s = give_name(p, name, n, i, s);
+        s = give_name(p, prefix, i, s);
         i += 1;
     }
     s
@@ -479,59 +501,51 @@ fn keep_names(prefix: &[u8]) -> bool {
 }
 
 // Removes output i's unfinished file, or the earlier one that was put aside, if there is one, where that can be done.
-fn remove(p: Plan, name: &mut [u8], n: usize, i: usize, old: bool, there: bool)
-    requires { ⌜ n + 51 ≤ length (now name) ⌝ }
-{
+fn remove(p: Plan, prefix: &[u8], i: usize, old: bool, there: bool) {
     if !there {
         return;
     }
-    let end = put_marked(name, n, p.number, i, old);
+    let w = name_of(prefix, p.number, i, old);
+    let name = w.octets;
+    let end = w.end;
     os::unlink(&name[..end]);
 }
 
 // Removes what was put aside.
-fn forget_all(p: Plan, name: &mut [u8], n: usize, s: Stage)
-    requires { ⌜ n + 51 ≤ length (now name) ⌝ }
-{
+fn forget_all(p: Plan, prefix: &[u8], s: Stage) {
     let aside = s.aside;
     let mut i: usize = 0;
     while i < 10 {
         let a = aside[i];
-        remove(p, name, n, i, true, a);
+        remove(p, prefix, i, true, a);
         i += 1;
     }
 }
 
 // Takes the name of output i back, if it was given.
-fn take_back(p: Plan, name: &mut [u8], n: usize, i: usize, given: bool)
-    requires { ⌜ n + 51 ≤ length (now name) ⌝ }
-{
+fn take_back(p: Plan, prefix: &[u8], i: usize, given: bool) {
     if given {
-        leave_name(p, name, n, i, false);
+        leave_name(p, prefix, i, false);
     }
 }
 
 // Gives what was put aside the name of output i again, if it was.
-fn put_back(p: Plan, name: &mut [u8], n: usize, i: usize, aside: bool)
-    requires { ⌜ n + 51 ≤ length (now name) ⌝ }
-{
+fn put_back(p: Plan, prefix: &[u8], i: usize, aside: bool) {
     if aside {
-        take_name(p, name, n, i, true);
+        take_name(p, prefix, i, true);
     }
 }
 
 // Takes names back, and gives them to what had them, the records last.
-fn undo_all(p: Plan, name: &mut [u8], n: usize, s: Stage)
-    requires { ⌜ n + 51 ≤ length (now name) ⌝ }
-{
+fn undo_all(p: Plan, prefix: &[u8], s: Stage) {
     let given = s.given;
     let aside = s.aside;
     let mut i: usize = 0;
     while i < 10 {
         let g = given[i];
         let a = aside[i];
-        take_back(p, name, n, i, g);
-        put_back(p, name, n, i, a);
+        take_back(p, prefix, i, g);
+        put_back(p, prefix, i, a);
         i += 1;
     }
 }
@@ -545,29 +559,25 @@ fn settled(s: Stage, prefix: &[u8]) -> bool {
 }
 
 // Gives each output its name. What had the names is put aside first and removed at the end, or gets them again where something fails.
-pub fn give_names(p: Plan, name: &mut [u8], n: usize) -> bool
-    requires { ⌜ n + 51 ≤ length (now name) ⌝ }
-{
-    let s = give_each(p, name, n);
-    let good = settled(s, &name[..n]);
+pub fn give_names(p: Plan, prefix: &[u8]) -> bool {
+    let s = give_each(p, prefix);
+    let good = settled(s, prefix);
     if good {
-        forget_all(p, name, n, s);
+        forget_all(p, prefix, s);
         return true;
     }
-    undo_all(p, name, n, s);
+    undo_all(p, prefix, s);
     false
 }
 
 // ---- a run that fails
 
 // Removes the unfinished files that this run made, where that still can be done. The program ends then, and closes them.
-pub fn remove_all(p: Plan, fds: [i32; 10], name: &mut [u8], n: usize)
-    requires { ⌜ n + 51 ≤ length (now name) ⌝ }
-{
+pub fn remove_all(p: Plan, fds: [i32; 10], prefix: &[u8]) {
     let mut i: usize = 0;
     while i < 10 {
         let fd = fds[i];
-        remove(p, name, n, i, false, 0 <= fd);
+        remove(p, prefix, i, false, 0 <= fd);
         i += 1;
     }
 }

@@ -6,8 +6,8 @@ use Rattle.rules.specs.declared.Kind.the-variants as kinds
 use Rattle.rules.specs.declared.Setting.{Setting}
 use Rattle.rules.specs.Settings.{lane}
 use Rattle.intake.specs.declared.Window.{Window}
-use Rattle.pack_start.specs.declared.Named.{Named}
-use Rattle.pack_start.specs.declared.Named.the-variants as names
+use Rattle.words.specs.declared.pack_start.Named.{Named}
+use Rattle.words.specs.declared.pack_start.Named.the-variants as names
 use Rattle.pack.specs.declared.Opened.{Opened}
 use Rattle.pack.specs.declared.Way.{Way}
 

@@ -1,6 +1,6 @@
 // The program pack: frames of the batches that files hold, to standard output.
 //
-// Crate `pack_start` has what its words come to, crate `streams` what the next batch of a file is or what is wrong with it, and crate `turns` what
+// `words::pack_start` has what its words come to, crate `streams` what the next batch of a file is or what is wrong with it, and crate `turns` what
 // a turn of a file writes and leaves. Here files are opened and closed, the turns are dealt out, and what went wrong is said: what no contract
 // can follow into the system is shown by runs. The stored run is document 01's batch of worked frame 2, on its setting.
 ghost use mathlib.Core.Path.{_≡_};
@@ -9,13 +9,8 @@ ghost use lib.ListN.{length};
 ghost use Rattle.rules.specs.Settings.{lane, channel, ocfOctets};
 ghost use Rattle.pack.specs.Rounds.{formOf, nextPlace, anyMore, hasNext, placeAfter, Stepped, Rounded, Passed};
 ghost use Rattle.pack.specs.Sources.{freshWindow, unopenedFile, lookWay, isAccess, isUnits};
-use file_batches::Wrong;
 use files::Known;
 use intake::Window;
-use pack_start::Bad;
-use pack_start::Named;
-use pack_start::Objection;
-use pack_start::Plan;
 use rules::Kind;
 use rules::Lane;
 use rules::Setting;
@@ -23,11 +18,16 @@ use setting_file::Loaded;
 use streams::Fault;
 use streams::Form;
 use streams::Stream;
+use streams::file_batches::Wrong;
 use turns::Course;
 use turns::Move;
 use turns::Source;
 use words::Asked;
 use words::Start;
+use words::pack_start::Bad;
+use words::pack_start::Named;
+use words::pack_start::Objection;
+use words::pack_start::Plan;
 
 // ---- what is said
 
@@ -128,8 +128,7 @@ fn say_usage() {
 
 // Whether nothing stands against reading a file. Says what does.
 fn allowed(path: &[u8], k: Known, twice: bool) -> bool {
-    let out = files::of_descriptor(1);
-    let o = pack_start::against(k, out, twice);
+    let o = words::pack_start::against(k, files::of_descriptor(1), twice);
     match o {
         Objection::Nothing => true,
         Objection::NotRegular => {
@@ -215,9 +214,7 @@ fn open_file(path: &[u8]) -> i32 {
         say_failed(path);
         return fd;
     }
-    let k = files::of_descriptor(fd);
-    let free = allowed(path, k, true);
-    if free {
+    if allowed(path, files::of_descriptor(fd), true) {
         return fd;
     }
     -1
@@ -264,8 +261,7 @@ fn is_list_at(i: usize) -> bool {
 fn past_options(i: usize, n: usize) -> usize {
     let mut j = i;
     while j < n {
-        let option = is_option_at(j);
-        if option {} else {
+        if is_option_at(j) {} else {
             break;
         }
         j += 1;
@@ -276,8 +272,7 @@ fn past_options(i: usize, n: usize) -> usize {
 // The list of the file that a word before word i names: the next word, options aside, where it is one; 0 for none.
 fn list_of(i: usize, n: usize) -> usize {
     let j = past_options(i, n);
-    let list = is_list_at(j);
-    if list {
+    if is_list_at(j) {
         return j;
     }
     0
@@ -355,8 +350,7 @@ fn with_list(s: Setting, l: usize, file: Opened, j: usize, to: usize, names: &mu
     requires { ⌜ (to ≤ 61440) × (length (now names) ≡ 65536) ⌝ }
 {
     let list = open_list(j, to, names);
-    let missing = is_missing(j, list);
-    if missing {
+    if is_missing(j, list) {
         return no_source();
     }
     source_of(s, l, file, j != 0, list)
@@ -404,9 +398,8 @@ fn say_progress(way: Way, before: u64, c: Course) {
     if before == c.frames {
         return;
     }
-    let due = progress::is_due(c.frames);
-    if due {
-        progress::say_far(b"pack", c.frames, way.hundredth, c.octets, way.live);
+    if console::progress::is_due(c.frames) {
+        console::progress::say_far(b"pack", c.frames, way.hundredth, c.octets, way.live);
     }
 }
 
@@ -451,8 +444,7 @@ fn has_next(c: Course, f: Files) -> bool
     ensures { λ r. ⌜ r ≡ hasNext c f ⌝ }
 {
     let fault = c.fault;
-    let good = streams::is_sound(fault);
-    if good {
+    if streams::is_sound(fault) {
         return any_more(f);
     }
     false
@@ -507,12 +499,10 @@ fn deal(
     ensures { λ r. ⌜ (r .next < 8) × Stepped (way .writing) p (now (insert .entry)) (now (ocf .entry)) (now (areas .entry)) (now (lists .entry)) r (now (areas .exit)) (now (lists .exit)) ⌝ }
 {
     let k = p.next;
-    let c = p.course;
     let f = p.files;
     let x = f.sources[k];
-    let m = turns::turn_at(k, way.writing, c, x, areas, lists, insert, ocf);
-    let d = m.course;
-    say_progress(way, c.frames, d);
+    let m = turns::turn_at(k, way.writing, p.course, x, areas, lists, insert, ocf);
+    say_progress(way, p.course.frames, m.course);
     after_move(p, m)
 }
 
@@ -639,8 +629,7 @@ fn with_file(p: Stage, x: Source) -> Stage {
 fn wait_for(p: Stage, s: Setting, l: usize, i: usize, n: usize, names: &mut [u8]) -> Stage
     requires { ⌜ (i < n) × (length (now names) ≡ 65536) ⌝ }
 {
-    let f = p.files;
-    let k = place_of(f);
+    let k = place_of(p.files);
     let x = open_source(s, l, i, n, k, names);
     with_file(p, x)
 }
@@ -663,8 +652,7 @@ fn round_of(way: Way, p: Stage, names: &[u8], insert: &[u8], ocf: &[u8]) -> Stag
     let f = p.files;
     let none = no_files();
     let fault = c.fault;
-    let good = streams::is_sound(fault);
-    if good {
+    if streams::is_sound(fault) {
         let d = round_on(way, c, f, names, insert, ocf);
         return Stage {
             course: d,
@@ -681,16 +669,14 @@ fn round_of(way: Way, p: Stage, names: &[u8], insert: &[u8], ocf: &[u8]) -> Stag
 fn named_at(i: usize, numbered: usize) -> Named {
     let mut word = io::buffer();
     let n = os::arg(i, &mut word);
-    pack_start::name_of(&word[..n], numbered)
+    words::pack_start::name_of(&word[..n], numbered)
 }
 
 // Goes on with word i of n: where it names a lane's file, that waits.
 fn word_on(p: Stage, i: usize, n: usize, names: &mut [u8]) -> Stage
     requires { ⌜ (i < n) × (length (now names) ≡ 65536) ⌝ }
 {
-    let c = p.course;
-    let w = c.state;
-    let s = w.setting;
+    let s = p.course.state.setting;
     let name = named_at(i, s.numbered);
     match name {
         Named::ToLane(l) => wait_for(p, s, l, i, n, names),
@@ -740,8 +726,7 @@ fn each_word(
     let mut i = from;
     while i < n {
         q = stage_on(way, q, i, n, names, insert, ocf);
-        let good = is_well(q);
-        if good {} else {
+        if is_well(q) {} else {
             return q;
         }
         i += 1;
@@ -829,9 +814,9 @@ fn is_access(kind: Kind) -> bool
 
 // The plan after word i, which is this. Says what is wrong with it.
 fn plan_word(p: Plan, i: usize, word: &[u8], s: Setting, once: bool) -> Plan {
-    let name = pack_start::name_of(word, s.numbered);
+    let name = words::pack_start::name_of(word, s.numbered);
     let access = is_units(s, name);
-    let q = pack_start::planned(p, i, name, access, once);
+    let q = words::pack_start::planned(p, i, name, access, once);
     let bad = q.bad;
     say_bad(word, bad);
     q
@@ -843,20 +828,19 @@ fn plan_next(p: Plan, i: usize, s: Setting, once: bool) -> Plan {
     let n = os::arg(i, &mut word);
     if os::errno() != 0 {
         say_failed(b"an argument");
-        return pack_start::bad_plan(p, Bad::NoWord);
+        return words::pack_start::bad_plan(p, Bad::NoWord);
     }
     plan_word(p, i, &word[..n], s, once)
 }
 
 // The plan of all words from word `from` of n on.
 fn plan_all(from: usize, n: usize, s: Setting, once: bool) -> Plan {
-    let mut plan = pack_start::no_plan();
+    let mut plan = words::pack_start::no_plan();
     let mut i = from;
     while i < n {
         plan = plan_next(plan, i, s, once);
         let bad = plan.bad;
-        let good = pack_start::is_fine(bad);
-        if !good {
+        if !words::pack_start::is_fine(bad) {
             break;
         }
         i += 1;
@@ -893,9 +877,7 @@ fn load_file(path: &[u8], n: usize, area: &mut [u8]) -> bool {
         say_failed(path);
         return false;
     }
-    let k = files::of_descriptor(fd);
-    let free = allowed(path, k, false);
-    if free {
+    if allowed(path, files::of_descriptor(fd), false) {
         let good = load_open(path, fd, n, area);
         libc::close(fd);
         return good;
@@ -927,7 +909,7 @@ fn write_frames(
     insert: &[u8],
     ocf: &[u8],
 ) {
-    let live = progress::is_live();
+    let live = console::progress::is_live();
     let way = Way {
         writing: true,
         together: together,
@@ -936,8 +918,7 @@ fn write_frames(
     };
     let c = pass(way, s, from, n, insert, ocf);
     let fault = c.fault;
-    let done = streams::is_sound(fault);
-    if done {
+    if streams::is_sound(fault) {
         say_done(c.frames);
     }
 }
@@ -949,8 +930,7 @@ fn pack_files(s: Setting, q: Asked, n: usize, insert: &[u8], ocf: &[u8]) {
     let look = look_way();
     let looked = pass(look, s, from, n, &insert[..i], ocf);
     let found = looked.fault;
-    let good = streams::is_sound(found);
-    if good {
+    if streams::is_sound(found) {
         write_frames(s, q.first, looked.octets / 100, from, n, &insert[..i], ocf);
     }
 }
@@ -967,10 +947,8 @@ fn after(i: usize, n: usize) -> usize {
 fn pack_planned(s: Setting, q: Asked, n: usize, p: Plan) {
     let mut insert = [0u8; 64];
     let mut ocf = [0u8; 4];
-    let inserted = load_octets(p.insert, 7, s.insert, &mut insert);
-    if inserted {
-        let filled = load_octets(p.ocf, 4, 4, &mut ocf);
-        if filled {
+    if load_octets(p.insert, 7, s.insert, &mut insert) {
+        if load_octets(p.ocf, 4, 4, &mut ocf) {
             pack_files(s, q, n, &insert, &ocf);
         }
     }
@@ -981,8 +959,7 @@ fn pack_all(s: Setting, q: Asked, n: usize) {
     let from = after(q.one, n);
     let p = plan_all(from, n, s, q.first);
     let bad = p.bad;
-    let good = pack_start::is_fine(bad);
-    if good {
+    if words::pack_start::is_fine(bad) {
         if p.lanes {
             pack_planned(s, q, n, p);
             return;
@@ -993,19 +970,15 @@ fn pack_all(s: Setting, q: Asked, n: usize) {
 
 // Packs by the setting that was loaded, if it is one.
 fn with_setting(l: Loaded, q: Asked, n: usize) {
-    let j = l.judged;
-    if j.good {
-        let s = j.setting;
-        pack_all(s, q, n);
+    if l.judged.good {
+        pack_all(l.judged.setting, q, n);
     }
 }
 
 // Packs by the setting in standard input.
 fn pack_input(q: Asked, n: usize) {
     let name = b"standard input";
-    let k = files::of_descriptor(0);
-    let free = allowed(name, k, false);
-    if free {
+    if allowed(name, files::of_descriptor(0), false) {
         let mut area = [0u8; 65537];
         let l = setting_file::load_open(b"pack", name, 0, &mut area);
         with_setting(l, q, n);
@@ -1014,9 +987,7 @@ fn pack_input(q: Asked, n: usize) {
 
 // Packs by the setting in the file of this name.
 fn pack_by(path: &[u8], q: Asked, n: usize) {
-    let k = files::of_name(path);
-    let free = allowed(path, k, false);
-    if free {
+    if allowed(path, files::of_name(path), false) {
         let mut area = [0u8; 65537];
         let l = setting_file::load(b"pack", path, &mut area);
         with_setting(l, q, n);
@@ -1025,8 +996,7 @@ fn pack_by(path: &[u8], q: Asked, n: usize) {
 
 // Packs by the setting of this name, or by the one in standard input.
 fn with_name(path: &[u8], q: Asked, n: usize) {
-    let dash = words::is_dash(path);
-    if dash {
+    if words::is_dash(path) {
         pack_input(q, n);
         return;
     }
@@ -1050,7 +1020,7 @@ fn with_words(q: Asked, n: usize) {
 fn add_word(q: Asked, i: usize) -> Asked {
     let mut word = io::buffer();
     let n = os::arg(i, &mut word);
-    let w = pack_start::word_of(&word[..n]);
+    let w = words::pack_start::word_of(&word[..n]);
     words::next_word(q, i, w)
 }
 
@@ -1077,8 +1047,7 @@ fn say_unknown(i: usize) {
 
 // Prints what was asked for, in the place of frames.
 fn print_text(text: &[u8]) {
-    let good = io::write_all(1, text);
-    if good {
+    if io::write_all(1, text) {
         say_done(0);
         return;
     }
@@ -1106,10 +1075,8 @@ fn begin(start: Start, q: Asked, n: usize) {
 // The program. Nothing is said into a file that a word names, nor between the frames.
 fn main() {
     let n = os::arg_count();
-    let may = console::may_say(true, n, 0);
-    if may {
+    if console::may_say(true, n, 0) {
         let q = read_words(n);
-        let start = pack_start::start_of(q);
-        begin(start, q, n);
+        begin(words::pack_start::start_of(q), q, n);
     }
 }

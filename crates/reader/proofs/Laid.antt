@@ -19,8 +19,8 @@ use Rattle.rules.specs.Calls.{laidOut, madeBy, readOn}
 use Rattle.rules.proofs.Areas.{laid-part}
 use Rattle.rules.specs.Valid.{GoodKind}
 use Rattle.rules.proofs.Lanes.{lane-total, lane-below, total}
-use Rattle.units.specs.declared.Stand.{Stand}
-use Rattle.units.specs.declared.Terms.{Terms}
+use Rattle.lanes.specs.declared.units.Stand.{Stand}
+use Rattle.lanes.specs.declared.units.Terms.{Terms}
 use Rattle.lanes.specs.Steps.{Lent, Stepped}
 use Rattle.reader.specs.Reads.{takenOf, termsFor, OnLane}
 use Rattle.judge.specs.declared.Sight.{Sight}

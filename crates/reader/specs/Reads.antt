@@ -18,8 +18,8 @@ use Rattle.judge.specs.declared.Sight.{Sight}
 use Rattle.judge.specs.declared.Sighting.the-variants.{Seen}
 use Rattle.judge.specs.Sights.{sightOf}
 use Rattle.rules.specs.Valid.{GoodReader, Reads}
-use Rattle.units.specs.declared.Stand.{Stand}
-use Rattle.units.specs.declared.Terms.{Terms}
+use Rattle.lanes.specs.declared.units.Stand.{Stand}
+use Rattle.lanes.specs.declared.units.Terms.{Terms}
 use Rattle.rules.specs.Areas.{heldSize, recordsSize, unitsSize}
 
 -- What lane l brings to a frame with count k on the channel at place c: what its records have in common, its longest unit and its kind.

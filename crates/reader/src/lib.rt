@@ -9,6 +9,8 @@ ghost use Rattle.reader.specs.Reads.{termsFor, takenOf, countedOf, short
 ghost use Rattle.rules.specs.Areas.{heldSize, unitsSize};
 use judge::Sight;
 use judge::Sighting;
+use lanes::units::Stand;
+use lanes::units::Terms;
 use rules::Answer;
 use rules::Class;
 use rules::Gap;
@@ -21,8 +23,6 @@ use rules::Setting;
 use rules::Slot;
 use rules::Taken;
 use rules::Verdict;
-use units::Stand;
-use units::Terms;
 
 // ---- what a lane makes of a frame
 

@@ -5,7 +5,7 @@ ghost use Prim.Native.Nat.{_+_, _≤_, _<_};
 ghost use lib.ListN.{length};
 ghost use Rattle.unpack_text.specs.Lines.{Wrote};
 ghost use Rattle.refusals.specs.Counts.{raised, frontOf, firstAfter, refusedAfter, totalled, noTotals, commoner, commonest};
-ghost use Rattle.refusals.specs.Words.{wordsOf, naming, refusedLine, refusedLines, totalsText, commonText, binary, versionText, sourceText, headText, firstText, marked};
+ghost use Rattle.refusals.specs.Words.{naming, refusedLine, refusedLines, totalsText, commonText, firstText, marked};
 use rules::Answer;
 use rules::Reader;
 use rules::Setting;
@@ -104,10 +104,9 @@ pub fn count_frame(s: Setting, t: Totals, v: Verdict, a: Answer, frame: &[u8]) -
     ensures { λ r. ⌜ r ≡ totalled s t v a (now (frame .entry)) ⌝ }
 {
     let x = t.tally;
-    let c = x.classes;
     let tally = unpack_text::count_frame(s, x, v, a);
     let y = t.refusals;
-    let refusals = after(y, v, c.frames, frame);
+    let refusals = after(y, v, x.classes.frames, frame);
     Totals {
         tally: tally,
         refusals: refusals,
@@ -157,106 +156,32 @@ fn commonest_of(counts: [u64; 13]) -> usize
     best
 }
 
-// ---- words
-
-// Puts the words of a number below 5.
-fn put_first_words(area: &mut [u8], from: usize, n: u64) -> usize
-    requires { ⌜ (n < 5) × (from + 128 ≤ length (now area)) ⌝ }
-    ensures { λ r. ⌜ Wrote 128 (wordsOf n) (now (area .entry)) from (now (area .exit)) r ⌝ }
-{
-    if n == 1 {
-        return listing_text::put_text(area, from, b"setting or state not valid");
-    }
-    if n == 2 {
-        return listing_text::put_text(area, from, b"an area is too short");
-    }
-    if n == 3 {
-        return listing_text::put_text(area, from, b"frame is not F octets");
-    }
-    if n == 4 {
-        return listing_text::put_text(area, from, b"frame check differs");
-    }
-    from
-}
-
-// Puts the words of a number from 5 to 8.
-fn put_header_words(area: &mut [u8], from: usize, n: u64) -> usize
-    requires { ⌜ (5 ≤ n) × (n < 9) × (from + 128 ≤ length (now area)) ⌝ }
-    ensures { λ r. ⌜ Wrote 128 (wordsOf n) (now (area .entry)) from (now (area .exit)) r ⌝ }
-{
-    if n == 5 {
-        return listing_text::put_text(area, from, b"version is not 1100");
-    }
-    if n == 6 {
-        return listing_text::put_text(
-            area,
-            from,
-            b"spacecraft or source-or-destination bit differs",
-        );
-    }
-    if n == 7 {
-        return listing_text::put_text(area, from, b"end-of-header flag is 1");
-    }
-    listing_text::put_text(
-        area,
-        from,
-        b"length field is not F - 1, spare bits not 00, or control command with bypass 0",
-    )
-}
-
-// Puts the words of a number from 9 on: of one past 12 there are none.
-fn put_channel_words(area: &mut [u8], from: usize, n: u64) -> usize
-    requires { ⌜ (9 ≤ n) × (from + 128 ≤ length (now area)) ⌝ }
-    ensures { λ r. ⌜ Wrote 128 (wordsOf n) (now (area .entry)) from (now (area .exit)) r ⌝ }
-{
-    if n == 9 {
-        return listing_text::put_text(
-            area,
-            from,
-            b"virtual channel not 63 and, with this service, not listed",
-        );
-    }
-    if n == 10 {
-        return listing_text::put_text(area, from, b"count length not the channel's");
-    }
-    if n == 11 {
-        return listing_text::put_text(area, from, b"OCF flag not the channel's");
-    }
-    if n == 12 {
-        return listing_text::put_text(
-            area,
-            from,
-            b"map in a lane of that channel, command bit 0, and rule or UPID not that lane's, or pointer neither below Z nor FFFF",
-        );
-    }
-    from
-}
-
-// Puts the words of a refusal number.
-fn put_words(area: &mut [u8], from: usize, n: u64) -> usize
-    requires { ⌜ from + 128 ≤ length (now area) ⌝ }
-    ensures { λ r. ⌜ Wrote 128 (wordsOf n) (now (area .entry)) from (now (area .exit)) r ⌝ }
-{
-    if n < 5 {
-        return put_first_words(area, from, n);
-    }
-    if n < 9 {
-        return put_header_words(area, from, n);
-    }
-    put_channel_words(area, from, n)
-}
-
 // ---- totals
 
-// Puts a refusal number, how many frames have it, and its words.
+// Puts a refusal number, how many frames have it, and its words: of 0, and of one past 12, there are none.
 fn put_naming(area: &mut [u8], from: usize, n: u64, m: u64) -> usize
     requires { ⌜ from + 186 ≤ length (now area) ⌝ }
     ensures { λ r. ⌜ Wrote 186 (naming n m) (now (area .entry)) from (now (area .exit)) r ⌝ }
 {
-    let at = unpack_text::put_named(area, from, b"refused ", n);
-    let at = unpack_text::put_named(area, at, b" frames ", m);
-    let at = listing_text::put_text(area, at, b": ");
-    put_words(area, at, n)
+    let values = [n, m];
+    let at = listing_text::put_filled(area, from, b"refused # frames #: ", &values);
+    listing_text::put_part(
+        area,
+        at,
+        b"|setting or state not valid\
+          |an area is too short\
+          |frame is not F octets\
+          |frame check differs\
+          |version is not 1100\
+          |spacecraft or source-or-destination bit differs\
+          |end-of-header flag is 1\
+          |length field is not F - 1, spare bits not 00, or control command with bypass 0\
+          |virtual channel not 63 and, with this service, not listed\
+          |count length not the channel's\
+          |OCF flag not the channel's\
+          |map in a lane of that channel, command bit 0, and rule or UPID not that lane's, or pointer neither below Z nor FFFF",
+        n as usize,
+    )
 }
 
 // Puts the line of a refusal number, if it occurred.
@@ -292,8 +217,7 @@ pub fn put_totals(area: &mut [u8], from: usize, r: Reader, t: Totals) -> usize
     ensures { λ e. ⌜ Wrote 4342 (totalsText r t) (now (area .entry)) from (now (area .exit)) e ⌝ }
 {
     let x = t.tally;
-    let y = t.refusals;
-    let counts = y.counts;
+    let counts = t.refusals.counts;
     let at = unpack_text::put_places(area, from, r, x);
     let at = put_refusals(area, at, counts);
     unpack_text::put_last(area, at, r, x)
@@ -312,67 +236,44 @@ pub fn put_common(area: &mut [u8], from: usize, counts: [u64; 13]) -> usize
     put_naming(area, at, n as u64, m)
 }
 
-// Puts a number below 16 in binary digits.
-fn put_binary(area: &mut [u8], from: usize, v: u8) -> usize
-    requires { ⌜ from + 4 ≤ length (now area) ⌝ }
-    ensures { λ r. ⌜ Wrote 4 (binary v) (now (area .entry)) from (now (area .exit)) r ⌝ }
-{
-    let digits = [48 + v / 8 % 2, 48 + v / 4 % 2, 48 + v / 2 % 2, 48 + v % 2];
-    listing_text::put_text(area, from, &digits)
-}
-
-// Puts a header's version.
-fn put_version(area: &mut [u8], from: usize, v: u8) -> usize
-    requires { ⌜ from + 14 ≤ length (now area) ⌝ }
-    ensures { λ r. ⌜ Wrote 14 (versionText v) (now (area .entry)) from (now (area .exit)) r ⌝ }
-{
-    let at = listing_text::put_text(area, from, b": version ");
-    put_binary(area, at, v)
-}
-
-// Puts a header's spacecraft and virtual channel.
-fn put_source(area: &mut [u8], from: usize, craft: u16, vc: u8) -> usize
-    requires { ⌜ from + 71 ≤ length (now area) ⌝ }
-    ensures { λ r. ⌜ Wrote 71 (sourceText craft vc) (now (area .entry)) from (now (area .exit)) r ⌝ }
-{
-    let at = unpack_text::put_named(area, from, b", spacecraft ", craft as u64);
-    unpack_text::put_named(area, at, b", virtual channel ", vc as u64)
-}
-
-// Puts what a header says, beside the setting's spacecraft.
-fn put_head(area: &mut [u8], from: usize, front: [u8; 7], own: u16) -> usize
-    requires { ⌜ from + 135 ≤ length (now area) ⌝ }
-    ensures { λ r. ⌜ Wrote 135 (headText front own) (now (area .entry)) from (now (area .exit)) r ⌝ }
-{
-    let h = header::head_of(&front);
-    let at = put_version(area, from, h.version);
-    let at = put_source(area, at, h.craft, h.vc);
-    unpack_text::put_named(area, at, b"; the setting's spacecraft is ", own as u64)
-}
-
 // Puts what the first refused frame says of itself, beside the setting's spacecraft.
 pub fn put_first(area: &mut [u8], from: usize, p: First, own: u16) -> usize
     requires { ⌜ from + 182 ≤ length (now area) ⌝ }
     ensures { λ r. ⌜ Wrote 182 (firstText p own) (now (area .entry)) from (now (area .exit)) r ⌝ }
 {
-    let at = unpack_text::put_named(area, from, b"the first refused is frame ", p.frame);
     if p.octets < 4 {
-        return unpack_text::put_named(area, at, b": its length is ", p.octets as u64);
+        let values = [p.frame, p.octets as u64];
+        return listing_text::put_filled(
+            area,
+            from,
+            b"the first refused is frame #: its length is #",
+            &values,
+        );
     }
     let front = p.front;
-    put_head(area, at, front, own)
+    let h = header::head_of(&front);
+    let v = h.version as u64;
+    let values = [
+        p.frame,
+        v / 8 % 2,
+        v / 4 % 2,
+        v / 2 % 2,
+        v % 2,
+        h.craft as u64,
+        h.vc as u64,
+        own as u64,
+    ];
+    listing_text::put_filled(
+        area,
+        from,
+        b"the first refused is frame #: version ####, spacecraft #, virtual channel #; the setting's spacecraft is #",
+        &values,
+    )
 }
 
 // Whether a frame with this front begins with a sync marker.
 pub fn is_marked(front: [u8; 7]) -> bool
     ensures { λ r. ⌜ r ≡ marked front ⌝ }
 {
-    if front[0] == 0x1A {
-        if front[1] == 0xCF {
-            if front[2] == 0xFC {
-                return front[3] == 0x1D;
-            }
-        }
-    }
-    false
+    (front[0] == 0x1A) & (front[1] == 0xCF) & (front[2] == 0xFC) & (front[3] == 0x1D)
 }

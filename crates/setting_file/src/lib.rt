@@ -3,14 +3,14 @@
 ghost use mathlib.Core.Path.{_≡_};
 ghost use Prim.Native.Nat.{_≤_};
 ghost use lib.ListN.{length};
-ghost use Rattle.setting_quote.specs.Quotes.{quoted};
+ghost use Rattle.setting_text.specs.Quotes.{quoted};
 ghost use Rattle.setting_file.specs.Files.{none, textFound, judged};
 use files::Known;
 use rules::Setting;
-use setting_quote::Fault;
 use setting_text::Finding;
 use setting_text::Missing;
 use setting_text::Wanted;
+use setting_text::quoting::Fault;
 
 // What a file is: one that could not be read, one that is longer than a text may be, or a text and what that is found to be.
 pub enum Found {
@@ -128,7 +128,7 @@ fn hand_quote(octets: &[u8], n: usize, k: usize, word: &[u8])
 
 // Finds those octets, and says them.
 fn put_quote(octets: &[u8], n: usize, k: usize) {
-    let q = setting_quote::quote_of(octets, n, k);
+    let q = setting_text::quoting::quote_of(octets, n, k);
     let from = q.from;
     let to = q.to;
     hand_quote(octets, n, k, &octets[from..to]);
@@ -141,7 +141,7 @@ fn put_return() {
 
 // Says what is wrong in line n, of which word k does not fit: this was wanted.
 fn put_fault(octets: &[u8], n: usize, k: usize, w: Wanted) {
-    let f = setting_quote::fault_of(octets, n, k);
+    let f = setting_text::quoting::fault_of(octets, n, k);
     match f {
         Fault::Mark => put(b"begins with a byte order mark; save it as plain text"),
         Fault::Return => put_return(),
@@ -193,7 +193,7 @@ fn say_missing(program: &[u8], path: &[u8], m: Missing) {
 
 // Says what the file never says, or that its first line has a carriage return that ends no line: a file without line feeds is one line.
 fn say_lacking(program: &[u8], path: &[u8], octets: &[u8], m: Missing) {
-    let lone = setting_quote::is_lone_line(octets, 1);
+    let lone = setting_text::quoting::is_lone_line(octets, 1);
     if lone {
         say_place(program, path, 1);
         put_return();

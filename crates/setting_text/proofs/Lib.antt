@@ -5,3 +5,4 @@ pub mod Gathers
 pub mod Answers
 pub mod Valid
 pub mod Worked
+pub mod Quotes

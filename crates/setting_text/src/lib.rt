@@ -1,4 +1,6 @@
 // A setting from its text: a table of its lines, what each says, the first bad line, and what a text lacks.
+pub mod quoting;
+
 ghost use mathlib.Core.Path.{_≡_};
 ghost use mathlib.Core.Bool.{_&&_, cond};
 ghost use Prim.Native.Nat.{_≤_, _<_};

@@ -11,14 +11,14 @@ use Rattle.rules.proofs.Tests.{split}
 use Rattle.rules.proofs.Areas.{length-laid, laid-front}
 use borrow.Author.Tests.{eq-eqb, ne-eqb}
 use lib.Seq.{take-take}
-use Rattle.file_batches.specs.declared.Wrong.{Wrong}
-use Rattle.file_batches.specs.FileBatches.{gathered, wrongAt}
+use Rattle.streams.specs.declared.file_batches.Wrong.{Wrong}
+use Rattle.streams.specs.FileBatches.{gathered, wrongAt}
 use Rattle.intake.specs.declared.Window.{Window}
 use Rattle.intake.specs.Windows.{Refilled}
-use Rattle.lengths.specs.declared.Length.{Length}
-use Rattle.lengths.specs.declared.Length.the-variants as lengths
-use Rattle.lengths.specs.declared.Listed.{Listed}
-use Rattle.lengths.specs.Lengths.{nextOf as nextLength}
+use Rattle.streams.specs.declared.lengths.Length.{Length}
+use Rattle.streams.specs.declared.lengths.Length.the-variants as lengths
+use Rattle.streams.specs.declared.lengths.Listed.{Listed}
+use Rattle.streams.specs.Lengths.{nextOf as nextLength}
 use Rattle.streams.specs.declared.Fault.{Fault}
 use Rattle.streams.specs.declared.Fault.the-variants as faults
 use Rattle.streams.specs.declared.Stream.{Stream}

@@ -5,13 +5,13 @@ use mathlib.Core.Bool.{Bool, true, false, cond}
 use mathlib.Core.List.{List}
 use lib.ListN.{length, take, drop}
 use Rattle.rules.specs.Tests.{_<?_, _=?_}
-use Rattle.file_batches.specs.declared.Wrong.{Wrong}
-use Rattle.file_batches.specs.declared.Wrong.the-variants as wrongs
-use Rattle.file_batches.specs.FileBatches.{gathered, wrongAt}
+use Rattle.streams.specs.declared.file_batches.Wrong.{Wrong}
+use Rattle.streams.specs.declared.file_batches.Wrong.the-variants as wrongs
+use Rattle.streams.specs.FileBatches.{gathered, wrongAt}
 use Rattle.intake.specs.declared.Window.{Window}
-use Rattle.lengths.specs.declared.Length.{Length}
-use Rattle.lengths.specs.declared.Length.the-variants as lengths
-use Rattle.lengths.specs.Lengths.{nextOf as nextLength}
+use Rattle.streams.specs.declared.lengths.Length.{Length}
+use Rattle.streams.specs.declared.lengths.Length.the-variants as lengths
+use Rattle.streams.specs.Lengths.{nextOf as nextLength}
 use Rattle.streams.specs.declared.Fault.{Fault}
 use Rattle.streams.specs.declared.Fault.the-variants as faults
 use Rattle.streams.specs.declared.Form.{Form}

@@ -1,5 +1,8 @@
 // A lane's file on its way into batches: what the next batch is, of the octets that the windows on the file and on its list of lengths hold, or
 // what is wrong where there is none.
+pub mod file_batches;
+pub mod lengths;
+
 ghost use mathlib.Core.Path.{_≡_};
 ghost use Prim.Native.Nat.{_+_, _-_};
 ghost use lib.ListN.{length, take};

@@ -79,14 +79,13 @@ fn send_next(c: Course, l: usize, batch: &[u8], insert: &[u8], ocf: &[u8]) -> Co
     ensures { λ r. ⌜ SentNext c l (now (batch .entry)) (now (insert .entry)) (now (ocf .entry)) r ⌝ }
 {
     let w = c.state;
-    let s = w.setting;
     let mut area = [0u8; 4096];
     let t = writer::write(w, l, batch, insert, ocf, &mut area);
     let outcome = t.outcome;
     let after = t.state;
     match outcome {
         Outcome::Done => {
-            let end = streams::within(s.length, &area);
+            let end = streams::within(w.setting.length, &area);
             let fault = hand(w, l, batch, insert, ocf, &area[..end]);
             let frames = one_more(c.frames);
             Course {
@@ -120,11 +119,8 @@ fn goes_on(c: Course, l: usize) -> bool
     ensures { λ r. ⌜ r ≡ goesOn c l ⌝ }
 {
     let fault = c.fault;
-    let good = streams::is_sound(fault);
-    if good {
-        let w = c.state;
-        let n = next_number(w, l);
-        return n != 0;
+    if streams::is_sound(fault) {
+        return next_number(c.state, l) != 0;
     }
     false
 }
@@ -157,8 +153,7 @@ struct Step {
 fn work_off(s: Stream, have: usize) -> Stream
     ensures { λ r. ⌜ r ≡ worked s have ⌝ }
 {
-    let w = s.window;
-    let window = streams::moved(w, have, s.batch);
+    let window = streams::moved(s.window, have, s.batch);
     let list = s.list;
     let form = s.form;
     Stream {
@@ -175,9 +170,8 @@ fn work_off(s: Stream, have: usize) -> Stream
 fn end_batch(d: Course, s: Stream, area: &mut [u8]) -> Step
     ensures { λ r. ⌜ Over d s (now (area .entry)) r (now (area .exit)) ⌝ }
 {
-    let w = s.window;
-    let have = streams::within(w.have, area);
-    file_batches::shift(&mut area[..have], s.batch);
+    let have = streams::within(s.window.have, area);
+    streams::file_batches::shift(&mut area[..have], s.batch);
     let t = work_off(s, have);
     let e = count_batch(d, s.batch);
     let fault = d.fault;
@@ -221,8 +215,7 @@ fn turn(
     if s.batch != 0 {
         return work(writing, c, s, area, insert, ocf);
     }
-    let w = s.window;
-    let have = streams::within(w.have, area);
+    let have = streams::within(s.window.have, area);
     let b = streams::begin(s, &area[..have], list);
     let t = b.stream;
     if t.batch == 0 {
@@ -288,10 +281,8 @@ fn read_on(x: Source, area: &mut [u8], list: &mut [u8]) -> Stream
         return s;
     }
     let room = room_of(s);
-    let w = s.window;
-    let window = streams::fill(x.fd, w, area, room);
-    let l = s.list;
-    let listed = read_list(x.list_fd, l, list);
+    let window = streams::fill(x.fd, s.window, area, room);
+    let listed = read_list(x.list_fd, s.list, list);
     let form = s.form;
     Stream {
         window: window,

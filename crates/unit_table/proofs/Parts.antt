@@ -1,19 +1,21 @@
 -- Numbers in octets, where there may be fewer than asked for.
 use Prim.Native.Nat.{ℕ, _+_, _-_, _≤_, _<_}
 use mathlib.Core.Path.{_≡_, sym, ap, subst, _∙_}
-use mathlib.Core.List.{List, []}
-use mathlib.Core.Bool.{true}
+use mathlib.Core.List.{List, [], _∷_, _++_, append-assoc}
+use mathlib.Core.Bool.{true, false}
 use lib.ListN.{length, take, drop, getD, length-drop, List·getD-eq-default}
 use lib.Seq.{take-all, drop-drop, drop-length, drop-nil}
 use native.Mathlib.Omega.{arith}
 use Rattle.rules.specs.declared.Lane.{Lane}
 use Rattle.rules.specs.Octets.{num}
 use Rattle.rules.specs.Settings.{noLane}
+use Rattle.rules.specs.Listing.{text}
+use Rattle.listing_text.proofs.Patterns.{strung}
 use Rattle.unpack_text.specs.declared.LaneTally.{LaneTally}
 use Rattle.unpack_text.specs.Totals.{noLaneTally}
 use Rattle.unpack_text.specs.Lines.{Wrote}
 use Rattle.unit_table.specs.declared.Row.{Row}
-use Rattle.unit_table.specs.Rows.{isPackets, numberAt, rowText}
+use Rattle.unit_table.specs.Rows.{isPackets, numberAt, placeText, frameText, packetText, rowText}
 
 drop-past : (at : ℕ) (xs : List ℕ) → length xs ≤ at → drop at xs ≡ []
 drop-past at xs h =
@@ -50,3 +52,16 @@ octets-out tallies l h = sym (ap (λ (x : LaneTally). x .octets) (List·getD-eq-
 pub wrote-row : {r q : Row} {area : List ℕ} {from : ℕ} {area′ : List ℕ} {end : ℕ} → r ≡ q → Wrote 147 (rowText r) area from area′ end
     → Wrote 147 (rowText q) area from area′ end
 wrote-row {area = area} {from = from} {area′ = area′} {end = end} e w = subst (λ (x : Row). Wrote 147 (rowText x) area from area′ end) e w
+
+module _ (r : Row) where
+  abbrev fields : List ℕ
+  fields = r .lane ∷ r .offset ∷ r .length ∷ r .frame ∷ r .count ∷ r .apid ∷ r .sequence ∷ []
+
+  pub packet-strung : r .packets ≡ true
+      → strung ([] ∷ text "," ∷ text "," ∷ text "," ∷ text "," ∷ text "," ∷ text "," ∷ []) fields (text "\n") ≡ rowText r
+  unfolding strung rowText placeText frameText packetText
+  packet-strung h = rw h (simp append-assoc)
+
+  pub access-strung : r .packets ≡ false → strung ([] ∷ text "," ∷ text "," ∷ text "," ∷ text "," ∷ []) fields (text ",," ++ text "\n") ≡ rowText r
+  unfolding strung rowText placeText frameText packetText
+  access-strung h = rw h (simp append-assoc)

@@ -5,7 +5,7 @@ ghost use lib.ListN.{length, getD};
 ghost use Rattle.rules.specs.Settings.{noLane};
 ghost use Rattle.unpack_text.specs.Totals.{noLaneTally};
 ghost use Rattle.unpack_text.specs.Lines.{Wrote};
-ghost use Rattle.unit_table.specs.Rows.{tableTitle, isPackets, originOf, numberAt, rowOf, placeText, frameText, packetText, rowText, rowsText};
+ghost use Rattle.unit_table.specs.Rows.{tableTitle, isPackets, originOf, numberAt, rowOf, rowText, rowsText};
 use rules::Kind;
 use rules::Lane;
 use rules::Setting;
@@ -130,46 +130,24 @@ fn row_of(g: Origin, units: &[u8], records: &[u8], i: usize) -> Row
     }
 }
 
-// Puts where a unit stands, and how long it is.
-fn put_place(area: &mut [u8], from: usize, r: Row) -> usize
-    requires { ⌜ from + 62 ≤ length (now area) ⌝ }
-    ensures { λ e. ⌜ Wrote 62 (placeText r) (now (area .entry)) from (now (area .exit)) e ⌝ }
-{
-    let at = listing_text::put_decimal(area, from, r.lane);
-    let at = unpack_text::put_named(area, at, b",", r.offset);
-    unpack_text::put_named(area, at, b",", r.length)
-}
-
-// Puts the frame that finished a unit, and its count.
-fn put_frame(area: &mut [u8], from: usize, r: Row) -> usize
-    requires { ⌜ from + 42 ≤ length (now area) ⌝ }
-    ensures { λ e. ⌜ Wrote 42 (frameText r) (now (area .entry)) from (now (area .exit)) e ⌝ }
-{
-    let at = unpack_text::put_named(area, from, b",", r.frame);
-    unpack_text::put_named(area, at, b",", r.count)
-}
-
-// Puts what a packet says of itself; of an access unit nothing.
-fn put_packet(area: &mut [u8], from: usize, r: Row) -> usize
-    requires { ⌜ from + 42 ≤ length (now area) ⌝ }
-    ensures { λ e. ⌜ Wrote 42 (packetText r) (now (area .entry)) from (now (area .exit)) e ⌝ }
-{
-    if r.packets {
-        let at = unpack_text::put_named(area, from, b",", r.apid);
-        return unpack_text::put_named(area, at, b",", r.sequence);
-    }
-    listing_text::put_text(area, from, b",,")
-}
-
-// Puts the line of a unit.
+// Puts the line of a unit; what a packet says of itself is not said of an access unit.
 fn put_row(area: &mut [u8], from: usize, r: Row) -> usize
     requires { ⌜ from + 147 ≤ length (now area) ⌝ }
     ensures { λ e. ⌜ Wrote 147 (rowText r) (now (area .entry)) from (now (area .exit)) e ⌝ }
 {
-    let at = put_place(area, from, r);
-    let at = put_frame(area, at, r);
-    let at = put_packet(area, at, r);
-    listing_text::put_octet(area, at, b'\n')
+    let values = [
+        r.lane,
+        r.offset,
+        r.length,
+        r.frame,
+        r.count,
+        r.apid,
+        r.sequence,
+    ];
+    if r.packets {
+        return listing_text::put_filled(area, from, b"#,#,#,#,#,#,#\n", &values);
+    }
+    listing_text::put_filled(area, from, b"#,#,#,#,#,,\n", &values)
 }
 
 // ---- the table

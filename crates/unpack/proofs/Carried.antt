@@ -3,18 +3,17 @@ use Prim.Native.Nat.{ℕ, _+_, _*_, _≤_, _<_}
 use mathlib.Core.Path.{_≡_, refl, sym, ap, ap₂, subst, _∙_}
 use mathlib.Core.Bool.{Bool, true, false, cond, false≢true}
 use mathlib.Core.List.{List, [], _∷_, _++_}
-use lib.ListN.{take, length-append, replicate}
+use lib.ListN.{length, take, length-append, replicate}
 use native.Mathlib.Omega.{arith}
 use borrow.Author.Tests.{ne-eqb}
 use Rattle.rules.specs.declared.Answer.{Answer}
 use Rattle.rules.specs.declared.Listener.{Listener}
-use Rattle.rules.specs.declared.Reader.{Reader}
 use Rattle.rules.specs.declared.Setting.{Setting}
-use Rattle.rules.specs.declared.Taken.{Taken}
 use Rattle.rules.specs.declared.Verdict.{Verdict}
 use Rattle.rules.specs.Settings.{settingOk, readerOk}
 use Rattle.rules.specs.Calls.{Got, read, verdict}
 use Rattle.rules.proofs.Calls.{setup-accepted, read-valid, Small, read-fits}
+use Rattle.reader.specs.declared.Whose.{Whose}
 use Rattle.refusals.specs.declared.Totals.{Totals}
 use Rattle.refusals.specs.Counts.{totalled}
 use Rattle.unit_table.specs.declared.Origin.{Origin}
@@ -22,10 +21,12 @@ use Rattle.unit_table.specs.Rows.{originOf}
 use Rattle.unpack_text.specs.declared.Tally.{Tally}
 use Rattle.unpack_text.specs.Lines.{Wrote, frameLine}
 use Rattle.unpack.specs.declared.each_frame.Came.{Came}
+use Rattle.unpack.specs.declared.each_frame.Went.{Went}
+use Rattle.unpack.specs.declared.each_frame.Step.{Step}
 use Rattle.unpack.specs.declared.each_frame.Turn.{Turn}
 use Rattle.unpack_text.proofs.Cuts.{wrote-front}
 use Rattle.unpack.specs.Stages.{Stage, got, ruled, told, advanced, through, begun, Reached}
-use Rattle.unpack.specs.Stages.{Took, Handed, Handled, Turned, Finished, taken, takenTurn, haltedTurn, firstTurn}
+use Rattle.unpack.specs.Stages.{stepOf, AreasFit, Gave, Handed, Handled, Turned, Finished, taken, takenTurn, haltedTurn, firstTurn}
 use Rattle.rules.specs.Areas.{heldSize, recordSize, recordsSize, unitsSize}
 
 -- ---- stages
@@ -79,7 +80,7 @@ pub turned-on : {g₀ : Stage} {u : Turn} {c : Came} {g : Stage} {area : List �
 unfolding takenTurn haltedTurn
 turned-on {g₀} {u} {c} {g} {area} {u′} {g′} p t = by (taken c) (t .stage) (t .turn)
   where
-    by : (b : Bool) → g′ ≡ cond b (advanced g (take (c .octets) area)) g → u′ ≡ cond b (takenTurn u c g′ (u′ .went)) (haltedTurn u c)
+    by : (b : Bool) → g′ ≡ cond b (advanced g (take (c .octets) area)) g → u′ ≡ cond b (takenTurn u c (g′ .reader) (g′ .totals) (u′ .went)) (haltedTurn u c)
         → Reached g₀ (u′ .count) g′ × (u′ .more ≡ true → u .count < u′ .count)
     by true e q =
         let n : u′ .count ≡ u .count + 1 = ap (λ (x : Turn). x .count) q in
@@ -114,45 +115,7 @@ module _ (u : Turn) (c : Came) where
   pub takes : (g : Stage) (area : List ℕ) {u′ : Turn} {g′ : Stage} → taken c ≡ true → Handled u c g (take (c .octets) area) u′ g′ → Turned u c g area u′ g′
   takes g area h t = record { stage = rw h (t .stage); turn = rw h (t .turn) }
 
--- What came stands in the turn.
-pub turned-came : {u : Turn} {c : Came} {g : Stage} {area : List ℕ} {u′ : Turn} {g′ : Stage} → Turned u c g area u′ g′ → Turned u (u′ .came) g area u′ g′
-unfolding takenTurn haltedTurn
-turned-came {u} {c} {g} {area} {u′} {g′} t = subst (λ (x : Came). Turned u x g area u′ g′) (sym (by (taken c) (t .turn))) t
-  where
-    by : (b : Bool) → u′ ≡ cond b (takenTurn u c g′ (u′ .went)) (haltedTurn u c) → u′ .came ≡ c
-    by true e = ap (λ (x : Turn). x .came) e
-    by false e = ap (λ (x : Turn). x .came) e
-
 -- ---- one frame
-
--- What it gave fits the areas.
-pub gave-fits : {k : ℕ} {g : Stage} {f area : List ℕ} {g′ : Stage} {area′ : List ℕ} {v : Verdict} {a : Answer} {o : Origin} {end : ℕ}
-    → Took k g f area g′ area′ v a o end → (a .octets ≤ unitsSize) × (recordSize * a .units ≤ recordsSize)
-unfolding told got
-gave-fits {k} {g} {f} t =
-    let s : Small ((read (g .reader) f (g .held) (g .units) (g .records)) .taken .answer) = read-fits (g .reader) f (g .held) (g .units) (g .records) in
-    (omega (arith, s .octets, ap (λ (x : Answer). x .octets) (t .answer)), omega (arith, s .records, ap (λ (x : Answer). x .units) (t .answer)))
-
-module _ (k : ℕ) (r : Reader) (t : Totals) (f h u c area : List ℕ) where
-  -- The read, whose the frame is, the totals, and the line.
-  pub took : (n : Taken) (h′ u′ c′ : List ℕ) (v : Verdict) (o : Origin) (t′ : Totals) (area′ : List ℕ) (end : ℕ)
-      → record { taken = n; heldArea = h′; unitArea = u′; recordArea = c′ } ≡ read r f h u c
-      → v ≡ verdict r f h u c → o ≡ originOf (r .setting) (t .tally) k v → t′ ≡ totalled (r .setting) t v (n .answer) f
-      → Wrote 176 (frameLine k v (n .answer)) area 0 area′ end
-      → Took k (record { reader = r; held = h; units = u; records = c; totals = t }) f area
-      (record { reader = n .state; held = h′; units = u′; records = c′; totals = t′ }) area′ v (n .answer) o end
-  unfolding advanced got ruled told
-  took n h′ u′ c′ v o t′ area′ end e y x q l =
-      let a : n .answer ≡ (read r f h u c) .taken .answer = ap (λ (x : Got). x .taken .answer) e in
-      record {
-        stage =
-            ap₂ (λ (x : Got) (w : Totals). record { reader = x .taken .state; held = x .heldArea; units = x .unitArea; records = x .recordArea; totals = w }) e
-            (q ∙ ap₂ (λ (w : Verdict) (b : Answer). totalled (r .setting) t w b f) y a);
-        line = l;
-        whose = y;
-        answer = a;
-        origin = x;
-      }
 
 origin-frame : (s : Setting) (t : Tally) (k : ℕ) (v : Verdict) → (originOf s t k v) .frame ≡ k
 unfolding originOf
@@ -161,21 +124,70 @@ origin-frame s t k Verdict.Idle = refl
 origin-frame s t k (Verdict.Counted c) = refl
 origin-frame s t k (Verdict.Read l) = refl
 
+-- A frame is read and taken.
+module _ (u : Turn) (f h us cs : List ℕ) (w : Whose) (h′ us′ cs′ : List ℕ) (p : Step)
+    (e : record { taken = w .taken; heldArea = h′; unitArea = us′; recordArea = cs′ } ≡ read (u .state) f h us cs)
+    (y : w .verdict ≡ verdict (u .state) f h us cs) (q : p ≡ stepOf (u .count) (u .state) (u .totals) w f) where
+  abbrev before : Stage
+  before = record { reader = u .state; held = h; units = us; records = cs; totals = u .totals }
+
+  answer-is : w .taken .answer ≡ (read (u .state) f h us cs) .taken .answer
+  answer-is = ap (λ (x : Got). x .taken .answer) e
+
+  stage-is : record { reader = p .state; held = h′; units = us′; records = cs′; totals = p .totals } ≡ advanced before f
+  unfolding stepOf advanced got ruled told
+  stage-is =
+      ap (λ (x : Step). record { reader = x .state; held = h′; units = us′; records = cs′; totals = x .totals }) q
+      ∙ ap₂ (λ (x : Got) (t : Totals). record { reader = x .taken .state; held = x .heldArea; units = x .unitArea; records = x .recordArea; totals = t }) e
+      (ap₂ (λ (v : Verdict) (a : Answer). totalled (u .state .setting) (u .totals) v a f) y answer-is)
+
+  -- What it gave fits the areas.
+  pub gives : AreasFit (u .count) us cs → length us′ ≡ length us → length cs′ ≡ length cs → Gave (p .origin) (p .verdict) (p .answer) us′ cs′
+  unfolding stepOf ruled told got
+  gives fit l m =
+      let r = u .state .setting in
+      let t = u .totals .tally in
+      let s : Small ((read (u .state) f h us cs) .taken .answer) = read-fits (u .state) f h us cs in
+      let a : p .answer ≡ (read (u .state) f h us cs) .taken .answer = ap (λ (x : Step). x .answer) q ∙ answer-is in
+      record {
+        stage = before;
+        frame = f;
+        whose = ap (λ (x : Step). x .verdict) q ∙ y;
+        answer = a;
+        origin =
+            subst (λ (x : Step). x .origin ≡ originOf r t (x .origin .frame) (x .verdict)) (sym q)
+            (ap (λ (i : ℕ). originOf r t i (w .verdict)) (sym (origin-frame r t (u .count) (w .verdict))));
+        units = ap (λ (x : Stage). x .units) stage-is;
+        records = ap (λ (x : Stage). x .records) stage-is;
+        room = (
+          omega (arith, s .octets, ap (λ (x : Answer). x .octets) a, fit .units),
+          omega (arith, s .records, ap (λ (x : Answer). x .units) a),
+          omega (arith, fit .records),
+        );
+      }
+
+  pub handles : (c : Came) (went : Went) (u′ : Turn) → u′ ≡ takenTurn u c (p .state) (p .totals) went
+      → Handled u c before f u′ (record { reader = u′ .state; held = h′; units = us′; records = cs′; totals = u′ .totals })
+  unfolding takenTurn
+  handles c went u′ v =
+      record {
+        stage = ap (λ (x : Turn). record { reader = x .state; held = h′; units = us′; records = cs′; totals = x .totals }) v ∙ stage-is;
+        turn = subst (λ (x : Turn). x ≡ takenTurn u c (x .state) (x .totals) (x .went)) (sym v) refl;
+      }
+
 -- What is cut out of the areas, as the read left them, is what is handed out.
-pub handed : {k : ℕ} {g : Stage} {f area : List ℕ} {g′ : Stage} {area′ : List ℕ} {v : Verdict} {a : Answer} {o : Origin} {end : ℕ}
-    → Took k g f area g′ area′ v a o end
-    → Handed o v a (take end area′) (take (a .octets) (g′ .units)) (take (recordSize * a .units) (g′ .records))
-handed {k} {g} {f} {area} {g′} {area′} {v} {a} {o} t =
-    let n : o .frame ≡ k = ap (λ (x : Origin). x .frame) (t .origin) ∙ origin-frame (g .reader .setting) (g .totals .tally) k v in
+pub handed : {o : Origin} {v : Verdict} {a : Answer} {us cs area area′ : List ℕ} {end : ℕ} → Gave o v a us cs
+    → Wrote 176 (frameLine (o .frame) v a) area 0 area′ end → Handed o v a (take end area′) (take (a .octets) us) (take (recordSize * a .units) cs)
+handed {a = a} g l =
     record {
-      line = wrote-front (t .line) ∙ ap (λ (i : ℕ). frameLine i v a) (sym n);
-      stage = g;
-      frame = f;
-      whose = t .whose;
-      answer = t .answer;
-      origin = t .origin ∙ ap (λ (i : ℕ). originOf (g .reader .setting) (g .totals .tally) i v) (sym n);
-      units = ap (λ (x : Stage). take (a .octets) (x .units)) (t .stage);
-      records = ap (λ (x : Stage). take (recordSize * a .units) (x .records)) (t .stage);
+      line = wrote-front l;
+      stage = g .stage;
+      frame = g .frame;
+      whose = g .whose;
+      answer = g .answer;
+      origin = g .origin;
+      units = ap (take (a .octets)) (g .units);
+      records = ap (take (recordSize * a .units)) (g .records);
     }
 
 -- A read gives no more units than the table has room for.

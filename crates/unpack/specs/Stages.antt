@@ -11,7 +11,8 @@ use Rattle.rules.specs.declared.Verdict.{Verdict}
 use Rattle.rules.specs.Tests.{_=?_}
 use Rattle.rules.specs.Settings.{readerOk}
 use Rattle.rules.specs.Calls.{setUpReader, Got, read, verdict}
-use Rattle.unpack_text.specs.Lines.{Wrote, frameLine}
+use Rattle.unpack_text.specs.Lines.{frameLine}
+use Rattle.reader.specs.declared.Whose.{Whose}
 use Rattle.refusals.specs.declared.Totals.{Totals}
 use Rattle.refusals.specs.Counts.{totalled, noTotals}
 use Rattle.unit_table.specs.declared.Origin.{Origin}
@@ -19,6 +20,7 @@ use Rattle.unit_table.specs.Rows.{originOf}
 use Rattle.unpack.specs.declared.each_frame.Came.{Came}
 use Rattle.unpack.specs.declared.each_frame.Went.{Went}
 use Rattle.unpack.specs.declared.each_frame.Went.the-variants.{Well, NotRead, NotPrinted, NotWritten}
+use Rattle.unpack.specs.declared.each_frame.Step.{Step}
 use Rattle.unpack.specs.declared.each_frame.Turn.{Turn}
 use Rattle.rules.specs.Areas.{heldSize, recordSize, recordsSize, unitsSize}
 
@@ -73,13 +75,16 @@ pub record Reached (g₀ : Stage) (k : ℕ) (g : Stage) : Type 0 where
   pub stage : g ≡ through g₀ frames
   pub valid : readerOk (g .reader) ≡ true
 
--- Frame k was taken: the stage after it, its line in the area, whose it is, its answer, and where its units come from.
-pub record Took (k : ℕ) (g : Stage) (f area : List ℕ) (g′ : Stage) (area′ : List ℕ) (v : Verdict) (a : Answer) (o : Origin) (end : ℕ) : Type 0 where
-  pub stage : g′ ≡ advanced g f
-  pub line : Wrote 176 (frameLine k v a) area 0 area′ end
-  pub whose : v ≡ ruled g f
-  pub answer : a ≡ told g f
-  pub origin : o ≡ originOf (g .reader .setting) (g .totals .tally) k v
+-- Frame k, read from this state with this result: state and totals after it, whose it is, its answer, and where its units come from.
+unfoldable pub stepOf : ℕ → Reader → Totals → Whose → List ℕ → Step
+stepOf k r t w f =
+    record {
+      state = w .taken .state;
+      totals = totalled (r .setting) t (w .verdict) (w .taken .answer) f;
+      verdict = w .verdict;
+      answer = w .taken .answer;
+      origin = originOf (r .setting) (t .tally) k (w .verdict);
+    }
 
 -- Areas in which a turn has room, and a frame number that another one follows.
 pub record AreasFit (k : ℕ) (u c : List ℕ) : Type 0 where
@@ -95,6 +100,18 @@ outputOf (Verdict.Refused n) = 10
 outputOf Verdict.Idle = 10
 outputOf (Verdict.Counted c) = 10
 outputOf (Verdict.Read l) = l
+
+-- The unit and record areas as the rules' read of a frame, with this verdict and answer, leaves them, with room for what it gave; and where its
+-- units come from.
+pub record Gave (o : Origin) (v : Verdict) (a : Answer) (u c : List ℕ) : Type 0 where
+  pub stage : Stage
+  pub frame : List ℕ
+  pub whose : v ≡ ruled stage frame
+  pub answer : a ≡ told stage frame
+  pub origin : o ≡ originOf (stage .reader .setting) (stage .totals .tally) (o .frame) v
+  pub units : u ≡ (advanced stage frame) .units
+  pub records : c ≡ (advanced stage frame) .records
+  pub room : (a .octets ≤ length u) × (recordSize * a .units ≤ recordsSize) × (recordsSize ≤ length c)
 
 -- The octets that are handed out for a frame: its line, and the front of the unit and record areas as the rules' read of a frame, with this
 -- verdict and answer, leaves them; and where its units come from.
@@ -125,9 +142,9 @@ unfoldable pub taken : Came → Bool
 taken c = cond (c .failed) false (not (c .octets =? 0))
 
 -- A turn in which a frame came: one frame more.
-unfoldable pub takenTurn : Turn → Came → Stage → Went → Turn
-takenTurn u c g w =
-    record { state = g .reader; totals = g .totals; count = u .count + 1; came = c; went = w; more = goesOn (c .octets =? u .state .setting .length) w }
+unfoldable pub takenTurn : Turn → Came → Reader → Totals → Went → Turn
+takenTurn u c r t w =
+    record { state = r; totals = t; count = u .count + 1; came = c; went = w; more = goesOn (c .octets =? u .state .setting .length) w }
 
 -- "A recording that cannot be read is told apart from its end."
 unfoldable pub endingOf : Bool → Went
@@ -140,12 +157,12 @@ haltedTurn u c = record { state = u .state; totals = u .totals; count = u .count
 -- A turn with this frame, up to how the writes went.
 pub record Handled (u : Turn) (c : Came) (g : Stage) (f : List ℕ) (u′ : Turn) (g′ : Stage) : Type 0 where
   pub stage : g′ ≡ advanced g f
-  pub turn : u′ ≡ takenTurn u c g′ (u′ .went)
+  pub turn : u′ ≡ takenTurn u c (g′ .reader) (g′ .totals) (u′ .went)
 
 -- A turn in which this came into the frame area, up to how the writes went: the frame is what came.
 pub record Turned (u : Turn) (c : Came) (g : Stage) (area : List ℕ) (u′ : Turn) (g′ : Stage) : Type 0 where
   pub stage : g′ ≡ cond (taken c) (advanced g (take (c .octets) area)) g
-  pub turn : u′ ≡ cond (taken c) (takenTurn u c g′ (u′ .went)) (haltedTurn u c)
+  pub turn : u′ ≡ cond (taken c) (takenTurn u c (g′ .reader) (g′ .totals) (u′ .went)) (haltedTurn u c)
 
 -- Before the first.
 unfoldable pub firstTurn : Setting → Turn

@@ -7,13 +7,14 @@
 // titles, and the text of all totals (`hand_totals`). Shown by runs: what no contract can follow into the system.
 ghost use mathlib.Core.Path.{_≡_};
 ghost use mathlib.Core.Bool.{true};
-ghost use Prim.Native.Nat.{_≤_};
+ghost use Prim.Native.Nat.{_≤_, _<_};
 ghost use lib.ListN.{length};
 ghost use Rattle.rules.specs.Settings.{settingOk, readerOk};
 ghost use Rattle.unpack_text.specs.Lines.{title};
 ghost use Rattle.refusals.specs.Words.{totalsText};
 ghost use Rattle.unit_table.specs.Rows.{tableTitle, rowsText};
-ghost use Rattle.unpack.specs.Stages.{Took, AreasFit, Handed, Handled, Turned, Finished, firstTurn, endingOf, haltedTurn, outputOf, wellGone, goesOn};
+ghost use Rattle.unpack.specs.Stages.{stepOf, AreasFit, Gave, Handed, Handled, Turned, Finished, takenTurn, firstTurn, endingOf, haltedTurn, outputOf, wellGone, goesOn};
+use reader::Whose;
 use refusals::Totals;
 use rules::Answer;
 use rules::Reader;
@@ -44,14 +45,13 @@ pub struct Sinks {
     pub table: bool,
 }
 
-// A frame taken: state and totals after it, whose it is, its answer, where its units come from, and where its line ends.
+// A frame taken: state and totals after it, whose it is, its answer, and where its units come from.
 struct Step {
     state: Reader,
     totals: Totals,
     verdict: Verdict,
     answer: Answer,
     origin: Origin,
-    end: usize,
 }
 
 // A turn: state and totals after it, how many frames there were, what came, how it went, and whether there may be more.
@@ -92,37 +92,23 @@ fn read_frame(fd: i32, frame: &mut [u8], size: usize) -> Came
     }
 }
 
-// Reads frame k, takes it into the totals, and puts its line into `area`.
-fn take_frame(
-    k: u64,
-    r: Reader,
-    t: Totals,
-    frame: &[u8],
-    held: &mut [u8],
-    units: &mut [u8],
-    records: &mut [u8],
-    area: &mut [u8],
-) -> Step
-    requires { ⌜ (readerOk r ≡ true) × (176 ≤ length (now area)) ⌝ }
-    ensures { λ p. ⌜ Took k (record { reader = r; held = now (held .entry); units = now (units .entry); records = now (records .entry); totals = t }) (now (frame .entry)) (now (area .entry)) (record { reader = p .state; held = now (held .exit); units = now (units .exit); records = now (records .exit); totals = p .totals }) (now (area .exit)) (p .verdict) (p .answer) (p .origin) (p .end) ⌝ }
+// Takes frame k, which was read from this state with this result, into the totals.
+fn take_frame(k: u64, r: Reader, t: Totals, w: Whose, frame: &[u8]) -> Step
+    ensures { λ p. ⌜ p ≡ stepOf k r t w (now (frame .entry)) ⌝ }
 {
-    let w = reader::read_whose(r, frame, held, units, records);
-    let g = w.taken;
     let v = w.verdict;
-    let a = g.answer;
-    let after = g.state;
+    let a = w.taken.answer;
+    let state = w.taken.state;
     let s = r.setting;
     let x = t.tally;
     let origin = unit_table::origin_of(s, x, k, v);
     let totals = refusals::count_frame(s, t, v, a, frame);
-    let end = unpack_text::put_line(area, 0, k, v, a);
     Step {
-        state: after,
+        state: state,
         totals: totals,
         verdict: v,
         answer: a,
         origin: origin,
-        end: end,
     }
 }
 
@@ -252,25 +238,57 @@ fn put_out(
     went
 }
 
+// Puts a frame's line, and hands it out with what the frame gave, out of the areas as its read left them.
+fn give_out(p: Step, o: Sinks, units: &[u8], records: &[u8]) -> Went
+    requires { ⌜ Gave (p .origin) (p .verdict) (p .answer) (now units) (now records) ⌝ }
+{
+    let g = p.origin;
+    let v = p.verdict;
+    let a = p.answer;
+    let mut area = [0u8; 176];
+    let end = unpack_text::put_line(&mut area, 0, g.frame, v, a);
+    let n = a.octets;
+    let c = rules::RECORD_SIZE * a.units;
+    put_out(g, v, a, o, &area[..end], &units[..n], &records[..c])
+}
+
 // Says how far the program is, where that is due and all went well.
 fn say_progress(went: Went, count: u64, o: Sinks) {
     let good = well(went);
     if good {
-        let due = progress::is_due(count);
+        let due = console::progress::is_due(count);
         if due {
-            let live = progress::is_live();
-            progress::say_far(b"unpack", count, o.hundredth, count, live);
+            let live = console::progress::is_live();
+            console::progress::say_far(b"unpack", count, o.hundredth, count, live);
         }
     }
 }
 
 // ---- frame by frame
 
+// The turn in which a frame came, and what it gave was handed out.
+fn turn_after(u: Turn, came: Came, p: Step, went: Went) -> Turn
+    requires { ⌜ u .count < 18446744073709551615 ⌝ }
+    ensures { λ v. ⌜ v ≡ takenTurn u came (p .state) (p .totals) went ⌝ }
+{
+    let more = goes_on(came.octets == u.state.setting.length, went);
+    let state = p.state;
+    let totals = p.totals;
+    Turn {
+        state: state,
+        totals: totals,
+        count: u.count + 1,
+        came: came,
+        went: went,
+        more: more,
+    }
+}
+
 // Takes the frame that came, prints its line, and writes what it gave.
 fn handle(
     u: Turn,
     came: Came,
-    sinks: Sinks,
+    o: Sinks,
     frame: &[u8],
     held: &mut [u8],
     units: &mut [u8],
@@ -281,29 +299,12 @@ fn handle(
 {
     let r = u.state;
     let t = u.totals;
-    let s = r.setting;
-    let k = u.count;
-    let mut area = [0u8; 176];
-    let p = take_frame(k, r, t, frame, held, units, records, &mut area);
-    let v = p.verdict;
-    let a = p.answer;
-    let end = p.end;
-    let o = a.octets;
-    let c = rules::RECORD_SIZE * a.units;
-    let g = p.origin;
-    let went = put_out(g, v, a, sinks, &area[..end], &units[..o], &records[..c]);
-    say_progress(went, k + 1, sinks);
-    let more = goes_on(came.octets == s.length, went);
-    let after = p.state;
-    let totals = p.totals;
-    Turn {
-        state: after,
-        totals: totals,
-        count: k + 1,
-        came: came,
-        went: went,
-        more: more,
-    }
+    let w = reader::read_whose(r, frame, held, units, records);
+    let p = take_frame(u.count, r, t, w, frame);
+    let went = give_out(p, o, units, records);
+    let v = turn_after(u, came, p, went);
+    say_progress(went, v.count, o);
+    v
 }
 
 // How reading went.
@@ -333,8 +334,8 @@ fn halted(u: Turn, came: Came) -> Turn
     }
 }
 
-// Takes what came into the front of the frame area, if that is a frame.
-fn take_came(
+// Takes, prints and writes the frame that came into the front of the frame area, if one came.
+fn turn_frame(
     u: Turn,
     came: Came,
     o: Sinks,
@@ -354,25 +355,6 @@ fn take_came(
         return halted(u, came);
     }
     handle(u, came, o, &frame[..m], held, units, records)
-}
-
-// Reads, takes, prints and writes the next frame, if there is one.
-fn turn_frame(
-    u: Turn,
-    fd: i32,
-    o: Sinks,
-    frame: &mut [u8],
-    held: &mut [u8],
-    units: &mut [u8],
-    records: &mut [u8],
-) -> Turn
-    requires { ⌜ (readerOk (u .state) ≡ true) × AreasFit (u .count) (now units) (now records) × (4096 ≤ length (now frame)) ⌝ }
-    ensures { λ v. ⌜ Turned u (v .came) (record { reader = u .state; held = now (held .entry); units = now (units .entry); records = now (records .entry); totals = u .totals }) (now (frame .exit)) v (record { reader = v .state; held = now (held .exit); units = now (units .exit); records = now (records .exit); totals = v .totals }) ⌝ }
-{
-    let r = u.state;
-    let s = r.setting;
-    let came = read_frame(fd, frame, s.length);
-    take_came(u, came, o, frame, held, units, records)
 }
 
 // Before the first frame.
@@ -408,7 +390,8 @@ pub fn take_all(s: Setting, fd: i32, o: Sinks) -> Turn
     let mut u = first_turn(s);
     let mut k: u64 = 0;
     while k < 18446744073709551615 {
-        u = turn_frame(u, fd, o, &mut frame, &mut held, &mut units, &mut records);
+        let came = read_frame(fd, &mut frame, u.state.setting.length);
+        u = turn_frame(u, came, o, &frame, &mut held, &mut units, &mut records);
         k = u.count;
         if u.more {} else {
             break;

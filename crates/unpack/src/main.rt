@@ -3,8 +3,6 @@
 // the system.
 ghost use mathlib.Core.Path.{_≡_};
 ghost use mathlib.Core.Bool.{true};
-ghost use Prim.Native.Nat.{_+_, _≤_};
-ghost use lib.ListN.{length};
 ghost use Rattle.io.specs.Counts.{Counts};
 ghost use Rattle.rules.specs.Settings.{settingOk, readerOk};
 ghost use Rattle.refusals.specs.Words.{commonText, firstText};
@@ -23,10 +21,10 @@ use refusals::Totals;
 use rules::Reader;
 use rules::Setting;
 use setting_file::Loaded;
-use unpack_start::Little;
-use unpack_start::Prefix;
 use words::Asked;
 use words::Start;
+use words::unpack_start::Little;
+use words::unpack_start::Prefix;
 
 // What a run has: the plan of its outputs, where its octets go, and what no output may replace, as the system knows it.
 struct Job {
@@ -42,18 +40,15 @@ struct Outcome {
 }
 
 // Once all outputs are written: they are put on the device, what has their names is looked at once more, and they get them.
-fn settle(job: Job, name: &mut [u8], n: usize) -> bool
-    requires { ⌜ n + 51 ≤ length (now name) ⌝ }
-{
+fn settle(job: Job, prefix: &[u8]) -> bool {
     let p = job.plan;
-    let o = job.sinks;
-    let fds = o.fds;
-    let kept = outputs::keep_all(p, fds, name, n);
+    let fds = job.sinks.fds;
+    let kept = outputs::keep_all(p, fds, prefix);
     if kept {
         let f = job.kept;
-        let may = outputs::may_take_all(p, name, n, f);
+        let may = outputs::may_take_all(p, prefix, f);
         if may {
-            return outputs::give_names(p, name, n);
+            return outputs::give_names(p, prefix);
         }
     }
     false
@@ -77,14 +72,12 @@ fn say_done(count: u64) {
 }
 
 // Says what failed in a turn, if anything did.
-fn say_went(went: Went, recording: &[u8], p: Plan, name: &mut [u8], n: usize)
-    requires { ⌜ n + 51 ≤ length (now name) ⌝ }
-{
+fn say_went(went: Went, recording: &[u8], p: Plan, prefix: &[u8]) {
     match went {
         Went::Well => {}
         Went::NotRead => say_failed(recording),
         Went::NotPrinted => say_failed(b"standard output"),
-        Went::NotWritten(i) => outputs::say_part(p, name, n, i),
+        Went::NotWritten(i) => outputs::say_part(p, prefix, i),
     }
 }
 
@@ -164,9 +157,8 @@ fn say_few(few: Little, recording: &[u8]) -> bool {
 
 // Says that little was read, and what to look at, where it is so.
 fn say_little(recording: &[u8], t: Totals, own: u16) {
-    let x = t.tally;
-    let k = x.classes;
-    let few = unpack_start::little_of(k.read, k.refused);
+    let k = t.tally.classes;
+    let few = words::unpack_start::little_of(k.read, k.refused);
     let little = say_few(few, recording);
     if little {
         let r = t.refusals;
@@ -177,38 +169,30 @@ fn say_little(recording: &[u8], t: Totals, own: u16) {
 // ---- the program
 
 // Once every frame is taken: prints the totals, and settles the outputs.
-fn finish(r: Reader, t: Totals, job: Job, name: &mut [u8], n: usize) -> bool
-    requires { ⌜ (readerOk r ≡ true) × (n + 51 ≤ length (now name)) ⌝ }
+fn finish(r: Reader, t: Totals, job: Job, prefix: &[u8]) -> bool
+    requires { ⌜ readerOk r ≡ true ⌝ }
 {
     let printed = each_frame::print_totals(r, t);
     if printed {
-        return settle(job, name, n);
+        return settle(job, prefix);
     }
     false
 }
 
 // The same, and says that little was read, where it is so.
-fn conclude(r: Reader, t: Totals, recording: &[u8], job: Job, name: &mut [u8], n: usize) -> bool
-    requires { ⌜ (readerOk r ≡ true) × (n + 51 ≤ length (now name)) ⌝ }
+fn conclude(r: Reader, t: Totals, recording: &[u8], job: Job, prefix: &[u8]) -> bool
+    requires { ⌜ readerOk r ≡ true ⌝ }
 {
-    let s = r.setting;
-    let whole = finish(r, t, job, name, n);
+    let whole = finish(r, t, job, prefix);
     if whole {
-        say_little(recording, t, s.craft);
+        say_little(recording, t, r.setting.craft);
     }
     whole
 }
 
 // Takes all frames, and concludes where all went well.
-fn take_and_conclude(
-    s: Setting,
-    fd: i32,
-    recording: &[u8],
-    job: Job,
-    name: &mut [u8],
-    n: usize,
-) -> Outcome
-    requires { ⌜ (settingOk s ≡ true) × (n + 51 ≤ length (now name)) ⌝ }
+fn take_and_conclude(s: Setting, fd: i32, recording: &[u8], job: Job, prefix: &[u8]) -> Outcome
+    requires { ⌜ settingOk s ≡ true ⌝ }
 {
     let o = job.sinks;
     let u = each_frame::take_all(s, fd, o);
@@ -217,14 +201,14 @@ fn take_and_conclude(
     if good {
         let r = u.state;
         let t = u.totals;
-        let whole = conclude(r, t, recording, job, name, n);
+        let whole = conclude(r, t, recording, job, prefix);
         return Outcome {
             count: u.count,
             whole: whole,
         };
     }
     let p = job.plan;
-    say_went(went, recording, p, name, n);
+    say_went(went, recording, p, prefix);
     Outcome {
         count: u.count,
         whole: false,
@@ -232,35 +216,30 @@ fn take_and_conclude(
 }
 
 // Starts the table of units, if there is one; whether that went well.
-fn start_table(recording: &[u8], job: Job, name: &mut [u8], n: usize) -> bool
-    requires { ⌜ n + 51 ≤ length (now name) ⌝ }
-{
+fn start_table(recording: &[u8], job: Job, prefix: &[u8]) -> bool {
     let o = job.sinks;
     let p = job.plan;
     let went = each_frame::start_table(o);
-    say_went(went, recording, p, name, n);
+    say_went(went, recording, p, prefix);
     each_frame::well(went)
 }
 
 // Prints the title, and starts the table of units; whether that went well.
-fn start_all(recording: &[u8], job: Job, name: &mut [u8], n: usize) -> bool
-    requires { ⌜ n + 51 ≤ length (now name) ⌝ }
-{
-    let o = job.sinks;
-    let titled = each_frame::print_title(o.quiet);
+fn start_all(recording: &[u8], job: Job, prefix: &[u8]) -> bool {
+    let titled = each_frame::print_title(job.sinks.quiet);
     if titled {
-        return start_table(recording, job, name, n);
+        return start_table(recording, job, prefix);
     }
     false
 }
 
 // Unpacks into outputs that are open.
-fn unpack_all(s: Setting, fd: i32, recording: &[u8], job: Job, name: &mut [u8], n: usize) -> Outcome
-    requires { ⌜ (settingOk s ≡ true) × (n + 51 ≤ length (now name)) ⌝ }
+fn unpack_all(s: Setting, fd: i32, recording: &[u8], job: Job, prefix: &[u8]) -> Outcome
+    requires { ⌜ settingOk s ≡ true ⌝ }
 {
-    let started = start_all(recording, job, name, n);
+    let started = start_all(recording, job, prefix);
     if started {
-        return take_and_conclude(s, fd, recording, job, name, n);
+        return take_and_conclude(s, fd, recording, job, prefix);
     }
     Outcome {
         count: 0,
@@ -269,56 +248,16 @@ fn unpack_all(s: Setting, fd: i32, recording: &[u8], job: Job, name: &mut [u8], 
 }
 
 // Unpacks into outputs that are open, and says that it is done; or removes them.
-fn work(s: Setting, fd: i32, recording: &[u8], job: Job, name: &mut [u8], n: usize)
-    requires { ⌜ (settingOk s ≡ true) × (n + 51 ≤ length (now name)) ⌝ }
+fn work(s: Setting, fd: i32, recording: &[u8], job: Job, prefix: &[u8])
+    requires { ⌜ settingOk s ≡ true ⌝ }
 {
-    let e = unpack_all(s, fd, recording, job, name, n);
+    let e = unpack_all(s, fd, recording, job, prefix);
     if e.whole {
         say_done(e.count);
     } else {
         let p = job.plan;
-        let o = job.sinks;
-        let fds = o.fds;
-        outputs::remove_all(p, fds, name, n);
-    }
-}
-
-// Makes the outputs and unpacks.
-fn with_job(s: Setting, fd: i32, recording: &[u8], job: Job, name: &mut [u8], n: usize)
-    requires { ⌜ (settingOk s ≡ true) × (n + 51 ≤ length (now name)) ⌝ }
-{
-    let p = job.plan;
-    let mut fds = [-1i32; 10];
-    let made = outputs::make_all(p, name, n, &mut fds);
-    if made {
-        let f = job.kept;
-        let o = job.sinks;
-        let sinks = Sinks {
-            fds: fds,
-            hundredth: o.hundredth,
-            quiet: o.quiet,
-            table: o.table,
-        };
-        let open = Job {
-            plan: p,
-            sinks: sinks,
-            kept: f,
-        };
-        work(s, fd, recording, open, name, n);
-    } else {
-        outputs::remove_all(p, fds, name, n);
-    }
-}
-
-// The same, where no output would replace what it may not.
-fn with_plan(s: Setting, fd: i32, recording: &[u8], job: Job, name: &mut [u8], n: usize)
-    requires { ⌜ (settingOk s ≡ true) × (n + 51 ≤ length (now name)) ⌝ }
-{
-    let p = job.plan;
-    let f = job.kept;
-    let may = outputs::may_take_all(p, name, n, f);
-    if may {
-        with_job(s, fd, recording, job, name, n);
+        let fds = job.sinks.fds;
+        outputs::remove_all(p, fds, prefix);
     }
 }
 
@@ -332,21 +271,41 @@ fn hundredth_of(plain: bool, size: u64, length: usize) -> u64 {
     0
 }
 
-// Where octets go before there are outputs, and how far a recording goes: one that is no regular file says nothing of it.
-fn sinks_of(s: Setting, recording: Known, q: Asked) -> Sinks {
+// Where octets go, and how far a recording goes: one that is no regular file says nothing of it.
+fn sinks_of(s: Setting, recording: Known, q: Asked, fds: [i32; 10]) -> Sinks {
     let plain = files::regular(recording);
     let hundredth = hundredth_of(plain, recording.size, s.length);
     Sinks {
-        fds: [-1i32; 10],
+        fds: fds,
         hundredth: hundredth,
         quiet: q.first,
         table: q.second,
     }
 }
 
-// Draws the number of a run, for the names of its unfinished files, and goes on.
-fn with_name(s: Setting, fd: i32, recording: &[u8], f: Kept, q: Asked, name: &mut [u8], n: usize)
-    requires { ⌜ (settingOk s ≡ true) × (n + 51 ≤ length (now name)) ⌝ }
+// Makes the outputs and unpacks.
+fn with_plan(s: Setting, fd: i32, recording: &[u8], p: Plan, f: Kept, q: Asked, prefix: &[u8])
+    requires { ⌜ settingOk s ≡ true ⌝ }
+{
+    let made = outputs::make_all(p, prefix);
+    let fds = made.fds;
+    if made.good {
+        let b = f.recording;
+        let sinks = sinks_of(s, b, q, fds);
+        let job = Job {
+            plan: p,
+            sinks: sinks,
+            kept: f,
+        };
+        work(s, fd, recording, job, prefix);
+    } else {
+        outputs::remove_all(p, fds, prefix);
+    }
+}
+
+// Draws the number of a run, for the names of its unfinished files, and goes on, where no output would replace what it may not.
+fn with_name(s: Setting, fd: i32, recording: &[u8], f: Kept, q: Asked, prefix: &[u8])
+    requires { ⌜ settingOk s ≡ true ⌝ }
 {
     let mut drawn = [0u8; 8];
     let got = libc::getentropy(&mut drawn);
@@ -360,14 +319,10 @@ fn with_name(s: Setting, fd: i32, recording: &[u8], f: Kept, q: Asked, name: &mu
         lanes: s.numbered,
         table: q.second,
     };
-    let b = f.recording;
-    let sinks = sinks_of(s, b, q);
-    let job = Job {
-        plan: p,
-        sinks: sinks,
-        kept: f,
-    };
-    with_plan(s, fd, recording, job, name, n);
+    let may = outputs::may_take_all(p, prefix, f);
+    if may {
+        with_plan(s, fd, recording, p, f, q, prefix);
+    }
 }
 
 // A word of the command line: how many octets it has, and whether the system gave it. What it had against it is said by then.
@@ -415,7 +370,7 @@ fn say_prefix(what: Prefix, prefix: &[u8]) -> bool {
 // Whether names can begin with this prefix.
 fn good_prefix(prefix: &[u8]) -> bool {
     let k = files::of_name(prefix);
-    let what = unpack_start::prefix_of(prefix, k);
+    let what = words::unpack_start::prefix_of(prefix, k);
     say_prefix(what, prefix)
 }
 
@@ -431,9 +386,7 @@ fn with_prefix(s: Setting, q: Asked, fd: i32, recording: &[u8], f: Kept)
     let n = w.octets;
     let good = good_prefix(&prefix[..n]);
     if good {
-        let mut name = [0u8; 4147];
-        octets::copy(&mut name, &prefix[..n]);
-        with_name(s, fd, recording, f, q, &mut name, n);
+        with_name(s, fd, recording, f, q, &prefix[..n]);
     }
 }
 
@@ -547,9 +500,8 @@ fn with_words(q: Asked) {
     let n = w.octets;
     let mut area = [0u8; 65537];
     let l = load_from(&path[..n], &mut area);
-    let j = l.judged;
-    if j.good {
-        let s = j.setting;
+    if l.judged.good {
+        let s = l.judged.setting;
         let a = l.file;
         with_setting(s, q, a);
     }
@@ -561,7 +513,7 @@ fn with_words(q: Asked) {
 fn add_word(q: Asked, i: usize) -> Asked {
     let mut word = io::buffer();
     let n = os::arg(i, &mut word);
-    let w = unpack_start::word_of(&word[..n]);
+    let w = words::unpack_start::word_of(&word[..n]);
     words::next_word(q, i, w)
 }
 
@@ -623,10 +575,10 @@ fn begin(start: Start, q: Asked) {
 // Does what n words ask for, where nothing is said into a file that one of them names.
 fn begin_with(n: usize) {
     let q = read_words(n);
-    let prefix = unpack_start::prefix_at(q);
+    let prefix = words::unpack_start::prefix_at(q);
     let may = console::may_say(false, n, prefix);
     if may {
-        let start = unpack_start::start_of(q);
+        let start = words::unpack_start::start_of(q);
         begin(start, q);
     }
 }

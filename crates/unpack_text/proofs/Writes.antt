@@ -1,16 +1,17 @@
 -- Texts of bounded length, put one after another.
-use Prim.Native.Nat.{ℕ, _+_, _≤_}
-use mathlib.Core.Path.{_≡_, sym, ap, subst, _∙_}
-use mathlib.Core.List.{List, _++_, append-assoc}
+use Prim.Native.Nat.{ℕ, _+_, _*_, _≤_}
+use mathlib.Core.Path.{_≡_, sym, subst}
+use mathlib.Core.Bool.{true}
+use mathlib.Core.List.{List, _++_}
 use lib.ListN.{length, length-append}
 use native.Mathlib.Numerals.{add-one}
 use native.Mathlib.Omega.{arith}
 use Rattle.rules.specs.declared.Class.{Class}
 use Rattle.rules.specs.declared.Verdict.{Verdict}
 use Rattle.rules.specs.Listing.{decimal}
-use Rattle.rules.proofs.Areas.{length-laid}
-use Rattle.listing_text.specs.Puts.{Put, front}
-use Rattle.listing_text.proofs.Laws.{put-none, put-then, length-decimal, length-front}
+use Rattle.listing_text.specs.Puts.{Put, filled, front}
+use Rattle.listing_text.proofs.Laws.{put-none, put-then, put-length, length-decimal, length-front}
+use Rattle.listing_text.proofs.Patterns.{marked, strung, plains, put-strung, strung-most}
 use Rattle.unpack_text.specs.Lines.{Wrote, third, firsts}
 
 -- ---- one
@@ -25,6 +26,11 @@ wrote-decimal v p = record { put = p; most = length-decimal v }
 pub wrote-front : (k : ℕ) (c : Class) {area : List ℕ} {from : ℕ} {area′ : List ℕ} {end : ℕ} → Put (front k c) area from area′ end → Wrote 29
     (front k c) area from area′ end
 wrote-front k c p = record { put = p; most = length-front k c }
+
+-- A pattern, filled.
+pub wrote-filled : (ss : List (List ℕ)) (vs end : List ℕ) {xs area : List ℕ} {from : ℕ} {area′ : List ℕ} {at : ℕ} → strung ss vs end ≡ xs
+    → plains ss end ≡ true → Put (filled (marked ss end) vs) area from area′ at → Wrote (length (marked ss end) + 19 * length vs) xs area from area′ at
+wrote-filled ss vs end e h p = record { put = put-strung ss vs end e h p; most = strung-most ss vs end e h }
 
 pub wrote-more : {n : ℕ} (m : ℕ) {xs area : List ℕ} {from : ℕ} {area′ : List ℕ} {end : ℕ} → n ≤ m → Wrote n xs area from area′ end → Wrote m xs area from
     area′ end
@@ -49,27 +55,10 @@ pub wrote-named : (v : ℕ) {xs area : List ℕ} {from : ℕ} {area₁ : List �
     (xs ++ decimal v) area from area₂ end
 wrote-named v p q room = wrote-then (wrote-text p) (wrote-decimal v q) (omega arith)
 
-module _ {n₁ n₂ : ℕ} {x₁ x₂ area : List ℕ} {from : ℕ} {a₁ : List ℕ} {e₁ : ℕ} {a₂ : List ℕ} {e₂ : ℕ} where
-  pub wrote-two : Wrote n₁ x₁ area from a₁ e₁ → Wrote n₂ x₂ a₁ e₁ a₂ e₂ → from + (n₁ + n₂) ≤ length area → Wrote (n₁ + n₂) (x₁ ++ x₂) area from a₂ e₂
-  wrote-two p q room = wrote-then p q (omega arith)
-
 module _ {n₁ n₂ n₃ : ℕ} {x₁ x₂ x₃ area : List ℕ} {from : ℕ} {a₁ : List ℕ} {e₁ : ℕ} {a₂ : List ℕ} {e₂ : ℕ} {a₃ : List ℕ} {e₃ : ℕ} where
   pub wrote-three : Wrote n₁ x₁ area from a₁ e₁ → Wrote n₂ x₂ a₁ e₁ a₂ e₂ → Wrote n₃ x₃ a₂ e₂ a₃ e₃ → from + (n₁ + n₂ + n₃) ≤ length area
       → Wrote (n₁ + n₂ + n₃) (x₁ ++ x₂ ++ x₃) area from a₃ e₃
   wrote-three p q r room = wrote-then (wrote-then p q (omega arith)) r (omega arith)
-
-module _ {n₁ n₂ n₃ n₄ : ℕ} {x₁ x₂ x₃ x₄ area : List ℕ} {from : ℕ} {a₁ : List ℕ} {e₁ : ℕ} {a₂ : List ℕ} {e₂ : ℕ} {a₃ : List ℕ} {e₃ : ℕ} {a₄ : List ℕ} {e₄ :
-    ℕ} where
-  pub wrote-four : Wrote n₁ x₁ area from a₁ e₁ → Wrote n₂ x₂ a₁ e₁ a₂ e₂ → Wrote n₃ x₃ a₂ e₂ a₃ e₃ → Wrote n₄ x₄ a₃ e₃ a₄ e₄
-      → from + (n₁ + n₂ + n₃ + n₄) ≤ length area → Wrote (n₁ + n₂ + n₃ + n₄) (x₁ ++ x₂ ++ x₃ ++ x₄) area from a₄ e₄
-  wrote-four p q r s room = wrote-then (wrote-three p q r (omega arith)) s (omega arith)
-
--- Then two at once, and one more.
-module _ {n₁ n₂ n₃ : ℕ} {x₁ x₄ area : List ℕ} {from : ℕ} {a₁ : List ℕ} {e₁ : ℕ} {a₂ : List ℕ} {e₂ : ℕ} {a₃ : List ℕ} {e₃ : ℕ} where
-  pub wrote-pair : (x₂ x₃ : List ℕ) → Wrote n₁ x₁ area from a₁ e₁ → Wrote n₂ (x₂ ++ x₃) a₁ e₁ a₂ e₂ → Wrote n₃ x₄ a₂ e₂ a₃ e₃
-      → from + (n₁ + n₂ + n₃) ≤ length area → Wrote (n₁ + n₂ + n₃) (x₁ ++ x₂ ++ x₃ ++ x₄) area from a₃ e₃
-  wrote-pair x₂ x₃ p q r room =
-      subst (λ (xs : List ℕ). Wrote (n₁ + n₂ + n₃) (xs ++ x₄) area from a₃ e₃) (sym (append-assoc x₁ x₂ x₃)) (wrote-three p q r room)
 
 -- ---- line after line
 
@@ -90,7 +79,7 @@ wrote-all line k {area = area} {from = from} {area′ = area′} {end = end} w e
 
 pub wrote-length : {n : ℕ} {xs area : List ℕ} {from : ℕ} {area′ : List ℕ} {end : ℕ} → Wrote n xs area from area′ end → from + n ≤ length area → length
     area′ ≡ length area
-wrote-length {n} {xs} {area} {from} w room = ap length (w .put .octets) ∙ length-laid area from xs (omega (arith, w .most))
+wrote-length w room = put-length (w .put) (omega (arith, w .most))
 
 -- ---- what is left for the text that comes next
 

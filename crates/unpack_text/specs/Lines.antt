@@ -4,10 +4,10 @@ use mathlib.Core.List.{List, [], _++_}
 use lib.ListN.{length, getD}
 use Rattle.rules.specs.declared.Answer.{Answer}
 use Rattle.rules.specs.declared.Reader.{Reader}
-use Rattle.rules.specs.declared.Setting.{Setting}
+use Rattle.rules.specs.declared.Channel.{Channel}
 use Rattle.rules.specs.declared.Verdict.{Verdict}
 use Rattle.rules.specs.declared.Verdict.the-variants.{Refused, Idle, Counted, Read}
-use Rattle.rules.specs.Settings.{channel}
+use Rattle.rules.specs.Settings.{noChannel}
 use Rattle.rules.specs.Listing.{text, decimal}
 use Rattle.listing_text.specs.Puts.{Put, front}
 use Rattle.unpack_text.specs.declared.Classes.{Classes}
@@ -88,11 +88,11 @@ unfoldable pub laneLines : List LaneTally → ℕ → List ℕ
 laneLines ts n = firsts (λ (i : ℕ). laneLine i (getD ts i noLaneTally)) n
 
 -- "... a line for each channel in order, ..."
-unfoldable pub channelLines : Setting → List ChannelTally → List ℕ
-channelLines s ts = firsts (λ (i : ℕ). channelLine ((channel s i) .vc) ((channel s i) .service) (getD ts i noChannelTally)) (s .listed)
+unfoldable pub channelLines : List Channel → ℕ → List ChannelTally → List ℕ
+channelLines cs n ts = firsts (λ (i : ℕ). channelLine ((getD cs i noChannel) .vc) ((getD cs i noChannel) .service) (getD ts i noChannelTally)) n
 
 unfoldable pub placesText : Reader → Tally → List ℕ
-placesText r t = laneLines (t .lanes) (r .setting .numbered) ++ channelLines (r .setting) (t .channels)
+placesText r t = laneLines (t .lanes) (r .setting .numbered) ++ channelLines (r .setting .channels) (r .setting .listed) (t .channels)
 
 -- "... and one line for all; `held` is the octets that lanes still hold at the end."
 unfoldable pub lastLine : Reader → Tally → List ℕ

@@ -7,8 +7,9 @@ ghost use Rattle.rules.specs.Settings.{noSlot, lane};
 ghost use Rattle.rules.specs.Frames.{vc};
 ghost use Rattle.rules.specs.Listing.{decimal};
 ghost use Rattle.unpack_text.specs.Totals.{add, classed, summed, laneAfter, channelAfter, inLane, inChannel, lanesAfter, channelsAfter, tallied, noTally, heldIn};
-ghost use Rattle.unpack_text.specs.Lines.{Wrote, third, givenText, restText, frameLine, laneLine, channelLine, classesText, sumsText, totalLine, title, laneLines, channelLines, placesText, lastLine};
+ghost use Rattle.unpack_text.specs.Lines.{Wrote, third, frameLine, laneLine, channelLine, title, laneLines, channelLines, placesText, lastLine};
 use rules::Answer;
+use rules::Channel;
 use rules::Class;
 use rules::Reader;
 use rules::Setting;
@@ -289,15 +290,6 @@ pub fn put_named(area: &mut [u8], from: usize, label: &[u8], v: u64) -> usize
     listing_text::put_decimal(area, at, v)
 }
 
-// Puts some text and a number, and then others.
-fn put_two(area: &mut [u8], from: usize, a: &[u8], v: u64, b: &[u8], w: u64) -> usize
-    requires { ⌜ from + (length (now a) + 20 + (length (now b) + 20)) ≤ length (now area) ⌝ }
-    ensures { λ r. ⌜ Wrote (length (now (a .entry)) + 20 + (length (now (b .entry)) + 20)) (now (a .entry) ++ decimal v ++ (now (b .entry) ++ decimal w)) (now (area .entry)) from (now (area .exit)) r ⌝ }
-{
-    let at = put_named(area, from, a, v);
-    put_named(area, at, b, w)
-}
-
 // Puts a line's third field: the lane, the refusal number, or neither.
 fn put_third(area: &mut [u8], from: usize, v: Verdict) -> usize
     requires { ⌜ from + 20 ≤ length (now area) ⌝ }
@@ -305,29 +297,10 @@ fn put_third(area: &mut [u8], from: usize, v: Verdict) -> usize
 {
     match v {
         Verdict::Refused(n) => listing_text::put_decimal(area, from, n as u64),
-        Verdict::Idle => listing_text::put_text(area, from, b"-"),
-        Verdict::Counted(_) => listing_text::put_text(area, from, b"-"),
+        Verdict::Idle => listing_text::put_octet(area, from, b'-'),
+        Verdict::Counted(_) => listing_text::put_octet(area, from, b'-'),
         Verdict::Read(l) => listing_text::put_decimal(area, from, l as u64),
     }
-}
-
-// Puts a line's fourth to sixth field: what a frame gave, and what is missing before it.
-fn put_given(area: &mut [u8], from: usize, a: Answer) -> usize
-    requires { ⌜ from + 63 ≤ length (now area) ⌝ }
-    ensures { λ r. ⌜ Wrote 63 (givenText a) (now (area .entry)) from (now (area .exit)) r ⌝ }
-{
-    let at = put_two(area, from, b" ", a.units as u64, b" ", a.octets as u64);
-    put_named(area, at, b" ", a.missing)
-}
-
-// Puts a line's last three fields, the octets that gave nothing, and its end.
-fn put_rest(area: &mut [u8], from: usize, a: Answer) -> usize
-    requires { ⌜ from + 64 ≤ length (now area) ⌝ }
-    ensures { λ r. ⌜ Wrote 64 (restText a) (now (area .entry)) from (now (area .exit)) r ⌝ }
-{
-    let at = put_two(area, from, b" ", a.idle as u64, b" ", a.fill as u64);
-    let at = put_named(area, at, b" ", a.dropped as u64);
-    listing_text::put_octet(area, at, b'\n')
 }
 
 // Puts the line of frame k.
@@ -338,8 +311,15 @@ pub fn put_line(area: &mut [u8], from: usize, k: u64, v: Verdict, a: Answer) -> 
     let class = a.class;
     let at = listing_text::put_front(area, from, k, class);
     let at = put_third(area, at, v);
-    let at = put_given(area, at, a);
-    put_rest(area, at, a)
+    let values = [
+        a.units as u64,
+        a.octets as u64,
+        a.missing,
+        a.idle as u64,
+        a.fill as u64,
+        a.dropped as u64,
+    ];
+    listing_text::put_filled(area, at, b" # # # # # #\n", &values)
 }
 
 // Puts the title.
@@ -359,9 +339,8 @@ fn put_lane(area: &mut [u8], from: usize, l: u64, t: LaneTally) -> usize
     requires { ⌜ from + 109 ≤ length (now area) ⌝ }
     ensures { λ r. ⌜ Wrote 109 (laneLine l t) (now (area .entry)) from (now (area .exit)) r ⌝ }
 {
-    let at = put_two(area, from, b"lane ", l, b" frames ", t.frames);
-    let at = put_two(area, at, b" units ", t.units, b" octets ", t.octets);
-    listing_text::put_octet(area, at, b'\n')
+    let values = [l, t.frames, t.units, t.octets];
+    listing_text::put_filled(area, from, b"lane # frames # units # octets #\n", &values)
 }
 
 // Puts the line of a channel's totals.
@@ -369,49 +348,13 @@ fn put_channel(area: &mut [u8], from: usize, vc: u8, service: u8, t: ChannelTall
     requires { ⌜ from + 115 ≤ length (now area) ⌝ }
     ensures { λ r. ⌜ Wrote 115 (channelLine vc service t) (now (area .entry)) from (now (area .exit)) r ⌝ }
 {
-    let at = put_two(
+    let values = [vc as u64, service as u64, t.frames, t.missing];
+    listing_text::put_filled(
         area,
         from,
-        b"channel ",
-        vc as u64,
-        b" service ",
-        service as u64,
-    );
-    let at = put_two(area, at, b" frames ", t.frames, b" missing ", t.missing);
-    listing_text::put_octet(area, at, b'\n')
-}
-
-// Puts how many frames there were of each class.
-fn put_classes(area: &mut [u8], from: usize, t: Classes) -> usize
-    requires { ⌜ from + 143 ≤ length (now area) ⌝ }
-    ensures { λ r. ⌜ Wrote 143 (classesText t) (now (area .entry)) from (now (area .exit)) r ⌝ }
-{
-    let at = put_two(area, from, b"total frames ", t.frames, b" read ", t.read);
-    let at = put_two(area, at, b" counted ", t.counted, b" idle ", t.idle);
-    put_named(area, at, b" refused ", t.refused)
-}
-
-// Puts what all frames gave together.
-fn put_sums(area: &mut [u8], from: usize, t: Sums) -> usize
-    requires { ⌜ from + 136 ≤ length (now area) ⌝ }
-    ensures { λ r. ⌜ Wrote 136 (sumsText t) (now (area .entry)) from (now (area .exit)) r ⌝ }
-{
-    let at = put_two(area, from, b" units ", t.units, b" octets ", t.octets);
-    let at = put_two(area, at, b" idle ", t.idle, b" fill ", t.fill);
-    put_named(area, at, b" dropped ", t.dropped)
-}
-
-// Puts the last line, of all frames.
-fn put_total(area: &mut [u8], from: usize, t: Tally, held: u64) -> usize
-    requires { ⌜ from + 306 ≤ length (now area) ⌝ }
-    ensures { λ r. ⌜ Wrote 306 (totalLine t held) (now (area .entry)) from (now (area .exit)) r ⌝ }
-{
-    let c = t.classes;
-    let x = t.sums;
-    let at = put_classes(area, from, c);
-    let at = put_sums(area, at, x);
-    let at = put_named(area, at, b" held ", held);
-    listing_text::put_octet(area, at, b'\n')
+        b"channel # service # frames # missing #\n",
+        &values,
+    )
 }
 
 // Puts the lines of the first lanes' totals.
@@ -429,16 +372,21 @@ fn put_lanes(area: &mut [u8], from: usize, lanes: usize, ts: [LaneTally; 8]) -> 
     at
 }
 
-// Puts the lines of the listed channels' totals.
-fn put_channels(area: &mut [u8], from: usize, s: Setting, ts: [ChannelTally; 8]) -> usize
-    requires { ⌜ (s .listed ≤ 8) × (from + 920 ≤ length (now area)) ⌝ }
-    ensures { λ r. ⌜ Wrote 920 (channelLines s ts) (now (area .entry)) from (now (area .exit)) r ⌝ }
+// Puts the lines of the first channels' totals.
+fn put_channels(
+    area: &mut [u8],
+    from: usize,
+    listed: usize,
+    channels: [Channel; 8],
+    ts: [ChannelTally; 8],
+) -> usize
+    requires { ⌜ (listed ≤ 8) × (from + 920 ≤ length (now area)) ⌝ }
+    ensures { λ r. ⌜ Wrote 920 (channelLines channels listed ts) (now (area .entry)) from (now (area .exit)) r ⌝ }
 {
-    let listed = s.listed;
     let mut at = from;
     let mut i: usize = 0;
     while i < listed {
-        let c = s.channels[i];
+        let c = channels[i];
         let t = ts[i];
         at = put_channel(area, at, c.vc, c.service, t);
         i += 1;
@@ -451,11 +399,11 @@ pub fn put_places(area: &mut [u8], from: usize, r: Reader, t: Tally) -> usize
     requires { ⌜ (r .setting .listed ≤ 8) × (r .setting .numbered ≤ 8) × (from + 1792 ≤ length (now area)) ⌝ }
     ensures { λ e. ⌜ Wrote 1792 (placesText r t) (now (area .entry)) from (now (area .exit)) e ⌝ }
 {
-    let s = r.setting;
     let ls = t.lanes;
+    let at = put_lanes(area, from, r.setting.numbered, ls);
+    let channels = r.setting.channels;
     let cs = t.channels;
-    let at = put_lanes(area, from, s.numbered, ls);
-    put_channels(area, at, s, cs)
+    put_channels(area, at, r.setting.listed, channels, cs)
 }
 
 // Puts the line of all frames of a recording, after which a reader has this state.
@@ -463,8 +411,25 @@ pub fn put_last(area: &mut [u8], from: usize, r: Reader, t: Tally) -> usize
     requires { ⌜ from + 306 ≤ length (now area) ⌝ }
     ensures { λ e. ⌜ Wrote 306 (lastLine r t) (now (area .entry)) from (now (area .exit)) e ⌝ }
 {
-    let s = r.setting;
     let slots = r.slots;
-    let held = held_in(slots, s.numbered);
-    put_total(area, from, t, held)
+    let held = held_in(slots, r.setting.numbered);
+    let values = [
+        t.classes.frames,
+        t.classes.read,
+        t.classes.counted,
+        t.classes.idle,
+        t.classes.refused,
+        t.sums.units,
+        t.sums.octets,
+        t.sums.idle,
+        t.sums.fill,
+        t.sums.dropped,
+        held,
+    ];
+    listing_text::put_filled(
+        area,
+        from,
+        b"total frames # read # counted # idle # refused # units # octets # idle # fill # dropped # held #\n",
+        &values,
+    )
 }

@@ -1,2 +1,6 @@
 pub mod Words
 pub mod Asked
+pub mod PackWords
+pub mod Plans
+pub mod Starts
+pub mod UnpackWords

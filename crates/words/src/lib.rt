@@ -1,5 +1,8 @@
 // Words of a command line: what they begin with, whether they are a given word, an option, or stand for standard input; and what all of them ask
 // for.
+pub mod pack_start;
+pub mod unpack_start;
+
 ghost use mathlib.Core.Path.{_≡_};
 ghost use Prim.Native.Nat.{_≤_};
 ghost use lib.ListN.{length};

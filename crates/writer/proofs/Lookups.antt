@@ -18,11 +18,11 @@ use Rattle.rules.specs.Valid.{Good}
 use Rattle.rules.proofs.Valid.{good-writer, good-channelOf}
 use Rattle.rules.proofs.Calls.{Accepted}
 use Rattle.rules.proofs.Written.{zone-small}
-use Rattle.frames.specs.declared.Upcoming.{Upcoming}
+use Rattle.writer.specs.declared.frames.Upcoming.{Upcoming}
 use Rattle.batches.specs.Starts.{Keeps}
 use Rattle.writer.specs.declared.Judged.{Judged}
 use Rattle.writer.specs.Lookups.{upcomingOf, lateRefusals, batchRefusals, Judges}
-use Rattle.frames.specs.Fits.{upcomingFrame, FrameFits}
+use Rattle.writer.specs.Fits.{upcomingFrame, FrameFits}
 
 -- ---- slots
 

@@ -10,7 +10,7 @@ use Rattle.rules.specs.Tests.{_≤?_, _≠?_, Refusal, refuse, given}
 use Rattle.rules.specs.Settings.{lane, channelOf, count, number, zone, ocfOctets}
 use Rattle.rules.specs.Writing.{batchOk, frames}
 use Rattle.batches.specs.Starts.{StartsAt}
-use Rattle.frames.specs.declared.Upcoming.{Upcoming}
+use Rattle.writer.specs.declared.frames.Upcoming.{Upcoming}
 use Rattle.writer.specs.declared.Judged.{Judged}
 
 unfoldable pub upcomingOf : Writer → ℕ → Upcoming

@@ -8,6 +8,9 @@ ghost use Rattle.rules.specs.Writing.{frames, numberAfter, writerAfter};
 ghost use Rattle.rules.specs.Calls.{writeRefusals};
 ghost use Rattle.rules.specs.Promises.{WriterStarts, WriteGives};
 ghost use Rattle.writer.specs.Lookups.{upcomingOf, lateRefusals, batchRefusals, Judges};
+
+mod frames;
+
 use frames::Upcoming;
 use rules::Outcome;
 use rules::Place;
@@ -57,8 +60,7 @@ fn after(w: Writer, l: usize, x: Upcoming, batch: &[u8]) -> Writer
     requires { ⌜ (writerOk w ≡ true) × (l < w .setting .numbered) × (x ≡ upcomingOf w l) × (number w l < frames (zone (w .setting) (channelOf (w .setting) l)) (now batch)) ⌝ }
     ensures { λ r. ⌜ r ≡ writerAfter w l (now (batch .entry)) ⌝ }
 {
-    let c = x.channel;
-    let m = octets::modulus(c.octets as usize);
+    let m = octets::modulus(x.channel.octets as usize);
     let n = batches::frames_of(x.zone, batch.len());
     let k = number_after(x.number, n);
     let p = x.place;

@@ -1,32 +1,34 @@
--- What is lent has room for all that the rule makes, and the step of the lane's kind, from a tally of nothing, makes it.
+-- What is lent has room for all that the rule makes. The step begins as its opening says, and stops there or walks on: together that is the rule's.
+use mathlib.Core.Path.{sym}
 use native.Mathlib.Omega.{arith}
+use lib.Seq.{length-take-le}
 use borrow.Author.Needs.{needs}
-use Rattle.rules.specs.Reading.{laneStep}
-use Rattle.lanes.proofs.Parts.{lent-ready, stepped}
+use Rattle.lanes.proofs.Parts.{opens-ready, stops-went, walks-room, walks-went, lent-ready, stepped}
 use Rattle.lanes.proofs.lane_step.Statement.{statement}
 use Rattle.lanes.proofs.lane_step.Tie as tie
 
-enum-told : tie.Need-enum-told
-enum-told c = search needs
+slice-reshare-prefix-opening-of : tie.Need-slice-reshare-prefix-opening-of
+slice-reshare-prefix-opening-of c = search needs
 
-packet-step-requires : tie.Need-packet-step-requires
-unfolding laneStep
-packet-step-requires c κs =
-    let c₈ = c .before .before .before .before .before .before .before .before in (
-      c₈ .before .pre .inside,
-      omega (arith, c₈ .before .pre .zone, c₈ .before .pre .part),
-      rw (c .before .before .before .enum-told .given .1) at
-          (lent-ready (c₈ .before .args .rule) (c₈ .before .pre)),
-    )
+slice-aggregate-opening-of : tie.Need-slice-aggregate-opening-of
+slice-aggregate-opening-of c =
+    let c₅ = c .before .before .before .before .before in sym (length-take-le _ _ (lent-ready (c₅ .args .rule) (c₅ .pre) .inside))
 
-enum-told-2 : tie.Need-enum-told-2
-enum-told-2 c = search needs
+opening-of-requires : tie.Need-opening-of-requires
+opening-of-requires c κs =
+    let c₅ = c .before .before .before .before .before in
+    let ready = lent-ready (c₅ .args .rule) (c₅ .pre) in
+    let n = length-take-le (c₅ .args .h) (c₅ .args .part .now) (ready .inside) in
+    (c₅ .pre .inside, omega (arith, n, ready .inside, ready .few))
 
-access-step-requires : tie.Need-access-step-requires
-unfolding laneStep
-access-step-requires c κs =
-    let c₈ = c .before .before .before .before .before .before .before .before in
-    (c₈ .before .pre .inside, rw (c .before .before .before .enum-told2 .given .1) at (lent-ready (c₈ .before .args .rule) (c₈ .before .pre)))
+slice-aggregate-settle : tie.Need-slice-aggregate-settle
+slice-aggregate-settle c = sym (length-take-le _ _ (c .before .before .before .opening-of .ensures .inside))
+
+settle-requires : tie.Need-settle-requires
+settle-requires c κs =
+    let c₅ = c .before .before .before .before .before in
+    let c₁₁ = c₅ .before .before .before .before .before .before in
+    opens-ready (c₁₁ .args .terms .info) (lent-ready (c₁₁ .args .rule) (c₁₁ .pre)) (c₅ .opening-of .ensures)
 
 same-length : tie.Need-same-length
 same-length c = search needs
@@ -38,10 +40,22 @@ same-length-3 : tie.Need-same-length-3
 same-length-3 c = search needs
 
 returns : tie.Need-returns
-unfolding laneStep
 returns c =
-    let c₈ = c .before .before .before .before .before .before .before .before in
-    rw (c₈ .before .before .enum-told .given .1) (stepped (c .before .before .before .before .before .before .packet-step .ensures))
+    let c₇ = c .before .before .before .before .before .before .before in
+    let c₁₃ = c₇ .before .before .before .before .before .before in
+    let c₁₉ = c₁₃ .before .before .before .before .before .before in
+    stepped (stops-went _ (lent-ready (c₁₉ .args .rule) (c₁₉ .pre)) (c₁₃ .opening-of .ensures) (c₇ .settle .ensures) (c .if1 .taken))
+
+walk-step-requires : tie.Need-walk-step-requires
+walk-step-requires c κs =
+    let c₄ = c .before .before .before .before in
+    let c₁₁ = c₄ .before .before .before .before .before .before .before in
+    let c₁₇ = c₁₁ .before .before .before .before .before .before in
+    let c₂₃ = c₁₇ .before .before .before .before .before .before in (
+      c₁₇ .opening-of .ensures .inside,
+      omega (arith, c₂₃ .pre .zone, c₂₃ .pre .part),
+      walks-room _ (lent-ready (c₂₃ .args .rule) (c₂₃ .pre)) (c₁₇ .opening-of .ensures) (c₁₁ .settle .ensures) (c₄ .if1 .left),
+    )
 
 same-length-4 : tie.Need-same-length-4
 same-length-4 c = search needs
@@ -53,23 +67,29 @@ same-length-6 : tie.Need-same-length-6
 same-length-6 c = search needs
 
 returns-2 : tie.Need-returns-2
-unfolding laneStep
 returns-2 c =
-    let c₈ = c .before .before .before .before .before .before .before .before in
-    rw (c₈ .before .before .enum-told2 .given .1) (stepped (c .before .before .before .before .before .before .access-step .ensures))
+    let c₆ = c .before .before .before .before .before .before in
+    let c₁₁ = c₆ .before .before .before .before .before in
+    let c₁₈ = c₁₁ .before .before .before .before .before .before .before in
+    let c₂₄ = c₁₈ .before .before .before .before .before .before in
+    let c₃₀ = c₂₄ .before .before .before .before .before .before in
+    stepped (walks-went _ (lent-ready (c₃₀ .args .rule) (c₃₀ .pre)) (c₂₄ .opening-of .ensures) (c₁₈ .settle .ensures) (c₁₁ .if1 .left)
+    (c₆ .walk-step .ensures))
 
 pub lane-step-spec : {M : Type 1} → statement M
 lane-step-spec =
     tie.close
     (tie.spec
-    enum-told
-    packet-step-requires
-    enum-told-2
-    access-step-requires
+    slice-reshare-prefix-opening-of
+    slice-aggregate-opening-of
+    opening-of-requires
+    slice-aggregate-settle
+    settle-requires
     same-length
     same-length-2
     same-length-3
     returns
+    walk-step-requires
     same-length-4
     same-length-5
     same-length-6

@@ -1,10 +1,12 @@
 -- A number's digits, twenty at most.
 use Rattle.listing_text.proofs.Laws.{put-decimal}
+use Rattle.rules.specs.Listing.{decimal}
 use borrow.Author.Needs.{needs}
 use Rattle.listing_text.proofs.put_decimal.Statement.{statement}
 use Rattle.listing_text.proofs.put_decimal.Tie as tie
 
 put-digits-requires : tie.Need-put-digits-requires
+unfolding decimal
 put-digits-requires c κs = search needs
 
 same-length : tie.Need-same-length

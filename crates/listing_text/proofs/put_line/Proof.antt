@@ -1,6 +1,9 @@
--- The fields of a line, one after another.
+-- The first two fields, then two numbers.
 use native.Mathlib.Omega.{arith}
-use Rattle.listing_text.proofs.Laws.{length-decimal, length-front, put-line}
+use Rattle.rules.specs.Listing.{text}
+use Rattle.listing_text.proofs.Laws.{length-front}
+use Rattle.listing_text.proofs.Turns.{filled-fits}
+use Rattle.listing_text.proofs.Lines.{put-line}
 use borrow.Author.Needs.{needs}
 use Rattle.listing_text.proofs.put_line.Statement.{statement}
 use Rattle.listing_text.proofs.put_line.Tie as tie
@@ -11,69 +14,27 @@ put-front-requires c κs = search needs
 amount-of-requires : tie.Need-amount-of-requires
 amount-of-requires c κs = search needs
 
-put-decimal-requires : tie.Need-put-decimal-requires
-put-decimal-requires c κs = omega (
-  arith,
-  length-front (c .before .before .before .before .before .before .before .args .k)
-      (c .before .before .before .before .before .before .before .args .a .class),
-  c .before .before .before .before .put-front .ensures .ends,
-)
+slice-aggregate-put-filled : tie.Need-slice-aggregate-put-filled
+slice-aggregate-put-filled c = search needs
 
-put-octet-requires : tie.Need-put-octet-requires
-put-octet-requires c κs =
-    let c₈ = c .before .before .before .before .before .before .before .before in
-    omega (
-      arith,
-      length-front (c₈ .before .before .before .args .k) (c₈ .before .before .before .args .a .class),
-      c .before .before .before .before .before .before .before .before .put-front .ensures .ends,
-      length-decimal
-          (c .before .before .before .before .before .amount-of .result),
-      c .before .before .before .put-decimal .ensures .ends,
-    )
+slice-aggregate-put-filled-2 : tie.Need-slice-aggregate-put-filled-2
+slice-aggregate-put-filled-2 c = search needs
 
-put-decimal-requires-2 : tie.Need-put-decimal-requires-2
-put-decimal-requires-2 c κs =
-    let c₈ = c .before .before .before .before .before .before .before .before in
-    omega (
-      arith,
-      length-front (c₈ .before .before .before .before .before .before .before .args .k)
-          (c₈ .before .before .before .before .before .before .before .args .a .class),
-      c₈ .before .before .before .before .put-front .ensures .ends,
-      length-decimal
-          (c₈ .before .amount-of .result),
-      c .before .before .before .before .before .before .before .put-decimal .ensures .ends,
-      c .before .before .before .put-octet .ensures .ends,
-    )
-
-put-octet-requires-2 : tie.Need-put-octet-requires-2
-put-octet-requires-2 c κs =
-    let c₈ = c .before .before .before .before .before .before .before .before in
-    let c₁₆ = c₈ .before .before .before .before .before .before .before .before in
-    omega (
-      arith,
-      length-front (c₁₆ .before .before .before .args .k) (c₁₆ .before .before .before .args .a .class),
-      c₈ .before .before .before .before .before .before .before .before .put-front .ensures .ends,
-      length-decimal
-          (c₈ .before .before .before .before .before .amount-of .result),
-      c₈ .before .before .before .put-decimal .ensures .ends,
-      c .before .before .before .before .before .before .before .put-octet .ensures .ends,
-      length-decimal
-          (c₁₆ .before .before .before .args .a .missing),
-      c .before .before .before .put-decimal2 .ensures .ends,
-    )
+put-filled-requires : tie.Need-put-filled-requires
+put-filled-requires c κs =
+    let c₆ = c .before .before .before .before .before .before in
+    let a = c₆ .before .before .before .args in
+    filled-fits _ _ _ (omega (arith, length-front (a .k) (a .a .class), c₆ .put-front .ensures .ends))
 
 same-length : tie.Need-same-length
 same-length c = search needs
 
 returns : tie.Need-returns
+unfolding text
 returns c =
-    let c₈ = c .before .before .before .before .before .before .before .before in
-    let c₁₆ = c₈ .before .before .before .before .before .before .before .before in
-    let a = c₁₆ .before .before .before .before .before .before .args in
-    put-line (a .k) (a .a) (a .area .now) (a .from) _ _ _ _ _ _ _ _ _ _ _ (c₁₆ .before .before .before .before .before .before .pre)
-    (c₈ .before .before .before .before .before .before .before .before .amount-of .ensures) (c₁₆ .before .before .before .put-front .ensures)
-    (c₈ .before .before .before .before .before .before .put-decimal .ensures) (c₈ .before .before .put-octet .ensures)
-    (c .before .before .before .before .before .before .put-decimal2 .ensures) (c .before .before .put-octet2 .ensures)
+    let c₆ = c .before .before .before .before .before .before in
+    put-line _ _ (c₆ .before .before .before .before .before .before .pre) (c₆ .amount-of .ensures) (c₆ .before .before .before .put-front .ensures)
+    (c .before .before .put-filled .ensures)
 
 pub put-line-spec : {M : Type 1} → statement M
 put-line-spec =
@@ -81,9 +42,8 @@ put-line-spec =
     (tie.spec
     put-front-requires
     amount-of-requires
-    put-decimal-requires
-    put-octet-requires
-    put-decimal-requires-2
-    put-octet-requires-2
+    slice-aggregate-put-filled
+    slice-aggregate-put-filled-2
+    put-filled-requires
     same-length
     returns)

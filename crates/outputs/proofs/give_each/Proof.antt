@@ -1,25 +1,20 @@
 -- `outputs::give_each`: what its callees promise is enough.
 use Prim.Native.Nat.{_-_, _≤_}
-use mathlib.Core.Path.{_≡_}
-use lib.ListN.{length}
 use borrow.Author.Needs.{needs}
 use Rattle.outputs.proofs.give_each.Statement.{statement}
 use Rattle.outputs.proofs.give_each.Tie as tie
 
 abbrev Inv-loop : tie.InvT-loop
-Inv-loop p name₀ n s₀ i₀ name s i = (i ≤ 10) × (length name ≡ length name₀)
+Inv-loop p prefix s₀ i₀ s i = i ≤ 10
 
 abbrev μ-loop : tie.MeasureT-loop
-μ-loop p name₀ n s₀ i₀ name s i = 10 - i
+μ-loop p prefix s₀ i₀ s i = 10 - i
 
 put-all-aside-requires : tie.Need-put-all-aside-requires Inv-loop μ-loop
 put-all-aside-requires c κs = search needs
 
 loop-holds : tie.Need-loop-holds Inv-loop μ-loop
 loop-holds c = search needs
-
-same-length : tie.Need-same-length Inv-loop μ-loop
-same-length c = search needs
 
 returns : tie.Need-returns Inv-loop μ-loop
 returns c = search needs
@@ -36,9 +31,6 @@ loop-less c = search needs
 loop-again : tie.Need-loop-again Inv-loop μ-loop
 loop-again c = search needs
 
-same-length-2 : tie.Need-same-length-2 Inv-loop μ-loop
-same-length-2 c = search needs
-
 returns-2 : tie.Need-returns-2 Inv-loop μ-loop
 returns-2 c = search needs
 
@@ -50,11 +42,9 @@ give-each-spec =
     μ-loop
     put-all-aside-requires
     loop-holds
-    same-length
     returns
     give-name-requires
     add-i
     loop-less
     loop-again
-    same-length-2
     returns-2)

@@ -1,16 +1,14 @@
 -- `outputs::keep_all`: what its callees promise is enough.
-use borrow.Author.Needs.{needs}
-use lib.ListN.{length}
-use mathlib.Core.Path.{_≡_}
 use Prim.Native.Nat.{_-_, _≤_}
+use borrow.Author.Needs.{needs}
 use Rattle.outputs.proofs.keep_all.Statement.{statement}
 use Rattle.outputs.proofs.keep_all.Tie as tie
 
 abbrev Inv-loop : tie.InvT-loop
-Inv-loop p name₀ n fds i₀ name i = (i ≤ 10) × (length name ≡ length name₀)
+Inv-loop p prefix fds i₀ i = i ≤ 10
 
 abbrev μ-loop : tie.MeasureT-loop
-μ-loop p name₀ n fds i₀ name i = 10 - i
+μ-loop p prefix fds i₀ i = 10 - i
 
 loop-holds : tie.Need-loop-holds Inv-loop μ-loop
 loop-holds c = search needs
@@ -30,9 +28,6 @@ keep-requires c κs = search needs
 say-part-requires : tie.Need-say-part-requires Inv-loop μ-loop
 say-part-requires c κs = search needs
 
-same-length : tie.Need-same-length Inv-loop μ-loop
-same-length c = search needs
-
 returns : tie.Need-returns Inv-loop μ-loop
 returns c = search needs
 
@@ -44,9 +39,6 @@ loop-less c = search needs
 
 loop-again : tie.Need-loop-again Inv-loop μ-loop
 loop-again c = search needs
-
-same-length-2 : tie.Need-same-length-2 Inv-loop μ-loop
-same-length-2 c = search needs
 
 returns-2 : tie.Need-returns-2 Inv-loop μ-loop
 returns-2 c = search needs
@@ -63,10 +55,8 @@ keep-all-spec =
     array-copy-out-fd
     keep-requires
     say-part-requires
-    same-length
     returns
     add-i
     loop-less
     loop-again
-    same-length-2
     returns-2)

@@ -11,20 +11,17 @@ has-requires c κs = search needs
 returns : tie.Need-returns
 returns c = search needs
 
-put-ending-requires : tie.Need-put-ending-requires
-put-ending-requires c κs = search needs
+name-of-requires : tie.Need-name-of-requires
+name-of-requires c κs = search needs
 
-slice-reshare-prefix-is-free : tie.Need-slice-reshare-prefix-is-free
-slice-reshare-prefix-is-free c = search needs
+array-share-prefix-name : tie.Need-array-share-prefix-name
+array-share-prefix-name c = search needs
 
 slice-aggregate-is-free : tie.Need-slice-aggregate-is-free
 slice-aggregate-is-free c = sym (length-take-le _ _ (search needs))
 
 is-free-requires : tie.Need-is-free-requires
 is-free-requires c κs = search needs
-
-same-length : tie.Need-same-length
-same-length c = search needs
 
 returns-2 : tie.Need-returns-2
 returns-2 c = search needs
@@ -35,9 +32,8 @@ may-take-spec =
     (tie.spec
     has-requires
     returns
-    put-ending-requires
-    slice-reshare-prefix-is-free
+    name-of-requires
+    array-share-prefix-name
     slice-aggregate-is-free
     is-free-requires
-    same-length
     returns-2)

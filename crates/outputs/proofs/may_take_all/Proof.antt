@@ -1,25 +1,20 @@
 -- `outputs::may_take_all`: what its callees promise is enough.
-use borrow.Author.Needs.{needs}
-use lib.ListN.{length}
-use mathlib.Core.Path.{_≡_}
 use Prim.Native.Nat.{_-_, _≤_}
+use borrow.Author.Needs.{needs}
 use Rattle.outputs.proofs.may_take_all.Statement.{statement}
 use Rattle.outputs.proofs.may_take_all.Tie as tie
 
 abbrev Inv-loop : tie.InvT-loop
-Inv-loop p name₀ n f i₀ name i = (i ≤ 10) × (length name ≡ length name₀)
+Inv-loop p prefix f i₀ i = i ≤ 10
 
 abbrev μ-loop : tie.MeasureT-loop
-μ-loop p name₀ n f i₀ name i = 10 - i
+μ-loop p prefix f i₀ i = 10 - i
 
 loop-holds : tie.Need-loop-holds Inv-loop μ-loop
 loop-holds c = search needs
 
 may-take-requires : tie.Need-may-take-requires Inv-loop μ-loop
 may-take-requires c κs = search needs
-
-same-length : tie.Need-same-length Inv-loop μ-loop
-same-length c = search needs
 
 returns : tie.Need-returns Inv-loop μ-loop
 returns c = search needs
@@ -33,9 +28,6 @@ loop-less c = search needs
 loop-again : tie.Need-loop-again Inv-loop μ-loop
 loop-again c = search needs
 
-same-length-2 : tie.Need-same-length-2 Inv-loop μ-loop
-same-length-2 c = search needs
-
 returns-2 : tie.Need-returns-2 Inv-loop μ-loop
 returns-2 c = search needs
 
@@ -47,10 +39,8 @@ may-take-all-spec =
     μ-loop
     loop-holds
     may-take-requires
-    same-length
     returns
     add-i
     loop-less
     loop-again
-    same-length-2
     returns-2)

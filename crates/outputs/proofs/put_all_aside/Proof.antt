@@ -1,16 +1,14 @@
 -- `outputs::put_all_aside`: what its callees promise is enough.
 use Prim.Native.Nat.{_-_, _≤_}
-use mathlib.Core.Path.{_≡_}
-use lib.ListN.{length}
 use borrow.Author.Needs.{needs}
 use Rattle.outputs.proofs.put_all_aside.Statement.{statement}
 use Rattle.outputs.proofs.put_all_aside.Tie as tie
 
 abbrev Inv-loop : tie.InvT-loop
-Inv-loop p name₀ n s₀ k₀ name s k = (k ≤ 10) × (length name ≡ length name₀)
+Inv-loop p prefix s₀ k₀ s k = k ≤ 10
 
 abbrev μ-loop : tie.MeasureT-loop
-μ-loop p name₀ n s₀ k₀ name s k = 10 - k
+μ-loop p prefix s₀ k₀ s k = 10 - k
 
 no-stage-requires : tie.Need-no-stage-requires Inv-loop μ-loop
 no-stage-requires c κs = search needs
@@ -24,9 +22,6 @@ aside-turn-requires c κs = search needs
 put-aside-requires : tie.Need-put-aside-requires Inv-loop μ-loop
 put-aside-requires c κs = search needs
 
-same-length : tie.Need-same-length Inv-loop μ-loop
-same-length c = search needs
-
 returns : tie.Need-returns Inv-loop μ-loop
 returns c = search needs
 
@@ -38,9 +33,6 @@ loop-less c = search needs
 
 loop-again : tie.Need-loop-again Inv-loop μ-loop
 loop-again c = search needs
-
-same-length-2 : tie.Need-same-length-2 Inv-loop μ-loop
-same-length-2 c = search needs
 
 returns-2 : tie.Need-returns-2 Inv-loop μ-loop
 returns-2 c = search needs
@@ -55,10 +47,8 @@ put-all-aside-spec =
     loop-holds
     aside-turn-requires
     put-aside-requires
-    same-length
     returns
     add-k
     loop-less
     loop-again
-    same-length-2
     returns-2)

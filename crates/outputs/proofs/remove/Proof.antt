@@ -8,20 +8,17 @@ use Rattle.outputs.proofs.remove.Tie as tie
 returns : tie.Need-returns
 returns c = search needs
 
-put-marked-requires : tie.Need-put-marked-requires
-put-marked-requires c κs = search needs
+name-of-requires : tie.Need-name-of-requires
+name-of-requires c κs = search needs
 
-slice-reshare-prefix-unlink : tie.Need-slice-reshare-prefix-unlink
-slice-reshare-prefix-unlink c = search needs
+array-share-prefix-name : tie.Need-array-share-prefix-name
+array-share-prefix-name c = search needs
 
 slice-aggregate-unlink : tie.Need-slice-aggregate-unlink
 slice-aggregate-unlink c = sym (length-take-le _ _ (search needs))
 
 unlink-requires : tie.Need-unlink-requires
 unlink-requires c κs = search needs
-
-same-length : tie.Need-same-length
-same-length c = search needs
 
 returns-2 : tie.Need-returns-2
 returns-2 c = search needs
@@ -31,9 +28,8 @@ remove-spec =
     tie.close
     (tie.spec
     returns
-    put-marked-requires
-    slice-reshare-prefix-unlink
+    name-of-requires
+    array-share-prefix-name
     slice-aggregate-unlink
     unlink-requires
-    same-length
     returns-2)

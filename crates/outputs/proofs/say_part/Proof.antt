@@ -5,20 +5,17 @@ use borrow.Author.Needs.{needs}
 use Rattle.outputs.proofs.say_part.Statement.{statement}
 use Rattle.outputs.proofs.say_part.Tie as tie
 
-put-marked-requires : tie.Need-put-marked-requires
-put-marked-requires c κs = search needs
+name-of-requires : tie.Need-name-of-requires
+name-of-requires c κs = search needs
 
-slice-reshare-prefix-say-failed : tie.Need-slice-reshare-prefix-say-failed
-slice-reshare-prefix-say-failed c = search needs
+array-share-prefix-name : tie.Need-array-share-prefix-name
+array-share-prefix-name c = search needs
 
 slice-aggregate-say-failed : tie.Need-slice-aggregate-say-failed
 slice-aggregate-say-failed c = sym (length-take-le _ _ (search needs))
 
 say-failed-requires : tie.Need-say-failed-requires
 say-failed-requires c κs = search needs
-
-same-length : tie.Need-same-length
-same-length c = search needs
 
 returns : tie.Need-returns
 returns c = search needs
@@ -27,9 +24,8 @@ pub say-part-spec : {M : Type 1} → statement M
 say-part-spec =
     tie.close
     (tie.spec
-    put-marked-requires
-    slice-reshare-prefix-say-failed
+    name-of-requires
+    array-share-prefix-name
     slice-aggregate-say-failed
     say-failed-requires
-    same-length
     returns)

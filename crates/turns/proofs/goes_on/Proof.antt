@@ -13,7 +13,7 @@ next-number-requires c κs = search needs
 
 returns : tie.Need-returns
 unfolding goesOn
-returns c = rw (sym (c .before .before .before .is-sound .ensures) ∙ c .before .before .if1 .taken, ← c .next-number .ensures)
+returns c = rw (sym (c .before .before .is-sound .ensures) ∙ c .before .if1 .taken, ← c .next-number .ensures)
 
 returns-2 : tie.Need-returns-2
 unfolding goesOn

@@ -24,9 +24,9 @@ same-length-2 : tie.Need-same-length-2
 same-length-2 c = search needs
 
 returns-2 : tie.Need-returns-2
-returns-2 c = let c₈ = c .before .before .before .before .before .before .before .before in
-    filled (c₈ .before .before .before .before .before .if1 .left)
-    (record { stream = refl; window = c₈ .fill .ensures; listed = c .before .before .read-list .ensures })
+returns-2 c = let c₇ = c .before .before .before .before .before .before .before in
+    filled (c₇ .before .before .before .before .if1 .left)
+    (record { stream = refl; window = c₇ .fill .ensures; listed = c .before .before .read-list .ensures })
 
 pub read-on-spec : {M : Type 1} → statement M
 read-on-spec =

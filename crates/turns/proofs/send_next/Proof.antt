@@ -30,7 +30,7 @@ slice-aggregate-hand c = search needs
 hand-requires : tie.Need-hand-requires
 unfolding areaBefore
 hand-requires c κs = let c₈ = c .before .before .before .before .before .before .before .before in
-    frame-by (c₈ .before .before .before .before .before .before .args .c) _ _ _ _
+    frame-by (c₈ .before .before .before .before .before .args .c) _ _ _ _
     (write-is _ _ _ _ _ _ _ (c .before .before .before .before .before .before .before .write .ensures))
     (c .before .within .result) (c .before .within .ensures .1)
 

@@ -38,7 +38,7 @@ same-length-3 c = search needs
 
 returns-2 : tie.Need-returns-2
 returns-2 c = let c₈ = c .before .before .before .before .before .before .before .before in
-    turned-none _ _ _ _ _ _ _ (c₈ .before .within .result) (c₈ .before .before .before .before .if1 .left) (c₈ .before .within .ensures .1)
+    turned-none _ _ _ _ _ _ _ (c₈ .before .within .result) (c₈ .before .before .before .if1 .left) (c₈ .before .within .ensures .1)
     (c .before .before .before .before .before .before .begin .ensures) (c .before .if2 .taken)
     (c .end-with .ensures)
 
@@ -54,7 +54,7 @@ same-length-5 c = search needs
 returns-3 : tie.Need-returns-3
 returns-3 c = let c₈ = c .before .before .before .before .before .before .before .before in
     turned-begun _ _ _ _ _ _ _ (c₈ .before .before .before .before .within .result)
-    (c₈ .before .before .before .before .before .before .before .if1 .left) (c₈ .before .before .before .before .within .ensures .1)
+    (c₈ .before .before .before .before .before .before .if1 .left) (c₈ .before .before .before .before .within .ensures .1)
     (c₈ .before .begin .ensures) (c .before .before .before .before .if2 .left)
     (c .before .before .work2 .ensures)
 

@@ -11,7 +11,7 @@ moved-requires c κs = search needs
 
 returns : tie.Need-returns
 unfolding worked
-returns c = let s = c .before .before .before .args .s in
+returns c = let s = c .before .before .args .s in
     ap (λ (w : Window). record { window = w; list = s .list; batch = 0; lane = s .lane; longest = s .longest; form = s .form }) (c .before .moved .ensures)
 
 pub work-off-spec : {M : Type 1} → statement M

@@ -35,7 +35,7 @@ load-from-requires : tie.Need-load-from-requires
 load-from-requires c κs = search needs
 
 with-setting-requires : tie.Need-with-setting-requires
-with-setting-requires c κs = let l = c .before .before .before .before .before .load-from in
+with-setting-requires c κs = let l = c .before .before .before .before .load-from in
     let e = l .ensures in
     ap (λ (j : Judged). settingOk (j .setting)) e
     ∙ judged-good (l .result .filled) _ (ap (λ (j : Judged). j .good) (sym e) ∙ c .before .before .if2 .taken)

@@ -3,7 +3,7 @@ use Prim.Native.Nat.{ℕ, _-_, _*_, _+_, _≤_}
 use mathlib.Core.Path.{_≡_, refl}
 use native.Mathlib.Omega.{arith}
 use lib.ListN.{length, getD}
-use Rattle.rules.specs.Settings.{channel}
+use Rattle.rules.specs.Settings.{noChannel}
 use Rattle.unpack_text.specs.Totals.{noChannelTally}
 use Rattle.unpack_text.specs.Lines.{Wrote, firsts, channelLine, channelLines}
 use Rattle.unpack_text.proofs.Writes.{wrote-none, wrote-next, wrote-all}
@@ -12,11 +12,11 @@ use Rattle.unpack_text.proofs.put_channels.Statement.{statement}
 use Rattle.unpack_text.proofs.put_channels.Tie as tie
 
 abbrev Inv-loop : tie.InvT-loop
-Inv-loop area₀ from s ts listed at₀ i₀ area at i = (i ≤ listed) × (length area ≡ length area₀) × Wrote (115 * i) (firsts (λ (j : ℕ). channelLine
-    ((channel s j) .vc) ((channel s j) .service) (getD ts j noChannelTally)) i) area₀ from area at
+Inv-loop area₀ from listed cs ts at₀ i₀ area at i = (i ≤ listed) × (length area ≡ length area₀) × Wrote (115 * i) (firsts (λ (j : ℕ). channelLine
+    ((getD cs j noChannel) .vc) ((getD cs j noChannel) .service) (getD ts j noChannelTally)) i) area₀ from area at
 
 abbrev μ-loop : tie.MeasureT-loop
-μ-loop area₀ from s ts listed at₀ i₀ area at i = listed - i
+μ-loop area₀ from listed cs ts at₀ i₀ area at i = listed - i
 
 loop-holds : tie.Need-loop-holds Inv-loop μ-loop
 loop-holds c = (search needs, refl, wrote-none _ _ _)
@@ -24,8 +24,8 @@ loop-holds c = (search needs, refl, wrote-none _ _ _)
 mul-c : tie.Need-mul-c Inv-loop μ-loop
 mul-c c = search needs
 
-element-copy-out-c : tie.Need-element-copy-out-c Inv-loop μ-loop
-element-copy-out-c c = search needs
+array-copy-out-c : tie.Need-array-copy-out-c Inv-loop μ-loop
+array-copy-out-c c = search needs
 
 mul-t : tie.Need-mul-t Inv-loop μ-loop
 mul-t c = search needs
@@ -61,7 +61,7 @@ put-channels-spec =
     μ-loop
     loop-holds
     mul-c
-    element-copy-out-c
+    array-copy-out-c
     mul-t
     array-copy-out-t
     put-channel-requires

@@ -1,55 +1,36 @@
--- Four numbers and the line's end.
-use mathlib.Core.List.{_++_}
-use Rattle.rules.specs.Listing.{text, decimal}
-use Rattle.unpack_text.specs.Lines.{laneLine}
-use Rattle.unpack_text.proofs.Writes.{wrote-text, wrote-pair}
+-- Four numbers.
+use mathlib.Core.Path.{refl}
+use Rattle.rules.specs.Listing.{text}
+use Rattle.listing_text.proofs.Turns.{filled-fits}
+use Rattle.listing_text.proofs.Patterns.{marked, plain, plains}
+use Rattle.unpack_text.proofs.Writes.{wrote-filled}
+use Rattle.unpack_text.proofs.Filled.{lane-strung}
 use borrow.Author.Needs.{needs}
 use Rattle.unpack_text.proofs.put_lane.Statement.{statement}
 use Rattle.unpack_text.proofs.put_lane.Tie as tie
 
-slice-aggregate-put-two : tie.Need-slice-aggregate-put-two
-slice-aggregate-put-two c = search needs
+slice-aggregate-put-filled : tie.Need-slice-aggregate-put-filled
+slice-aggregate-put-filled c = search needs
 
-slice-aggregate-put-two-2 : tie.Need-slice-aggregate-put-two-2
-slice-aggregate-put-two-2 c = search needs
+slice-aggregate-put-filled-2 : tie.Need-slice-aggregate-put-filled-2
+slice-aggregate-put-filled-2 c = search needs
 
-put-two-requires : tie.Need-put-two-requires
-put-two-requires c κs = search needs
-
-slice-aggregate-put-two-3 : tie.Need-slice-aggregate-put-two-3
-slice-aggregate-put-two-3 c = search needs
-
-slice-aggregate-put-two-4 : tie.Need-slice-aggregate-put-two-4
-slice-aggregate-put-two-4 c = search needs
-
-put-two-requires-2 : tie.Need-put-two-requires-2
-put-two-requires-2 c κs = search needs
-
-put-octet-requires : tie.Need-put-octet-requires
-put-octet-requires c κs = search needs
+put-filled-requires : tie.Need-put-filled-requires
+put-filled-requires c κs = filled-fits _ _ _ (search needs)
 
 same-length : tie.Need-same-length
 same-length c = search needs
 
 returns : tie.Need-returns
-unfolding laneLine text
-returns c =
-    let c₈ = c .before .before .before .before .before .before .before .before in
-    let c₁₆ = c₈ .before .before .before .before .before .before .before .before in
-    let t = c₁₆ .before .args .t in
-    wrote-pair (text " units " ++ decimal (t .units)) (text " octets " ++ decimal (t .octets)) (c₈ .before .before .before .before .put-two .ensures)
-    (c .before .before .before .before .before .before .put-two2 .ensures) (wrote-text (c .before .before .put-octet .ensures)) (c₁₆ .before .pre)
+unfolding text marked plain plains
+returns c = wrote-filled _ _ _ (lane-strung _ _) refl (c .before .before .put-filled .ensures)
 
 pub put-lane-spec : {M : Type 1} → statement M
 put-lane-spec =
     tie.close
     (tie.spec
-    slice-aggregate-put-two
-    slice-aggregate-put-two-2
-    put-two-requires
-    slice-aggregate-put-two-3
-    slice-aggregate-put-two-4
-    put-two-requires-2
-    put-octet-requires
+    slice-aggregate-put-filled
+    slice-aggregate-put-filled-2
+    put-filled-requires
     same-length
     returns)

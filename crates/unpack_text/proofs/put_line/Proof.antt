@@ -1,8 +1,14 @@
--- Number and class, whose it is, what it gave, and the rest.
+-- Number and class, whose it is, and six numbers.
+use mathlib.Core.Path.{refl}
+use Rattle.rules.specs.Listing.{text}
+use Rattle.listing_text.proofs.Turns.{filled-fits}
+use Rattle.listing_text.proofs.Patterns.{marked, plain, plains}
+use mathlib.Core.List.{append-assoc}
 use native.Mathlib.Omega.{arith}
 use Rattle.listing_text.proofs.Laws.{length-front}
 use Rattle.unpack_text.specs.Lines.{frameLine}
-use Rattle.unpack_text.proofs.Writes.{wrote-front, wrote-four}
+use Rattle.unpack_text.proofs.Writes.{wrote-front, wrote-filled, wrote-three}
+use Rattle.unpack_text.proofs.Filled.{counts-strung}
 use borrow.Author.Needs.{needs}
 use Rattle.unpack_text.proofs.put_line.Statement.{statement}
 use Rattle.unpack_text.proofs.put_line.Tie as tie
@@ -11,42 +17,31 @@ put-front-requires : tie.Need-put-front-requires
 put-front-requires c κs = search needs
 
 put-third-requires : tie.Need-put-third-requires
-put-third-requires c κs = omega (
-  arith,
-  length-front (c .before .before .before .before .before .before .args .k)
-      (c .before .before .before .before .before .before .args .a .class),
-  c .before .before .before .put-front .ensures .ends,
-)
+put-third-requires c κs =
+    let a = c .before .before .before .before .before .before .args in
+    omega (arith, length-front (a .k) (a .a .class), c .before .before .before .put-front .ensures .ends)
 
-put-given-requires : tie.Need-put-given-requires
-put-given-requires c κs =
-    let c₈ = c .before .before .before .before .before .before .before .before in
-    omega (
-      arith,
-      length-front (c₈ .before .before .args .k) (c₈ .before .before .args .a .class),
-      c .before .before .before .before .before .before .before .put-front .ensures .ends,
-    )
+slice-aggregate-put-filled : tie.Need-slice-aggregate-put-filled
+slice-aggregate-put-filled c = search needs
 
-put-rest-requires : tie.Need-put-rest-requires
-put-rest-requires c κs =
+slice-aggregate-put-filled-2 : tie.Need-slice-aggregate-put-filled-2
+slice-aggregate-put-filled-2 c = search needs
+
+put-filled-requires : tie.Need-put-filled-requires
+put-filled-requires c κs =
     let c₈ = c .before .before .before .before .before .before .before .before in
-    omega (
-      arith,
-      length-front (c₈ .before .before .before .before .before .before .args .k)
-          (c₈ .before .before .before .before .before .before .args .a .class),
-      c₈ .before .before .before .put-front .ensures .ends,
-    )
+    let a = c₈ .before .before .before .before .args in
+    filled-fits _ _ _ (omega (arith, length-front (a .k) (a .a .class), c₈ .before .put-front .ensures .ends))
 
 same-length : tie.Need-same-length
 same-length c = search needs
 
 returns : tie.Need-returns
-unfolding frameLine
+unfolding text marked plain plains frameLine
 returns c =
     let c₈ = c .before .before .before .before .before .before .before .before in
-    let c₁₆ = c₈ .before .before .before .before .before .before .before .before in
-    wrote-four (wrote-front _ _ (c₈ .before .before .before .before .before .before .put-front .ensures)) (c₈ .before .before .put-third .ensures)
-    (c .before .before .before .before .before .before .put-given .ensures) (c .before .before .put-rest .ensures) (c₁₆ .before .pre)
+    rw append-assoc (wrote-three (wrote-front _ _ (c₈ .before .before .before .before .put-front .ensures)) (c₈ .put-third .ensures)
+    (wrote-filled _ _ _ (counts-strung _) refl (c .before .before .put-filled .ensures)) (c₈ .before .before .before .before .before .before .before .pre))
 
 pub put-line-spec : {M : Type 1} → statement M
 put-line-spec =
@@ -54,7 +49,8 @@ put-line-spec =
     (tie.spec
     put-front-requires
     put-third-requires
-    put-given-requires
-    put-rest-requires
+    slice-aggregate-put-filled
+    slice-aggregate-put-filled-2
+    put-filled-requires
     same-length
     returns)

@@ -1,4 +1,5 @@
 -- The text, then the number.
+use Rattle.listing_text.proofs.Laws.{decimal-fits}
 use Rattle.unpack_text.proofs.Writes.{wrote-named}
 use borrow.Author.Needs.{needs}
 use Rattle.unpack_text.proofs.put_named.Statement.{statement}
@@ -8,7 +9,7 @@ put-text-requires : tie.Need-put-text-requires
 put-text-requires c κs = search needs
 
 put-decimal-requires : tie.Need-put-decimal-requires
-put-decimal-requires c κs = search needs
+put-decimal-requires c κs = decimal-fits _ _ (search needs)
 
 same-length : tie.Need-same-length
 same-length c = search needs

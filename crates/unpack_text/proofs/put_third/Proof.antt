@@ -1,6 +1,7 @@
 -- Each verdict has its field.
 use lib.Dec.{lit≤}
 use Rattle.rules.specs.Listing.{text}
+use Rattle.listing_text.proofs.Laws.{decimal-fits}
 use Rattle.unpack_text.specs.Lines.{third}
 use Rattle.unpack_text.proofs.Writes.{wrote-third, wrote-decimal, wrote-more, wrote-text}
 use borrow.Author.Needs.{needs}
@@ -14,31 +15,25 @@ cast-put-decimal : tie.Need-cast-put-decimal
 cast-put-decimal c = search needs
 
 put-decimal-requires : tie.Need-put-decimal-requires
-put-decimal-requires c κs = search needs
+put-decimal-requires c κs = decimal-fits _ _ (search needs)
 
 enum-told : tie.Need-enum-told
 enum-told c = search needs
 
-slice-aggregate-put-text : tie.Need-slice-aggregate-put-text
-slice-aggregate-put-text c = search needs
-
-put-text-requires : tie.Need-put-text-requires
-put-text-requires c κs = search needs
+put-octet-requires : tie.Need-put-octet-requires
+put-octet-requires c κs = search needs
 
 enum-told-2 : tie.Need-enum-told-2
 enum-told-2 c = search needs
 
-slice-aggregate-put-text-2 : tie.Need-slice-aggregate-put-text-2
-slice-aggregate-put-text-2 c = search needs
-
-put-text-requires-2 : tie.Need-put-text-requires-2
-put-text-requires-2 c κs = search needs
+put-octet-requires-2 : tie.Need-put-octet-requires-2
+put-octet-requires-2 c κs = search needs
 
 enum-known-v-2 : tie.Need-enum-known-v-2
 enum-known-v-2 c = search needs
 
 put-decimal-requires-2 : tie.Need-put-decimal-requires-2
-put-decimal-requires-2 c κs = search needs
+put-decimal-requires-2 c κs = decimal-fits _ _ (search needs)
 
 same-length : tie.Need-same-length
 same-length c = search needs
@@ -55,8 +50,8 @@ same-length-2 c = search needs
 returns-2 : tie.Need-returns-2
 unfolding third text
 returns-2 c =
-    wrote-third (c .before .before .before .before .before .before .before .before .args .v) _
-    (c .before .before .before .before .before .enum-told .given .1) (wrote-more 20 (lit≤ tt) (wrote-text (c .before .before .put-text .ensures)))
+    wrote-third (c .before .before .before .before .before .before .before .args .v) _ (c .before .before .before .before .enum-told .given .1)
+    (wrote-more 20 (lit≤ tt) (wrote-text (c .before .before .put-octet .ensures)))
 
 same-length-3 : tie.Need-same-length-3
 same-length-3 c = search needs
@@ -64,8 +59,8 @@ same-length-3 c = search needs
 returns-3 : tie.Need-returns-3
 unfolding third text
 returns-3 c =
-    wrote-third (c .before .before .before .before .before .before .before .before .args .v) _
-    (c .before .before .before .before .before .enum-told2 .given .1) (wrote-more 20 (lit≤ tt) (wrote-text (c .before .before .put-text2 .ensures)))
+    wrote-third (c .before .before .before .before .before .before .before .args .v) _ (c .before .before .before .before .enum-told2 .given .1)
+    (wrote-more 20 (lit≤ tt) (wrote-text (c .before .before .put-octet2 .ensures)))
 
 same-length-4 : tie.Need-same-length-4
 same-length-4 c = search needs
@@ -84,11 +79,9 @@ put-third-spec =
     cast-put-decimal
     put-decimal-requires
     enum-told
-    slice-aggregate-put-text
-    put-text-requires
+    put-octet-requires
     enum-told-2
-    slice-aggregate-put-text-2
-    put-text-requires-2
+    put-octet-requires-2
     enum-known-v-2
     put-decimal-requires-2
     same-length

@@ -1,27 +1,32 @@
--- What came stands in the frame area.
-use Rattle.unpack.proofs.Carried.{turned-came}
--- What came stands in the frame area.
-use native.Mathlib.Omega.{arith}
-use Rattle.rules.proofs.Valid.{good-reader}
+-- A read that failed, no octets, or a frame.
+use mathlib.Core.Path.{sym}
+use lib.Seq.{length-take-le}
+use Rattle.unpack.proofs.Carried.{taken-failed, taken-none, taken-some, halts, takes}
 use borrow.Author.Needs.{needs}
 use Rattle.unpack.proofs.each_frame.turn_frame.Statement.{statement}
 use Rattle.unpack.proofs.each_frame.turn_frame.Tie as tie
 
-read-frame-requires : tie.Need-read-frame-requires
-read-frame-requires c κs = omega (arith, good-reader _ (c .before .before .before .before .before .before .before .pre .0) .setting .high)
+halted-requires : tie.Need-halted-requires
+halted-requires c κs = search needs
 
-take-came-requires : tie.Need-take-came-requires
-take-came-requires c κs =
-    let c₈ = c .before .before .before .before .before .before .before .before in (
-      c₈ .before .before .before .before .before .before .pre .0,
-      c₈ .before .before .before .before .before .before .pre .1,
-      omega (
-        arith,
-        c .before .before .before .before .before .before .read-frame .ensures,
-        good-reader _
-            (c₈ .before .before .before .before .before .before .pre .0) .setting .high,
-      ),
-    )
+returns : tie.Need-returns
+returns c =
+    let a = c .before .before .before .before .before .before .args in halts (a .u) (a .came) _ _ _ _ (taken-failed (a .came) (c .before .if1 .taken))
+    (c .halted .ensures)
+
+halted-requires-2 : tie.Need-halted-requires-2
+halted-requires-2 c κs = search needs
+
+returns-2 : tie.Need-returns-2
+returns-2 c =
+    let a = c .before .before .before .before .before .before .before .args in halts (a .u) (a .came) _ _ _ _ (taken-none (a .came)
+    (c .before .before .if1 .left) (c .before .if2 .taken)) (c .halted2 .ensures)
+
+slice-aggregate-handle : tie.Need-slice-aggregate-handle
+slice-aggregate-handle c = sym (length-take-le _ _ (search needs))
+
+handle-requires : tie.Need-handle-requires
+handle-requires c κs = search needs
 
 same-length : tie.Need-same-length
 same-length c = search needs
@@ -32,20 +37,26 @@ same-length-2 c = search needs
 same-length-3 : tie.Need-same-length-3
 same-length-3 c = search needs
 
-same-length-4 : tie.Need-same-length-4
-same-length-4 c = search needs
-
-returns : tie.Need-returns
-returns c = turned-came (c .before .before .before .before .before .before .take-came .ensures)
+returns-3 : tie.Need-returns-3
+returns-3 c =
+    let c₈ = c .before .before .before .before .before .before .before .before in
+    let c₁₆ = c₈ .before .before .before .before .before .before .before .before in
+    let a = c₁₆ .before .args
+    in takes (a .u) (a .came) _ _ (taken-some (a .came) (c₈ .before .before .before .before
+    .if1 .left) (c₈ .before .before .before .if2 .left))
+    (c .before .before .before .before .before .before .handle .ensures)
 
 pub turn-frame-spec : {M : Type 1} → statement M
 turn-frame-spec =
     tie.close
     (tie.spec
-    read-frame-requires
-    take-came-requires
+    halted-requires
+    returns
+    halted-requires-2
+    returns-2
+    slice-aggregate-handle
+    handle-requires
     same-length
     same-length-2
     same-length-3
-    same-length-4
-    returns)
+    returns-3)

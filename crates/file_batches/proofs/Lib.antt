@@ -1,5 +1,0 @@
--- Laws that the functions' proofs cite, and what a batch so gathered keeps.
-pub mod Turns
-pub mod Kept
-pub mod Shifts
-pub mod Windows

@@ -1,0 +1,82 @@
+-- The second part is laid where the first ends, the record gives start and length, and the tally rises by one unit of both lengths.
+use mathlib.Core.Path.{_≡_, refl, ap, _∙_}
+use mathlib.Core.List.{List, _++_}
+use Prim.Native.Nat.{ℕ, _+_, _-_, _*_}
+use native.Mathlib.Omega.{arith}
+use lib.ListN.{length, length-append}
+use borrow.Author.Needs.{needs}
+use Rattle.rules.specs.Areas.{laid, recordSize}
+use Rattle.rules.specs.Reading.{recordOf}
+use Rattle.rules.proofs.Areas.{laid-laid}
+use Rattle.lanes.proofs.Hands.{two-fit, one-handed}
+use Rattle.lanes.proofs.units.hand_out.Statement.{statement}
+use Rattle.lanes.proofs.units.hand_out.Tie as tie
+
+add-middle : tie.Need-add-middle
+add-middle c = search needs
+
+add-end : tie.Need-add-end
+add-end c = let q = two-fit (c .before .before .before .before .args .first .now) (c .before .before .before .before .args .second .now)
+    (c .before .before .before .before .pre) in search needs
+
+lay-requires : tie.Need-lay-requires
+lay-requires c κs = let q = two-fit (c .before .before .before .before .before .args .first .now)
+    (c .before .before .before .before .before .args .second .now) (c .before .before .before .before .before .pre) in search needs
+
+lay-requires-2 : tie.Need-lay-requires-2
+lay-requires-2 c κs =
+    let c₈ = c .before .before .before .before .before .before .before .before in
+    let q = two-fit (c₈ .before .args .first .now) (c₈ .before .args .second .now) (c₈ .before .pre) in search needs
+
+mul-lay-record : tie.Need-mul-lay-record
+mul-lay-record c = search needs
+
+sub-lay-record : tie.Need-sub-lay-record
+sub-lay-record c = search needs
+
+lay-record-requires : tie.Need-lay-record-requires
+lay-record-requires c κs = search needs
+
+add-t10 : tie.Need-add-t10
+add-t10 c =
+    let c₈ = c .before .before .before .before .before .before .before .before in
+    let c₁₆ = c₈ .before .before .before .before .before .before .before .before in
+    let g = c₁₆ .before .before .good .1 .1 .1 .1 .1 in search needs
+
+same-length : tie.Need-same-length
+same-length c = search needs
+
+same-length-2 : tie.Need-same-length-2
+same-length-2 c = search needs
+
+returns : tie.Need-returns
+returns c =
+    let c₈ = c .before .before .before .before .before .before .before .before in
+    let c₁₆ = c₈ .before .before .before .before .before .before .before .before in
+    let a = c₁₆ .before .before .args in
+    let fit = two-fit (a .first .now) (a .second .now) (c₁₆ .before .before .pre) in
+    let n : length (a .first .now ++ a .second .now) ≡ length (a .first .now) + length (a .second .now) = length-append (a .first .now) (a .second .now) in
+    let size : a .t .octets + length (a .first .now) + length (a .second .now) - a .t .octets ≡ length (a .first .now ++ a .second .now) = omega arith in
+    one-handed
+    (c .before .before .before .before .before .before .before .before .lay2 .ensures ∙ ap
+    (λ (x : List ℕ). laid x (a .t .octets + length (a .first .now)) (a .second .now)) (c₈ .before .before .before .before .lay .ensures)
+    ∙ laid-laid (a .units .now) (a .t .octets) (a .first .now) (omega arith) (a .second .now))
+    (c .before .before .before .lay-record .ensures ∙ ap (λ (k : ℕ). laid (a .records .now) (recordSize * a .t .count) (recordOf (a .info) (a .t .octets) k))
+    size)
+    refl (omega arith) refl refl refl
+
+pub hand-out-spec : {M : Type 1} → statement M
+hand-out-spec =
+    tie.close
+    (tie.spec
+    add-middle
+    add-end
+    lay-requires
+    lay-requires-2
+    mul-lay-record
+    sub-lay-record
+    lay-record-requires
+    add-t10
+    same-length
+    same-length-2
+    returns)

@@ -1,0 +1,114 @@
+// Units handed out into lent areas, and what becomes of held octets with those that follow them. Everything appends: a tally goes in
+// and comes out.
+ghost use mathlib.Core.Path.{_≡_};
+ghost use Prim.Native.Nat.{_+_, _≤_};
+ghost use lib.ListN.{length, take};
+ghost use Rattle.rules.specs.Areas.{laid, recordSize};
+ghost use Rattle.rules.specs.Reading.{unitFrom, nothing, hands, become, recordOf};
+ghost use Rattle.lanes.specs.Hands.{Room, Handed, Ready, Went};
+use rules::Fate;
+use rules::Info;
+use rules::Kind;
+
+// How many units were handed out, how many octets they have, and how many octets were idle, fill or dropped.
+pub struct Tally {
+    pub count: usize,
+    pub octets: usize,
+    pub idle: usize,
+    pub fill: usize,
+    pub dropped: usize,
+}
+
+// How a lane stands in its step: the tally so far, and how many octets it holds.
+pub struct Stand {
+    pub tally: Tally,
+    pub held: usize,
+}
+
+// What a lane brings to its step: its kind and longest unit, and what the records of the frame have in common.
+pub struct Terms {
+    pub info: Info,
+    pub longest: usize,
+    pub kind: Kind,
+}
+
+// Lays the record of a unit of `size` octets from octet `start` on into `area` from octet `from` on.
+fn lay_record(area: &mut [u8], from: usize, info: Info, start: usize, size: usize)
+    requires { ⌜ from + recordSize ≤ length (now area) ⌝ }
+    ensures { λ _. ⌜ now (area .exit) ≡ laid (now (area .entry)) from (recordOf info start size) ⌝ }
+{
+    let whose = [info.lane, info.vc, info.map, info.service];
+    octets::lay(area, from, &whose);
+    octets::lay_number(area, from + 4, 4, start as u64);
+    octets::lay_number(area, from + 8, 4, size as u64);
+    octets::lay_number(area, from + 12, 4, info.count);
+}
+
+// Hands out a unit of two parts: its octets, its record, and the tally with it.
+pub fn hand_out(
+    info: Info,
+    t: Tally,
+    first: &[u8],
+    second: &[u8],
+    units: &mut [u8],
+    records: &mut [u8],
+) -> Tally
+    requires { ⌜ Room t (now units) (now records) (hands (unitFrom (now first) (now second)) nothing) ⌝ }
+    ensures { λ r. ⌜ Handed info t (now (units .entry)) (now (records .entry)) (hands (unitFrom (now (first .entry)) (now (second .entry))) nothing) r (now (units .exit)) (now (records .exit)) ⌝ }
+{
+    let start = t.octets;
+    let middle = start + first.len();
+    let end = middle + second.len();
+    octets::lay(units, start, first);
+    octets::lay(units, middle, second);
+    lay_record(
+        records,
+        rules::RECORD_SIZE * t.count,
+        info,
+        start,
+        end - start,
+    );
+    Tally {
+        count: t.count + 1,
+        octets: end,
+        idle: t.idle,
+        fill: t.fill,
+        dropped: t.dropped,
+    }
+}
+
+// Does with the held octets and those that follow them what is to become of them.
+pub fn settle(
+    info: Info,
+    s: Stand,
+    fate: Fate,
+    part: &mut [u8],
+    next: &[u8],
+    units: &mut [u8],
+    records: &mut [u8],
+) -> Stand
+    requires { ⌜ Ready s (now units) (now records) (now part) (now next) (become fate (unitFrom (take (s .held) (now part)) (now next))) ⌝ }
+    ensures { λ r. ⌜ Went info (s .tally) (now (units .entry)) (now (records .entry)) (now (part .entry)) (become fate (unitFrom (take (s .held) (now (part .entry))) (now (next .entry)))) r (now (units .exit)) (now (records .exit)) (now (part .exit)) ⌝ }
+{
+    let h = s.held;
+    let n = h + next.len();
+    let mut t = s.tally;
+    match fate {
+        Fate::Hand => {
+            t = hand_out(info, t, &part[..h], next, units, records);
+            return Stand { tally: t, held: 0 };
+        }
+        Fate::Blank => {
+            t.idle = t.idle + n;
+            return Stand { tally: t, held: 0 };
+        }
+        Fate::Hold => {
+            octets::lay(part, h, next);
+            return Stand { tally: t, held: n };
+        }
+        Fate::Drop => {
+            t.dropped = t.dropped + n;
+            return Stand { tally: t, held: 0 };
+        }
+    }
+}

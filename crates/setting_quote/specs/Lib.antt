@@ -1,2 +1,0 @@
-pub mod Quotes
-pub mod Places

@@ -1,0 +1,55 @@
+-- `streams::lengths::blanks_of`: what was counted, and the front of the rest.
+use Prim.Native.Nat.{_-_}
+use lib.ListN.{length}
+use Rattle.streams.specs.Lengths.{isBlank}
+use Rattle.streams.proofs.Fronts.{Counted, counted-none, counted-more, counted-all, counted-here}
+use borrow.Author.Needs.{needs}
+use Rattle.streams.proofs.lengths.blanks_of.Statement.{statement}
+use Rattle.streams.proofs.lengths.blanks_of.Tie as tie
+
+abbrev Inv-loop : tie.InvT-loop
+Inv-loop s i₀ i = Counted isBlank s i
+
+abbrev μ-loop : tie.MeasureT-loop
+μ-loop s i₀ i = length s - i
+
+loop-holds : tie.Need-loop-holds Inv-loop μ-loop
+loop-holds c = counted-none
+
+shared-slice-read-is-blank : tie.Need-shared-slice-read-is-blank Inv-loop μ-loop
+shared-slice-read-is-blank c = search needs
+
+is-blank-requires : tie.Need-is-blank-requires Inv-loop μ-loop
+is-blank-requires c κs = search needs
+
+add-i : tie.Need-add-i Inv-loop μ-loop
+add-i c = search needs
+
+loop-less : tie.Need-loop-less Inv-loop μ-loop
+loop-less c = search needs
+
+loop-again : tie.Need-loop-again Inv-loop μ-loop
+loop-again c =
+    counted-more (c .before .before .before .before .loop .inv) (c .before .before .before .loop-test .taken) (c .before .is-blank .ensures) (c .if1 .taken)
+
+returns : tie.Need-returns Inv-loop μ-loop
+returns c = counted-all (c .before .loop .inv) (c .loop-test .left)
+
+returns-2 : tie.Need-returns-2 Inv-loop μ-loop
+returns-2 c =
+    counted-here (c .before .before .before .before .loop .inv) (c .before .before .before .loop-test .taken) (c .before .is-blank .ensures) (c .if1 .left)
+
+pub blanks-of-spec : {M : Type 1} → statement M
+blanks-of-spec =
+    tie.close
+    (tie.spec
+    Inv-loop
+    μ-loop
+    loop-holds
+    shared-slice-read-is-blank
+    is-blank-requires
+    add-i
+    loop-less
+    loop-again
+    returns
+    returns-2)

@@ -1,2 +1,0 @@
-pub mod Starts
-pub mod Words
