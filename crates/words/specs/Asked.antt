@@ -1,12 +1,22 @@
 -- What the words of a command line ask for.
 use Prim.Native.Nat.{ℕ}
 use mathlib.Core.Bool.{true, false, cond, _&&_}
+use mathlib.Core.List.{List}
+use Rattle.rules.specs.Listing.{text}
 use Rattle.rules.specs.Tests.{_=?_, _≤?_}
+use Rattle.words.specs.Words.{isWord, isOption}
 use Rattle.words.specs.declared.Word.{Word}
 use Rattle.words.specs.declared.Word.the-variants as word
 use Rattle.words.specs.declared.Asked.{Asked}
 use Rattle.words.specs.declared.Start.{Start}
 use Rattle.words.specs.declared.Start.the-variants as start
+
+-- "Words that begin with two dashes are options, wherever they stand": what a word is that is no option of the program's own.
+unfoldable pub wordOf : List ℕ → Word
+wordOf w =
+    cond (isOption w)
+    (cond (isWord (text "--help") w) word.Help (cond (isWord (text "--version") w) word.Version word.Unknown))
+    word.Name
 
 unfoldable pub noAsked : Asked
 noAsked = record { names = 0; one = 0; two = 0; three = 0; unknown = 0; first = false; second = false; help = false; version = false }

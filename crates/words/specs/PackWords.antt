@@ -6,6 +6,7 @@ use lib.ListN.{getD}
 use Rattle.rules.specs.Tests.{_≤?_, _<?_, _=?_, all}
 use Rattle.rules.specs.Listing.{text}
 use Rattle.words.specs.Words.{begins, isWord, isOption}
+use Rattle.words.specs.Asked.{wordOf as otherWord}
 use Rattle.words.specs.declared.Word.{Word}
 use Rattle.words.specs.declared.Word.the-variants as word
 use Rattle.words.specs.declared.pack_start.Named.{Named}
@@ -13,12 +14,7 @@ use Rattle.words.specs.declared.pack_start.Named.the-variants as names
 
 -- "Words that begin with two dashes are options, wherever they stand, and count for nothing else."
 unfoldable pub wordOf : List ℕ → Word
-wordOf w =
-    cond (isOption w)
-    (cond (isWord (text "--interleave") w) word.First
-    (cond (isWord (text "--help") w) word.Help
-    (cond (isWord (text "--version") w) word.Version word.Unknown)))
-    word.Name
+wordOf w = cond (isWord (text "--interleave") w) word.First (otherWord w)
 
 -- One digit that is the number of a lane, then =. Octet 48 is the digit 0, 61 is =.
 unfoldable pub lane : ℕ → List ℕ → Named

@@ -7,7 +7,7 @@ ghost use mathlib.Core.Path.{_≡_};
 ghost use Prim.Native.Nat.{_≤_};
 ghost use lib.ListN.{length};
 ghost use Rattle.words.specs.Words.{begins as beginsWith, isWord, isOption, isDash, behind as behindOf};
-ghost use Rattle.words.specs.Asked.{noAsked, named, askedNext, startOf};
+ghost use Rattle.words.specs.Asked.{wordOf, noAsked, named, askedNext, startOf};
 
 // Whether these octets begin with that word.
 pub fn begins(s: &[u8], word: &[u8]) -> bool
@@ -99,6 +99,25 @@ pub enum Start {
     Unknown(usize),
     Usage,
     Work,
+}
+
+// What a word is that is no option of the program's own.
+pub fn word_of(word: &[u8]) -> Word
+    ensures { λ r. ⌜ r ≡ wordOf (now (word .entry)) ⌝ }
+{
+    let option = is_option(word);
+    if option {} else {
+        return Word::Name;
+    }
+    let help = is_word(word, b"--help");
+    if help {
+        return Word::Help;
+    }
+    let version = is_word(word, b"--version");
+    if version {
+        return Word::Version;
+    }
+    Word::Unknown
 }
 
 // Nothing is asked for.

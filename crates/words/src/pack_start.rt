@@ -16,23 +16,11 @@ use files::Known;
 pub fn word_of(word: &[u8]) -> Word
     ensures { λ r. ⌜ r ≡ wordOf (now (word .entry)) ⌝ }
 {
-    let option = crate::is_option(word);
-    if option {} else {
-        return Word::Name;
-    }
     let interleave = crate::is_word(word, b"--interleave");
     if interleave {
         return Word::First;
     }
-    let help = crate::is_word(word, b"--help");
-    if help {
-        return Word::Help;
-    }
-    let version = crate::is_word(word, b"--version");
-    if version {
-        return Word::Version;
-    }
-    Word::Unknown
+    crate::word_of(word)
 }
 
 // What a run does that is asked for this: it takes a setting and at least one name more, of which no more than four in all are counted.

@@ -62,10 +62,6 @@ pub fn little_of(read: u64, refused: u64) -> Little
 pub fn word_of(word: &[u8]) -> Word
     ensures { λ r. ⌜ r ≡ wordOf (now (word .entry)) ⌝ }
 {
-    let option = crate::is_option(word);
-    if option {} else {
-        return Word::Name;
-    }
     let totals = crate::is_word(word, b"--totals");
     if totals {
         return Word::First;
@@ -74,15 +70,7 @@ pub fn word_of(word: &[u8]) -> Word
     if units {
         return Word::Second;
     }
-    let help = crate::is_word(word, b"--help");
-    if help {
-        return Word::Help;
-    }
-    let version = crate::is_word(word, b"--version");
-    if version {
-        return Word::Version;
-    }
-    Word::Unknown
+    crate::word_of(word)
 }
 
 // What a run does that is asked for this: it takes three names.
