@@ -1,5 +1,5 @@
-// What the archive's programs say to the people who run them, and whether they may: nothing is said into an input. How names and words of others are
-// printed is promised; no contract can speak of what is written to a descriptor.
+// What the people who run the archive's programs ask for, what the programs say to them, and whether they may: nothing is said into an input. How names
+// and words of others are printed is promised; no contract can speak of what is on a command line, or of what is written to a descriptor.
 pub mod progress;
 
 ghost use mathlib.Core.Path.{_≡_};
@@ -9,6 +9,8 @@ ghost use mathlib.Core.Bool.{cond};
 ghost use Rattle.rules.specs.Tests.{_<?_};
 ghost use Rattle.console.specs.Shown.{plainOf, shown};
 use files::Known;
+use words::Asked;
+use words::Program;
 
 // The octet that stands for one of a name: a question mark for those that would end the line or do something to a terminal.
 fn plain(x: u8) -> u8
@@ -116,6 +118,27 @@ pub fn say_count(program: &[u8], word: &[u8], n: u64, what: &[u8]) {
     io::print_decimal(2, n);
     io::write_all(2, what);
     io::write_all(2, b"\n");
+}
+
+// ---- the command line
+
+// With word i more.
+fn add_word(program: Program, q: Asked, i: usize) -> Asked {
+    let mut word = io::buffer();
+    let n = os::arg(i, &mut word);
+    let w = words::word_to(program, &word[..n]);
+    words::next_word(q, i, w)
+}
+
+// What n words of a program's command line ask for.
+pub fn read_words(program: Program, n: usize) -> Asked {
+    let mut q = words::no_asked();
+    let mut i: usize = 1;
+    while i < n {
+        q = add_word(program, q, i);
+        i += 1;
+    }
+    q
 }
 
 // ---- whether something may be said

@@ -23,6 +23,7 @@ use turns::Course;
 use turns::Move;
 use turns::Source;
 use words::Asked;
+use words::Program;
 use words::Start;
 use words::pack_start::Bad;
 use words::pack_start::Named;
@@ -1016,25 +1017,6 @@ fn with_words(q: Asked, n: usize) {
 
 // ---- the command line
 
-// With word i more.
-fn add_word(q: Asked, i: usize) -> Asked {
-    let mut word = io::buffer();
-    let n = os::arg(i, &mut word);
-    let w = words::pack_start::word_of(&word[..n]);
-    words::next_word(q, i, w)
-}
-
-// What n words ask for.
-fn read_words(n: usize) -> Asked {
-    let mut q = words::no_asked();
-    let mut i: usize = 1;
-    while i < n {
-        q = add_word(q, i);
-        i += 1;
-    }
-    q
-}
-
 // Says that a word is no option.
 fn say_unknown(i: usize) {
     let mut word = io::buffer();
@@ -1076,7 +1058,7 @@ fn begin(start: Start, q: Asked, n: usize) {
 fn main() {
     let n = os::arg_count();
     if console::may_say(true, n, 0) {
-        let q = read_words(n);
+        let q = console::read_words(Program::Pack, n);
         begin(words::pack_start::start_of(q), q, n);
     }
 }

@@ -22,6 +22,7 @@ use rules::Reader;
 use rules::Setting;
 use setting_file::Loaded;
 use words::Asked;
+use words::Program;
 use words::Start;
 use words::unpack_start::Little;
 use words::unpack_start::Prefix;
@@ -509,25 +510,6 @@ fn with_words(q: Asked) {
 
 // ---- the command line
 
-// With word i more.
-fn add_word(q: Asked, i: usize) -> Asked {
-    let mut word = io::buffer();
-    let n = os::arg(i, &mut word);
-    let w = words::unpack_start::word_of(&word[..n]);
-    words::next_word(q, i, w)
-}
-
-// What n words ask for.
-fn read_words(n: usize) -> Asked {
-    let mut q = words::no_asked();
-    let mut i: usize = 1;
-    while i < n {
-        q = add_word(q, i);
-        i += 1;
-    }
-    q
-}
-
 // Says that a word is no option.
 fn say_unknown(i: usize) {
     let mut word = io::buffer();
@@ -574,7 +556,7 @@ fn begin(start: Start, q: Asked) {
 
 // Does what n words ask for, where nothing is said into a file that one of them names.
 fn begin_with(n: usize) {
-    let q = read_words(n);
+    let q = console::read_words(Program::Unpack, n);
     let prefix = words::unpack_start::prefix_at(q);
     let may = console::may_say(false, n, prefix);
     if may {

@@ -8,6 +8,7 @@ ghost use Prim.Native.Nat.{_≤_};
 ghost use lib.ListN.{length};
 ghost use Rattle.words.specs.Words.{begins as beginsWith, isWord, isOption, isDash, behind as behindOf};
 ghost use Rattle.words.specs.Asked.{wordOf, noAsked, named, askedNext, startOf};
+ghost use Rattle.words.specs.Programs.{wordTo};
 
 // Whether these octets begin with that word.
 pub fn begins(s: &[u8], word: &[u8]) -> bool
@@ -118,6 +119,22 @@ pub fn word_of(word: &[u8]) -> Word
         return Word::Version;
     }
     Word::Unknown
+}
+
+// The programs whose words are told here.
+pub enum Program {
+    Unpack,
+    Pack,
+}
+
+// What a word of a program's command line is.
+pub fn word_to(program: Program, word: &[u8]) -> Word
+    ensures { λ r. ⌜ r ≡ wordTo program (now (word .entry)) ⌝ }
+{
+    match program {
+        Program::Unpack => unpack_start::word_of(word),
+        Program::Pack => pack_start::word_of(word),
+    }
 }
 
 // Nothing is asked for.

@@ -1,20 +1,20 @@
--- `pack::read_words` ends: word by word.
-use Prim.Native.Nat.{_-_}
+-- `console::read_words`: the words are counted.
 use borrow.Author.Needs.{needs}
-use Rattle.pack.proofs.read_words.Statement.{statement}
-use Rattle.pack.proofs.read_words.Tie as tie
+use Prim.Native.Nat.{_-_}
+use Rattle.console.proofs.read_words.Statement.{statement}
+use Rattle.console.proofs.read_words.Tie as tie
 
 abbrev Inv-loop : tie.InvT-loop
-Inv-loop n q₀ i₀ q i = Unit {0}
+Inv-loop program n q₀ i₀ q i = Unit {0}
 
 abbrev μ-loop : tie.MeasureT-loop
-μ-loop n q₀ i₀ q i = n - i
+μ-loop program n q₀ i₀ q i = n - i
 
 no-asked-requires : tie.Need-no-asked-requires Inv-loop μ-loop
 no-asked-requires c κs = search needs
 
 loop-holds : tie.Need-loop-holds Inv-loop μ-loop
-loop-holds c = search needs
+loop-holds c = tt
 
 add-word-requires : tie.Need-add-word-requires Inv-loop μ-loop
 add-word-requires c κs = search needs
@@ -26,7 +26,7 @@ loop-less : tie.Need-loop-less Inv-loop μ-loop
 loop-less c = search needs
 
 loop-again : tie.Need-loop-again Inv-loop μ-loop
-loop-again c = search needs
+loop-again c = tt
 
 returns : tie.Need-returns Inv-loop μ-loop
 returns c = search needs
