@@ -1,5 +1,6 @@
 /* What crate measure asks of the system beside the C library, for a build of it on a machine that is no x86-64: figures/run says when. Its functions
-   keep what the toolchain's crate os says of those with their names. */
+   keep what the toolchain's crate os says of those with their names. What fstat leaves is laid out for x86-64 in measure and is shorter here; which file the
+   setting's is, measure does not look at. */
 #include <errno.h>
 #include <fcntl.h>
 #include <string.h>
@@ -22,5 +23,7 @@ long rattle_arg(unsigned long i, char *area, unsigned long size) {
 }
 
 int rattle_open_to_read(const char *path) { return open(path, O_RDONLY); }
+
+int rattle_errno(void) { return errno; }
 
 void rattle_set_errno(int error) { errno = error; }

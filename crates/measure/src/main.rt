@@ -1,11 +1,12 @@
 // Work to be measured: the frame check, reads or writes of frames that come from standard input, and no other work for them to be held
-// against. Its two arguments are the work's word and a file with the setting in rows (docs/CALLS.md), which has one packet lane, an OCF and no
-// insert zone; it prints how many frames there were and a sum over what came out.
+// against. Its two arguments are the work's word and a file with the setting, which has one packet lane, an OCF and no insert zone; it prints
+// how many frames there were and a sum over what came out.
 ghost use mathlib.Core.Path.{_≡_};
 ghost use Prim.Native.Nat.{_+_, _%_, _≤_};
 ghost use mathlib.Core.List.{_∷_};
 ghost use lib.ListN.{getD};
 use rules::Answer;
+use rules::Outcome;
 use rules::Setting;
 use rules::Writer;
 
@@ -48,18 +49,6 @@ fn tell(frames: u64, sum: u64) {
 
 // ---- the work
 
-// The setting in the first 17 rows of the file that the second argument names; one of zeros, which is refused, where there is no such file.
-// It is called for in three places, so that the compiler keeps it a call: in its one caller it would take the setting apart into its fields, and
-// each copy of a state with it.
-fn setting_of() -> Setting {
-    let mut path = io::buffer();
-    let k = os::arg(2, &mut path);
-    let fd = os::open_read(&path[..k]);
-    let mut rows = [0u8; 1088];
-    io::read_full(fd, &mut rows);
-    rows::setting_in(&rows, 0)
-}
-
 // The next octets of standard input, as many as the area has; whether there were as many.
 fn next(area: &mut [u8]) -> bool {
     let n = io::read_full(0, area);
@@ -74,14 +63,17 @@ fn pass(checked: bool, area: &mut [u8]) {
     let mut k: u64 = 0;
     let mut sum: u64 = 0;
     while k < 18446744073709551615 {
-        if !next(area) {
+        let more = next(area);
+        if !more {
             tell(k, sum);
             return;
         }
         if checked {
-            sum = plus(sum, fecf::check_of(area) as u64);
+            let v = fecf::check_of(area);
+            sum = plus(sum, v as u64);
         } else {
-            sum = plus(sum, last(area, 1));
+            let v = last(area, 1);
+            sum = plus(sum, v);
         }
         k += 1;
     }
@@ -96,21 +88,25 @@ fn worth(a: Answer, units: &[u8]) -> u64 {
 }
 
 // A read of each frame.
-fn read(area: &mut [u8]) {
+fn read(s: Setting, area: &mut [u8]) {
     let mut held = [0u8; rules::HELD_SIZE];
     let mut units = [0u8; rules::UNITS_SIZE];
     let mut records = [0u8; rules::RECORDS_SIZE];
-    let l = reader::set_up(setting_of());
+    let l = reader::set_up(s);
     let mut state = l.state;
     let mut k: u64 = 0;
     let mut sum: u64 = 0;
     while k < 18446744073709551615 {
-        if !next(area) {
+        let more = next(area);
+        if !more {
             break;
         }
         let t = reader::read(state, area, &mut held, &mut units, &mut records);
-        state = t.state;
-        sum = plus(sum, worth(t.answer, &units));
+        let a = t.answer;
+        let after = t.state;
+        state = after;
+        let w = worth(a, &units);
+        sum = plus(sum, w);
         k += 1;
     }
     tell(k, sum);
@@ -121,6 +117,7 @@ struct Course {
     state: Writer,
     frames: u64,
     sum: u64,
+    good: bool,
 }
 
 // What is summed of a frame of n octets: the one before its middle and the last, which are of the zone and of the check or the OCF.
@@ -131,25 +128,39 @@ fn seen(area: &[u8], n: usize) -> u64 {
 // A frame of a batch.
 fn write_next(c: Course, size: usize, batch: &[u8], area: &mut [u8]) -> Course {
     let ocf = [0u8; 4];
+    let none = [0u8; 1];
     let w = c.state;
-    let t = writer::write(w, 0, batch, &batch[..0], &ocf, area);
+    let t = writer::write(w, 0, batch, &none[..0], &ocf, area);
+    let outcome = t.outcome;
     let after = t.state;
+    let x = seen(area, size);
+    let sum = plus(c.sum, x);
+    let frames = plus(c.frames, 1);
+    let good = match outcome {
+        Outcome::Done => true,
+        Outcome::Refused(_) => false,
+    };
     Course {
         state: after,
-        frames: plus(c.frames, 1),
-        sum: plus(c.sum, seen(area, size)),
+        frames: frames,
+        sum: sum,
+        good: good,
     }
 }
 
-// All frames of a batch. One that is refused is refused at its first frame, and leaves none begun.
+// All frames of a batch.
 fn write_batch(c: Course, size: usize, batch: &[u8], area: &mut [u8]) -> Course {
     let mut course = c;
     let mut k: u64 = 0;
     while k < 32768 {
-        course = write_next(course, size, batch, area);
-        let w = course.state;
+        let t = write_next(course, size, batch, area);
+        course = t;
+        let w = t.state;
         if w.next[0] == 0 {
-            break;
+            return t;
+        }
+        if !t.good {
+            return t;
         }
         k += 1;
     }
@@ -157,10 +168,9 @@ fn write_batch(c: Course, size: usize, batch: &[u8], area: &mut [u8]) -> Course 
 }
 
 // The frames of batches of 32,768 octets.
-fn write() {
+fn write(s: Setting) {
     let mut batch = [0u8; rules::BATCH_SIZE];
     let mut area = io::buffer();
-    let s = setting_of();
     let size = s.length;
     let l = writer::set_up(s);
     let w = l.state;
@@ -168,13 +178,16 @@ fn write() {
         state: w,
         frames: 0,
         sum: 0,
+        good: true,
     };
     let mut k: u64 = 0;
     while k < 18446744073709551615 {
-        if !next(&mut batch) {
+        let more = next(&mut batch);
+        if !more {
             break;
         }
-        course = write_batch(course, size, &batch, &mut area);
+        let t = write_batch(course, size, &batch, &mut area);
+        course = t;
         k += 1;
     }
     tell(course.frames, course.sum);
@@ -189,14 +202,25 @@ fn pass_batches() {
 // ---- the program
 
 // The work that a word's first letter says: pass, batches (pass by batches), check, read or write.
-fn work(letter: u8, area: &mut [u8]) {
-    match letter {
-        b'p' => pass(false, area),
-        b'b' => pass_batches(),
-        b'c' => pass(true, area),
-        b'r' => read(area),
-        b'w' => write(),
-        _ => {},
+fn work(letter: u8, s: Setting, area: &mut [u8]) {
+    if letter == b'p' {
+        pass(false, area);
+        return;
+    }
+    if letter == b'b' {
+        pass_batches();
+        return;
+    }
+    if letter == b'c' {
+        pass(true, area);
+        return;
+    }
+    if letter == b'r' {
+        read(s, area);
+        return;
+    }
+    if letter == b'w' {
+        write(s);
     }
 }
 
@@ -214,8 +238,16 @@ fn within(n: usize) -> usize
 fn main() {
     let mut word = [0u8; 8];
     os::arg(1, &mut word);
-    let s = setting_of();
-    let mut area = io::buffer();
-    let end = within(s.length);
-    work(word[0], &mut area[..end]);
+    let letter = word[0];
+    let mut path = io::buffer();
+    let k = os::arg(2, &mut path);
+    let mut text = [0u8; 65537];
+    let l = setting_file::load(b"measure", &path[..k], &mut text);
+    let j = l.judged;
+    let s = j.setting;
+    if j.good {
+        let mut area = io::buffer();
+        let end = within(s.length);
+        work(letter, s, &mut area[..end]);
+    }
 }

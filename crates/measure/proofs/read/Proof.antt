@@ -16,9 +16,6 @@ Inv-loop area₀ held₀ units₀ records₀ state₀ k₀ sum₀ area held unit
 abbrev μ-loop : tie.MeasureT-loop
 μ-loop area₀ held₀ units₀ records₀ state₀ k₀ sum₀ area held units records state k sum = 18446744073709551615 - k
 
-setting-of-requires : tie.Need-setting-of-requires Inv-loop μ-loop
-setting-of-requires c κs = search needs
-
 set-up-requires : tie.Need-set-up-requires Inv-loop μ-loop
 set-up-requires c κs = search needs
 
@@ -73,7 +70,6 @@ read-spec =
     (tie.spec
     Inv-loop
     μ-loop
-    setting-of-requires
     set-up-requires
     loop-holds
     next-requires

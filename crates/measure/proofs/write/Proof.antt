@@ -16,9 +16,6 @@ abbrev μ-loop : tie.MeasureT-loop
 buffer-requires : tie.Need-buffer-requires Inv-loop μ-loop
 buffer-requires c κs = search needs
 
-setting-of-requires : tie.Need-setting-of-requires Inv-loop μ-loop
-setting-of-requires c κs = search needs
-
 set-up-requires : tie.Need-set-up-requires Inv-loop μ-loop
 set-up-requires c κs = search needs
 
@@ -62,7 +59,6 @@ write-spec =
     Inv-loop
     μ-loop
     buffer-requires
-    setting-of-requires
     set-up-requires
     loop-holds
     slice-aggregate-next
