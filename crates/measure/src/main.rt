@@ -1,10 +1,12 @@
-// Work to be measured: the frame check, reads or writes of frames that come from standard input, and no other work for them to be held
+// Work to be measured: the frame check, headers, reads or writes of frames that come from standard input, and no other work for them to be held
 // against. Its two arguments are the work's word and a file with the setting, which has one packet lane, an OCF and no insert zone; it prints
 // how many frames there were and a sum over what came out.
 ghost use mathlib.Core.Path.{_≡_};
 ghost use Prim.Native.Nat.{_+_, _%_, _≤_};
 ghost use mathlib.Core.List.{_∷_};
 ghost use lib.ListN.{getD};
+use header::Data;
+use header::Head;
 use rules::Answer;
 use rules::Outcome;
 use rules::Setting;
@@ -58,8 +60,75 @@ fn next(area: &mut [u8]) -> bool {
     n == area.len()
 }
 
-// Reads the input, and sums its first octets or the check of each frame.
-fn pass(checked: bool, area: &mut [u8]) {
+// What is summed of a header that is read, every field: of the primary header up to its end flag, of the rest, and of the data field's.
+fn names(h: Head) -> u64 {
+    let whose = plus(plus(h.version as u64, h.craft as u64), h.bit as u64);
+    plus(
+        whose,
+        plus(plus(h.vc as u64, h.map as u64), h.ending as u64),
+    )
+}
+
+fn marks(h: Head) -> u64 {
+    let how = plus(plus(h.length as u64, h.bypass as u64), h.command as u64);
+    plus(
+        how,
+        plus(plus(h.spare as u64, h.ocf as u64), h.octets as u64),
+    )
+}
+
+fn rest(d: Data) -> u64 {
+    plus(plus(d.rule as u64, d.upid as u64), d.pointer as u64)
+}
+
+// An octet of an area, 0 where there is none.
+fn octet(area: &[u8], i: usize) -> u8 {
+    if i < area.len() {
+        return area[i];
+    }
+    0
+}
+
+// The numbers of a primary header and of a data field's header, with octets of a frame for what is written into them.
+fn numbers(s: Setting, area: &[u8]) -> u64 {
+    let channels = s.channels;
+    let lanes = s.lanes;
+    let mut t = s;
+    let mut c = channels[0];
+    let mut l = lanes[0];
+    t.craft = octet(area, 0) as u16;
+    t.bit = octet(area, 1);
+    c.vc = octet(area, 2);
+    l.map = octet(area, 3);
+    t.length = 1 + octet(area, 4) as usize;
+    c.service = octet(area, 5);
+    c.ocf = octet(area, 6) < 128;
+    c.octets = octet(area, 7) % 8;
+    let n = header::header_of(t, c, l);
+    let d = header::data_header_of(octet(area, 8), octet(area, 9), octet(area, 10) as usize);
+    plus(plus(n / 0x100000000, n), d)
+}
+
+// What is summed of the octets at hand, by the work's letter: their check, the fields of the two headers read from their front, the numbers of two
+// headers that are written; their first octet otherwise.
+fn value(letter: u8, s: Setting, area: &[u8]) -> u64 {
+    if letter == b'c' {
+        let v = fecf::check_of(area);
+        return v as u64;
+    }
+    if letter == b'h' {
+        let h = header::head_of(area);
+        let d = header::data_of(area);
+        return plus(plus(names(h), marks(h)), rest(d));
+    }
+    if letter == b'f' {
+        return numbers(s, area);
+    }
+    last(area, 1)
+}
+
+// Reads the input, and sums a value of each frame.
+fn pass(letter: u8, s: Setting, area: &mut [u8]) {
     let mut k: u64 = 0;
     let mut sum: u64 = 0;
     while k < 18446744073709551615 {
@@ -68,13 +137,8 @@ fn pass(checked: bool, area: &mut [u8]) {
             tell(k, sum);
             return;
         }
-        if checked {
-            let v = fecf::check_of(area);
-            sum = plus(sum, v as u64);
-        } else {
-            let v = last(area, 1);
-            sum = plus(sum, v);
-        }
+        let v = value(letter, s, area);
+        sum = plus(sum, v);
         k += 1;
     }
 }
@@ -194,25 +258,18 @@ fn write(s: Setting) {
 }
 
 // Reads the input by batches of 32,768 octets, and does nothing with it.
-fn pass_batches() {
+fn pass_batches(s: Setting) {
     let mut batch = [0u8; rules::BATCH_SIZE];
-    pass(false, &mut batch);
+    pass(b'p', s, &mut batch);
 }
 
 // ---- the program
 
-// The work that a word's first letter says: pass, batches (pass by batches), check, read or write.
+// The work that a word's first letter says: batches (pass by batches), read, write; else pass, check, heads (they are read) or fields (they are
+// written), which is a value of each frame.
 fn work(letter: u8, s: Setting, area: &mut [u8]) {
-    if letter == b'p' {
-        pass(false, area);
-        return;
-    }
     if letter == b'b' {
-        pass_batches();
-        return;
-    }
-    if letter == b'c' {
-        pass(true, area);
+        pass_batches(s);
         return;
     }
     if letter == b'r' {
@@ -221,7 +278,9 @@ fn work(letter: u8, s: Setting, area: &mut [u8]) {
     }
     if letter == b'w' {
         write(s);
+        return;
     }
+    pass(letter, s, area);
 }
 
 // A length that an area of 4,096 octets has.

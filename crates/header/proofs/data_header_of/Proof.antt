@@ -1,25 +1,15 @@
--- `header::data_header_of` meets its contract: a sum of fields, each times the width of those behind it.
-use native.Mathlib.Omega.{arith}
-use Rattle.rules.specs.Octets.{packed, widths}
+-- `header::data_header_of` meets its contract: rule, UPID and pointer are the fields.
+use Rattle.header.specs.Heads.{dataFields}
 use borrow.Author.Needs.{needs}
 use Rattle.header.proofs.data_header_of.Statement.{statement}
 use Rattle.header.proofs.data_header_of.Tie as tie
 
-mul-result : tie.Need-mul-result
-mul-result c = search needs
-
-mul-result-2 : tie.Need-mul-result-2
-mul-result-2 c = search needs
-
-add-result : tie.Need-add-result
-add-result c = search needs
-
-add-result-2 : tie.Need-add-result-2
-add-result-2 c = search needs
+data-number-requires : tie.Need-data-number-requires
+data-number-requires c κs = search needs
 
 returns : tie.Need-returns
-unfolding packed widths
-returns c = omega arith
+unfolding dataFields
+returns c = c .data-number .ensures
 
 pub data-header-of-spec : {M : Type 1} → statement M
-data-header-of-spec = tie.close (tie.spec mul-result mul-result-2 add-result add-result-2 returns)
+data-header-of-spec = tie.close (tie.spec data-number-requires returns)

@@ -7,10 +7,10 @@ use Rattle.measure.proofs.pass.Statement.{statement}
 use Rattle.measure.proofs.pass.Tie as tie
 
 abbrev Inv-loop : tie.InvT-loop
-Inv-loop checked area₀ k₀ sum₀ area k sum = length area ≡ length area₀
+Inv-loop letter s area₀ k₀ sum₀ area k sum = length area ≡ length area₀
 
 abbrev μ-loop : tie.MeasureT-loop
-μ-loop checked area₀ k₀ sum₀ area k sum = 18446744073709551615 - k
+μ-loop letter s area₀ k₀ sum₀ area k sum = 18446744073709551615 - k
 
 loop-holds : tie.Need-loop-holds Inv-loop μ-loop
 loop-holds c = search needs
@@ -27,20 +27,11 @@ same-length c = search needs
 returns : tie.Need-returns Inv-loop μ-loop
 returns c = search needs
 
-check-of-requires : tie.Need-check-of-requires Inv-loop μ-loop
-check-of-requires c κs = search needs
-
-cast-plus : tie.Need-cast-plus Inv-loop μ-loop
-cast-plus c = search needs
+value-requires : tie.Need-value-requires Inv-loop μ-loop
+value-requires c κs = search needs
 
 plus-requires : tie.Need-plus-requires Inv-loop μ-loop
 plus-requires c κs = search needs
-
-last-requires : tie.Need-last-requires Inv-loop μ-loop
-last-requires c κs = search needs
-
-plus-requires-2 : tie.Need-plus-requires-2 Inv-loop μ-loop
-plus-requires-2 c κs = search needs
 
 add-k : tie.Need-add-k Inv-loop μ-loop
 add-k c = search needs
@@ -68,11 +59,8 @@ pass-spec =
     tell-requires
     same-length
     returns
-    check-of-requires
-    cast-plus
+    value-requires
     plus-requires
-    last-requires
-    plus-requires-2
     add-k
     loop-less
     loop-again
