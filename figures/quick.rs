@@ -1,7 +1,8 @@
 //! The work that docs/FIGURES.md counts, by a Rust program that is made to be quick: what ours is held against. Written from document 01.
 //! Its calls are the paper's: a read is lent a frame and the areas, a write a lane and its batch, and each call judges what it is lent. A
 //! setting is judged once, in set-up; the states are kept in their place and can be changed by the calls alone, so that they stay valid. No call
-//! asks for memory. The frame check goes eight octets at a time, by tables (slicing by eight).
+//! asks for memory. The frame check goes eight octets at a time, by tables (slicing by eight); built with --cfg 'check="table"' it goes an octet
+//! at a time by a table of 256, and with --cfg 'check="bits"' bit by bit.
 //!
 //!     quick pass|batches|check|read|write LENGTH yes|no
 //!     quick units|records|frames LENGTH yes|no
@@ -18,17 +19,21 @@ use std::io::{self, Read, Write};
 /// TABLES[0] has the remainder of each octet; TABLES[k] that of an octet with k octets of zeros behind it.
 static TABLES: [[u16; 256]; 8] = tables();
 
+/// The register shifted eight times.
+const fn shifted(mut register: u16) -> u16 {
+    let mut bit = 0;
+    while bit < 8 {
+        register = if register & 0x8000 != 0 { register << 1 ^ 0x1021 } else { register << 1 };
+        bit += 1;
+    }
+    register
+}
+
 const fn tables() -> [[u16; 256]; 8] {
     let mut tables = [[0u16; 256]; 8];
     let mut octet = 0;
     while octet < 256 {
-        let mut register = (octet as u16) << 8;
-        let mut bit = 0;
-        while bit < 8 {
-            register = if register & 0x8000 != 0 { register << 1 ^ 0x1021 } else { register << 1 };
-            bit += 1;
-        }
-        tables[0][octet] = register;
+        tables[0][octet] = shifted((octet as u16) << 8);
         octet += 1;
     }
     let mut more = 1;
@@ -44,6 +49,22 @@ const fn tables() -> [[u16; 256]; 8] {
     tables
 }
 
+#[cfg(check = "bits")]
+fn frame_check(octets: &[u8]) -> u16 {
+    octets.iter().fold(0xFFFF, |register, &octet| shifted(register ^ u16::from(octet) << 8))
+}
+
+#[cfg(check = "table")]
+fn frame_check(octets: &[u8]) -> u16 {
+    octets.iter().fold(0xFFFF, step)
+}
+
+#[cfg(not(check = "bits"))]
+fn step(register: u16, octet: &u8) -> u16 {
+    register << 8 ^ TABLES[0][usize::from((register >> 8) as u8 ^ octet)]
+}
+
+#[cfg(not(any(check = "bits", check = "table")))]
 fn frame_check(octets: &[u8]) -> u16 {
     let mut register = 0xFFFFu16;
     let mut eights = octets.chunks_exact(8);
@@ -57,10 +78,7 @@ fn frame_check(octets: &[u8]) -> u16 {
             ^ TABLES[1][usize::from(o[6])]
             ^ TABLES[0][usize::from(o[7])];
     }
-    for &octet in eights.remainder() {
-        register = register << 8 ^ TABLES[0][usize::from((register >> 8) as u8 ^ octet)];
-    }
-    register
+    eights.remainder().iter().fold(register, step)
 }
 
 // ---- the setting

@@ -1,19 +1,9 @@
-// The frame check, bit by bit.
+// The frame check, octet by octet, by a table of 256 remainders.
 ghost use mathlib.Core.Path.{_≡_};
-ghost use Prim.Native.Nat.{_*_};
-ghost use lib.Bits.{bitXor};
-ghost use Rattle.rules.specs.Octets.{checkBit, checkBits, checkOf};
+ghost use Rattle.rules.specs.Octets.{checkOf};
+ghost use Rattle.fecf.specs.Remainders.{stepBy, fromBy};
 
-// The register shifted by one bit.
-fn shifted(r: u16) -> u16
-    ensures { λ v. ⌜ v ≡ checkBit r ⌝ }
-{
-    if 0x8000 <= r {
-        r % 0x8000 * 2 ^ 0x1021
-    } else {
-        r * 2
-    }
-}
+mod table;
 
 fn wide(x: u8) -> u16
     ensures { λ r. ⌜ r ≡ x ⌝ }
@@ -21,29 +11,30 @@ fn wide(x: u8) -> u16
     x as u16
 }
 
-// The register after an octet.
-fn taken(r: u16, x: u8) -> u16
-    ensures { λ v. ⌜ v ≡ checkBits 8 (bitXor r (x * 0x100)) ⌝ }
+// The register after an octet, by a table.
+fn taken(table: &[u16; 256], r: u16, x: u8) -> u16
+    ensures { λ v. ⌜ v ≡ stepBy (now (table .entry)) r x ⌝ }
 {
-    let a = shifted(r ^ wide(x) * 0x100);
-    let b = shifted(a);
-    let c = shifted(b);
-    let d = shifted(c);
-    let e = shifted(d);
-    let f = shifted(e);
-    let g = shifted(f);
-    shifted(g)
+    let i = r / 0x100 ^ wide(x);
+    r % 0x100 * 0x100 ^ table[i as usize]
 }
 
-// The frame check over these octets.
-pub fn check_of(octets: &[u8]) -> u16
-    ensures { λ v. ⌜ v ≡ checkOf (now (octets .entry)) ⌝ }
+// The register, preset to ones, after these octets, by a table.
+fn check_by(table: &[u16; 256], octets: &[u8]) -> u16
+    ensures { λ v. ⌜ v ≡ fromBy (now (table .entry)) 0xFFFF (now (octets .entry)) ⌝ }
 {
     let mut r: u16 = 0xFFFF;
     let mut i: usize = 0;
     while i < octets.len() {
-        r = taken(r, octets[i]);
+        r = taken(table, r, octets[i]);
         i += 1;
     }
     r
+}
+
+// The frame check over these octets. The table is lent, since a constant is copied whole wherever it is used.
+pub fn check_of(octets: &[u8]) -> u16
+    ensures { λ v. ⌜ v ≡ checkOf (now (octets .entry)) ⌝ }
+{
+    check_by(&table::REMAINDERS, octets)
 }

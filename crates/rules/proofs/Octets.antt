@@ -160,14 +160,14 @@ flag-small false = omega arith
 
 -- ---- the frame check
 
-bit-below : (r : ℕ) → checkBit r < 65536
+pub bit-below : (r : ℕ) → checkBit r < 65536
 unfolding checkBit
 bit-below r =
     split 0x8000 r
     (λ h. simp (le-leb _ _ h) (xor-lt 16 (r * 2 % 65536) 0x1021 (mod-lt (r * 2) (lit< tt)) (lit< tt)))
     (λ h. simp (lt-leb _ _ h) (omega arith))
 
-bits-below : (k r : ℕ) → checkBits (suc k) r < 65536
+pub bits-below : (k r : ℕ) → checkBits (suc k) r < 65536
 unfolding checkBits
 bits-below zero r = bit-below r
 bits-below (suc k) r = bits-below k (checkBit r)
