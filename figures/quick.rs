@@ -17,23 +17,27 @@ use std::io::{self, Read, Write};
 // ---- the frame check
 
 /// TABLES[0] has the remainder of each octet; TABLES[k] that of an octet with k octets of zeros behind it.
+#[cfg(not(check = "bits"))]
 static TABLES: [[u16; 256]; 8] = tables();
 
+const GENERATOR: u16 = 0x1021;
+
 /// The register shifted eight times.
-const fn shifted(mut register: u16) -> u16 {
+const fn shifted(mut register: u16, generator: u16) -> u16 {
     let mut bit = 0;
     while bit < 8 {
-        register = if register & 0x8000 != 0 { register << 1 ^ 0x1021 } else { register << 1 };
+        register = if register & 0x8000 != 0 { register << 1 ^ generator } else { register << 1 };
         bit += 1;
     }
     register
 }
 
+#[cfg(not(check = "bits"))]
 const fn tables() -> [[u16; 256]; 8] {
     let mut tables = [[0u16; 256]; 8];
     let mut octet = 0;
     while octet < 256 {
-        tables[0][octet] = shifted((octet as u16) << 8);
+        tables[0][octet] = shifted((octet as u16) << 8, GENERATOR);
         octet += 1;
     }
     let mut more = 1;
@@ -49,9 +53,11 @@ const fn tables() -> [[u16; 256]; 8] {
     tables
 }
 
+/// The compiler is not told the generator: of a loop over bits with one that it knows it makes a table.
 #[cfg(check = "bits")]
 fn frame_check(octets: &[u8]) -> u16 {
-    octets.iter().fold(0xFFFF, |register, &octet| shifted(register ^ u16::from(octet) << 8))
+    let generator = black_box(GENERATOR);
+    octets.iter().fold(0xFFFF, |register, &octet| shifted(register ^ u16::from(octet) << 8, generator))
 }
 
 #[cfg(check = "table")]

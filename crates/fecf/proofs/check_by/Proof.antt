@@ -1,5 +1,5 @@
 -- `fecf::check_by` meets its contract: the register after all octets is that after the rest, from the register so far.
-use Prim.Native.Nat.{ℕ, _+_, _-_, _≤_, _<_}
+use Prim.Native.Nat.{ℕ, _+_, _-_, _%_, _≤_, _<_}
 use mathlib.Core.Path.{_≡_, sym, _∙_}
 use mathlib.Core.List.{List}
 use native.Mathlib.Numerals.{add-one}
@@ -19,7 +19,7 @@ unfolding fromBy
 end t xs i r h = rw (drop-of-length-le xs h)
 
 abbrev Inv-loop : tie.InvT-loop
-Inv-loop table octets r₀ i₀ r i = (i ≤ length octets) × (fromBy table 0xFFFF octets ≡ fromBy table r (drop i octets))
+Inv-loop table octets r₀ i₀ r i = (i ≤ length octets) × (fromBy table 0xFFFF octets ≡ fromBy table (r % 0x10000) (drop i octets))
 
 abbrev μ-loop : tie.MeasureT-loop
 μ-loop table octets r₀ i₀ r i = length octets - i
@@ -42,7 +42,10 @@ loop-less c = search needs
 loop-again : tie.Need-loop-again Inv-loop μ-loop
 loop-again c =
     let l = c .before .before .before .loop in
-    (search needs, l .inv .1 ∙ turn _ _ (l .i) (l .r) (search needs) ∙ rw (c .taken .ensures))
+    (search needs, l .inv .1 ∙ turn _ _ (l .i) (l .r % 0x10000) (search needs) ∙ rw (c .taken .ensures))
+
+cast-result : tie.Need-cast-result Inv-loop μ-loop
+cast-result c = search needs
 
 returns : tie.Need-returns Inv-loop μ-loop
 returns c = sym (c .before .loop .inv .1 ∙ end _ _ _ _ (c .loop-test .left))
@@ -59,4 +62,5 @@ check-by-spec =
     add-i
     loop-less
     loop-again
+    cast-result
     returns)
