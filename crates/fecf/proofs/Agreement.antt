@@ -45,14 +45,17 @@ halves r x h =
     ∙ ap (λ (n : ℕ). bitXor (r / 256) x * 256 + n) (xor-zero-r (r % 256))
     ∙ sym (xor-shifted (bitXor (r / 256) x) 8 (r % 256) b)
 
+-- Moved up by an octet, a register keeps its low half alone.
+pub moved : (r : ℕ) → r * 256 % 65536 ≡ r % 256 * 256
+moved r = omega arith
+
 -- A step by the table is eight shifts.
 pub by-step : (t : List ℕ) → t ≡ remainders 0 256 → (r x : ℕ) → r < 65536 → x < 256 → stepBy t r x ≡ checkBits 8 (bitXor r (x * 0x100))
 unfolding stepBy remainder
 by-step t e r x hr hx =
     let i = bitXor (r / 256) x in
     let ih : i < 256 = xor-lt 8 (r / 256) x (omega arith) hx in
-    let moved : r * 256 % 65536 ≡ r % 256 * 256 = omega arith in
-    ap₂ bitXor (moved ∙ sym (low 8 (r % 256) (omega arith))) (ap (λ (l : List ℕ). getD l i 0) e ∙ entry 256 0 i ih ∙ ap remainder (zero-add i))
+    ap₂ bitXor (moved r ∙ sym (low 8 (r % 256) (omega arith))) (ap (λ (l : List ℕ). getD l i 0) e ∙ entry 256 0 i ih ∙ ap remainder (zero-add i))
     ∙ xor-comm (checkBits 8 (r % 256)) (checkBits 8 (i * 256))
     ∙ sym (ap (checkBits 8) (halves r x hr) ∙ shifts 8 (i * 256) (r % 256) (omega arith) (omega arith))
 

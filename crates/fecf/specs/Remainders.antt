@@ -15,7 +15,7 @@ unfoldable pub remainders : ℕ → ℕ → List ℕ
 remainders i zero = []
 remainders i (suc n) = remainder i ∷ remainders (suc i) n
 
--- The register after an octet, by a table: the low half moves up, and the entry at the high half, to which the octet is added, is added to it.
+-- The register after an octet, by a table. Its low half moves up. Its high half moves out and says, with the octet added to it, which entry is added.
 unfoldable pub stepBy : List ℕ → ℕ → ℕ → ℕ
 stepBy table r x = bitXor (r * 0x100 % 0x10000) (getD table (bitXor (r / 0x100) x) 0)
 

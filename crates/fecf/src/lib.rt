@@ -7,12 +7,6 @@ ghost use Rattle.fecf.specs.Remainders.{stepBy, fromBy};
 
 mod table;
 
-fn wide(x: u8) -> u32
-    ensures { λ r. ⌜ r ≡ x ⌝ }
-{
-    x as u32
-}
-
 // The register moved up by an octet, and an entry added. The register is the low half of r; what moves out of it stays above, where nobody looks at it,
 // since to clear that would take an instruction for each octet.
 fn added(r: u32, entry: u16) -> u32
@@ -25,7 +19,7 @@ fn added(r: u32, entry: u16) -> u32
 fn taken(table: &[u16; 256], r: u32, x: u8) -> u32
     ensures { λ v. ⌜ v % 0x10000 ≡ stepBy (now (table .entry)) (r % 0x10000) x ⌝ }
 {
-    let i = r / 0x100 % 0x100 ^ wide(x);
+    let i = r / 0x100 % 0x100 ^ x as u32;
     added(r, table[i as usize])
 }
 
