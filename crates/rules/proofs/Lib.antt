@@ -10,6 +10,7 @@ pub mod Judged
 pub mod States
 pub mod Calls
 pub mod Promises
+pub mod Looks
 pub mod Written
 pub mod Worked
 pub mod RuledOut

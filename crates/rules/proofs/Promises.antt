@@ -17,6 +17,7 @@ use Rattle.rules.specs.declared.Class.{Class}
 use Rattle.rules.specs.declared.Answer.{Answer}
 use Rattle.rules.specs.declared.Taken.{Taken}
 use Rattle.rules.specs.declared.Listener.{Listener}
+use Rattle.rules.specs.declared.Looked.{Looked}
 use Rattle.rules.specs.declared.Sender.{Sender}
 use Rattle.rules.specs.declared.Verdict.{Verdict}
 use Rattle.rules.specs.declared.Place.{Place}
@@ -25,10 +26,10 @@ use Rattle.rules.specs.Tests.{_=?_, none, Refusal, given}
 use Rattle.rules.specs.Settings.{channel, lane, settingOk, freshReader, freshWriter, noReader, noWriter}
 use Rattle.rules.specs.Frames.{vc, map, bypass, command, countIn}
 use Rattle.rules.specs.Refusals.{channelAt, laneAt, refusalsAt, refusals, onChannel, passed, judged}
-use Rattle.rules.specs.Calls.{refusalOf, classRefusal, setUpReader, setUpWriter, Sent, writeRefusals, written, write, Got, laidOut, readOn, onVerdict, readRefusals, verdict, read}
-use Rattle.rules.specs.Promises.{readerNumbers, writerNumbers, setUpNumbers, among, Told, outcomeLeaves, setUpRefusals, ReaderStarts, WriterStarts, WriteGives, placed, channelIn, laneIn, classIn, countOf, gapIn, madeIn, Values, valuesIn, classValues, classState, classArea, ReadGives}
+use Rattle.rules.specs.Calls.{refusalOf, classRefusal, setUpReader, setUpWriter, Sent, writeRefusals, written, write, Got, laidOut, readOn, onVerdict, readRefusals, verdict, read, lookRefusals, looked, onLook, look}
+use Rattle.rules.specs.Promises.{readerNumbers, writerNumbers, setUpNumbers, lookNumbers, among, Told, outcomeLeaves, setUpRefusals, ReaderStarts, WriterStarts, WriteGives, placed, channelIn, laneIn, classIn, countOf, gapIn, madeIn, Values, valuesIn, classValues, classState, classArea, ReadGives, missingIn, classMissing, classChannel, classLane, LookGives}
 use Rattle.rules.proofs.Tests.{and-left, given-zero, first-found, Found}
-use Rattle.rules.specs.Valid.{GoodReader}
+use Rattle.rules.specs.Valid.{Good}
 use Rattle.rules.proofs.Valid.{good-reader}
 use Rattle.rules.proofs.Judged.{Clear, clear}
 use Rattle.rules.proofs.States.{gap-setting}
@@ -193,7 +194,76 @@ got-same a b t x y z =
     ap₂ (λ (o : Taken) (i : List ℕ). record { taken = o; heldArea = i; unitArea = a .unitArea; recordArea = a .recordArea }) t x
     ∙ ap₂ (λ (i j : List ℕ). record { taken = b .taken; heldArea = b .heldArea; unitArea = i; recordArea = j }) y z
 
--- ---- read: a frame that passes the checks
+-- ---- a frame that passes the checks
+
+-- Its class, channel and lane are those of the verdict.
+abbrev Passes : Setting → List ℕ → Verdict → Type 0
+Passes s f (Verdict.Refused n) = ⊥
+Passes s f Verdict.Idle = classIn s f ≡ Class.Idle
+Passes s f (Verdict.Counted k) = (channelIn s f ≡ k) × (classIn s f ≡ Class.Counted)
+Passes s f (Verdict.Read l) = (channelIn s f ≡ (lane s l) .channel) × (laneIn s f ≡ l) × (classIn s f ≡ Class.Read)
+
+module _ (s : Setting) (f : List ℕ) where
+  class-other : vc f =? 63 ≡ false → (k : ℕ) → channelIn s f ≡ k → (p : Place) → laneAt s k (map f) ≡ p → (t : Bool) → command f =? 1 ≡ t
+      → classIn s f ≡ cond (t || none p) Class.Counted Class.Read
+  unfolding classIn
+  class-other e k q p o t a = rw (e, q, o, a)
+
+  lane-passes : vc f =? 63 ≡ false → (k : ℕ) → channelIn s f ≡ k → (p : Place) → laneAt s k (map f) ≡ p
+      → Found (λ (l : ℕ). (lane s l) .channel =? k && (lane s l) .map =? map f) (s .numbered) p → Passes s f (onChannel f k p)
+  unfolding onChannel laneIn
+  lane-passes e k q Nowhere o i = go (command f =? 1) refl
+    where
+      go : (t : Bool) → command f =? 1 ≡ t → Passes s f (Verdict.Counted k)
+      go true a = (q, class-other e k q Nowhere o true a)
+      go false a = (q, class-other e k q Nowhere o false a)
+  lane-passes e k q (At l) o i = go (command f =? 1) refl
+    where
+      on : (lane s l) .channel ≡ k
+      on = eqb-true _ _ (and-left _ _ (i .1))
+
+      go : (t : Bool) → command f =? 1 ≡ t → Passes s f (cond t (Verdict.Counted k) (Verdict.Read l))
+      go true a = (q, class-other e k q (At l) o true a)
+      go false a = (q ∙ sym on, rw q (ap placed o), class-other e k q (At l) o false a)
+
+  channel-passes : Good s → (p : Place) → channelAt s (vc f) (bypass f) ≡ p
+      → Found (λ (k : ℕ). (channel s k) .vc =? vc f && (channel s k) .service =? bypass f) (s .listed) p → Clear s f p → Passes s f (passed s f p)
+  unfolding passed channelIn laneAt
+  channel-passes g Nowhere q i k = go (vc f =? 63) refl (k .row₉)
+    where
+      go : (t : Bool) → vc f =? 63 ≡ t → (not t && true) ≡ false → classIn s f ≡ Class.Idle
+      go true e z = unfold classIn in rw e
+      go false e z = absurd (true≢false z)
+  channel-passes g (At j) q i k =
+      let v : (channel s j) .vc ≡ vc f = eqb-true _ _ (and-left _ _ (i .1)) in
+      lane-passes (ne-eqb (vc f) 63 (λ (e : vc f ≡ 63). omega (arith, v, e, g .channels j (i .0) .vc))) j (ap placed q) (laneAt s j (map f)) refl
+      (first-found _ (s .numbered))
+
+  passes : Good s → given (refusals s f) ≡ 0 → Passes s f (passed s f (channelAt s (vc f) (bypass f)))
+  unfolding refusals channelAt
+  passes g e = channel-passes g (channelAt s (vc f) (bypass f)) refl (first-found _ (s .listed)) (clear e)
+
+  -- No frame that passes is refused.
+  class-given : (n : ℕ) → classIn s f ≡ Class.Refused n → ⊥
+  unfolding classIn
+  class-given n e = never (vc f =? 63) (command f =? 1 || none (laneAt s (channelIn s f) (map f))) e
+    where
+      never : (t t′ : Bool) → cond t Class.Idle (cond t′ Class.Counted Class.Read) ≡ Class.Refused n → ⊥
+      never true t′ q = let z : _≡_ {A = ℕ} 0 1 = cc in omega (arith, z)
+      never false true q = let z : _≡_ {A = ℕ} 0 1 = cc in omega (arith, z)
+      never false false q = let z : _≡_ {A = ℕ} 0 1 = cc in omega (arith, z)
+
+  -- A refusal by a class has a number of its table.
+  class-among : (rs : List Refusal) (k : Class) → classRefusal k ≡ given rs → (given rs ≡ 0 → k ≡ classIn s f) → (n : ℕ) → k ≡ Class.Refused n
+      → among n (numbers rs) ≡ true
+  unfolding classRefusal
+  class-among rs k r d n e = go (given-among rs)
+    where
+      go : (given rs ≡ 0) ⊎ (among (given rs) (numbers rs) ≡ true) → among n (numbers rs) ≡ true
+      go (inl z) = absurd (class-given n (sym (d z) ∙ e))
+      go (inr q) = rw (ap classRefusal (sym e) ∙ r) q
+
+-- ---- read
 
 module _ (r : Reader) (f h u c : List ℕ) where
   abbrev pub Keeps : Got → Type 0
@@ -216,79 +286,27 @@ module _ (r : Reader) (f h u c : List ℕ) where
         records = refl;
       }
 
-  module _ (none-given : given (readRefusals r f h u c) ≡ 0) where
-    idle-gives : classIn s f ≡ Class.Idle → Keeps (onVerdict Verdict.Idle r f h u c)
-    unfolding onVerdict classRefusal valuesIn classValues classState classArea
-    idle-gives e =
-        record { refusal = sym none-given; class = λ z. sym e; values = refl; state = refl; held = refl; units = refl; records = refl }
-
-    counted-gives : (k : ℕ) → channelIn s f ≡ k → classIn s f ≡ Class.Counted → Keeps (onVerdict (Verdict.Counted k) r f h u c)
-    unfolding onVerdict classRefusal valuesIn classValues classState classArea gapIn countOf
-    counted-gives k q e =
-        record {
-          refusal = sym none-given;
-          class = λ z. sym e;
-          values = rw q;
-          state = rw q;
-          held = refl;
-          units = refl;
-          records = refl;
-        }
-
-    read-lane-gives : (k l : ℕ) → channelIn s f ≡ k → laneIn s f ≡ l → (lane s l) .channel ≡ k → classIn s f ≡ Class.Read
-        → Keeps (onVerdict (Verdict.Read l) r f h u c)
-    unfolding onVerdict readOn laidOut classRefusal valuesIn classValues classState classArea gapIn madeIn countOf
-    read-lane-gives k l q p o e =
-        record {
-          refusal = sym none-given;
-          class = λ z. sym e;
-          values = rw (q, p, o);
-          state = rw (q, p, o);
-          held = rw (q, p, o);
-          units = rw (q, p, o);
-          records = rw (q, p, o, gap-setting r k (countIn (channel (r .setting) k) f));
-        }
-
-    class-other : vc f =? 63 ≡ false → (k : ℕ) → channelIn s f ≡ k → (p : Place) → laneAt s k (map f) ≡ p → (t : Bool) → command f =? 1 ≡ t
-        → classIn s f ≡ cond (t || none p) Class.Counted Class.Read
-    unfolding classIn
-    class-other e k q p o t a = rw (e, q, o, a)
-
-    lane-gives : vc f =? 63 ≡ false → (k : ℕ) → channelIn s f ≡ k → (p : Place) → laneAt s k (map f) ≡ p
-        → Found (λ (l : ℕ). (lane s l) .channel =? k && (lane s l) .map =? map f) (s .numbered) p
-        → Keeps (onVerdict (onChannel f k p) r f h u c)
-    unfolding onChannel laneIn
-    lane-gives e k q Nowhere o i = go (command f =? 1) refl
-      where
-        go : (t : Bool) → command f =? 1 ≡ t → Keeps (onVerdict (Verdict.Counted k) r f h u c)
-        go true a = counted-gives k q (class-other e k q Nowhere o true a)
-        go false a = counted-gives k q (class-other e k q Nowhere o false a)
-    lane-gives e k q (At l) o i = go (command f =? 1) refl
-      where
-        on : (lane s l) .channel ≡ k
-        on = eqb-true _ _ (and-left _ _ (i .1))
-
-        go : (t : Bool) → command f =? 1 ≡ t → Keeps (onVerdict (cond t (Verdict.Counted k) (Verdict.Read l)) r f h u c)
-        go true a = counted-gives k q (class-other e k q (At l) o true a)
-        go false a = read-lane-gives k l q (rw q (ap placed o)) on (class-other e k q (At l) o false a)
-
-    channel-gives : GoodReader r → (p : Place) → channelAt s (vc f) (bypass f) ≡ p
-        → Found (λ (k : ℕ). (channel s k) .vc =? vc f && (channel s k) .service =? bypass f) (s .listed) p → Clear s f p
-        → Keeps (onVerdict (passed s f p) r f h u c)
-    unfolding passed channelIn laneAt
-    channel-gives g Nowhere q i k = idle-gives (go (vc f =? 63) refl (k .row₉))
-      where
-        go : (t : Bool) → vc f =? 63 ≡ t → (not t && true) ≡ false → classIn s f ≡ Class.Idle
-        go true e z = unfold classIn in rw e
-        go false e z = absurd (true≢false z)
-    channel-gives g (At j) q i k =
-        let v : (channel s j) .vc ≡ vc f = eqb-true _ _ (and-left _ _ (i .1)) in
-        lane-gives (ne-eqb (vc f) 63 (λ (e : vc f ≡ 63). omega (arith, v, e, g .setting .channels j (i .0) .vc))) j (ap placed q) (laneAt s j (map f)) refl
-        (first-found _ (s .numbered))
+  passed-gives : given (readRefusals r f h u c) ≡ 0 → (v : Verdict) → Passes s f v → Keeps (onVerdict v r f h u c)
+  unfolding onVerdict readOn laidOut classRefusal valuesIn classValues classState classArea gapIn madeIn countOf
+  passed-gives z (Verdict.Refused n) p = absurd p
+  passed-gives z Verdict.Idle e =
+      record { refusal = sym z; class = λ i. sym e; values = refl; state = refl; held = refl; units = refl; records = refl }
+  passed-gives z (Verdict.Counted k) p =
+      record { refusal = sym z; class = λ i. sym (p .1); values = rw (p .0); state = rw (p .0); held = refl; units = refl; records = refl }
+  passed-gives z (Verdict.Read l) p =
+      record {
+        refusal = sym z;
+        class = λ i. sym (p .2);
+        values = rw (p .0, p .1);
+        state = rw (p .0, p .1);
+        held = rw (p .0, p .1);
+        units = rw (p .0, p .1);
+        records = rw (p .0, p .1, gap-setting r ((lane s l) .channel) (countIn (channel (r .setting) ((lane s l) .channel)) f));
+      }
 
   -- The rule of a read keeps the promise.
   pub read-gives : Keeps (read r f h u c)
-  unfolding read verdict readRefusals refusals channelAt
+  unfolding read verdict readRefusals
   read-gives = go (given (readRefusals r f h u c)) refl
     where
       go : (n : ℕ) → given (readRefusals r f h u c) ≡ n → Keeps (onVerdict (judged s f n) r f h u c)
@@ -296,7 +314,7 @@ module _ (r : Reader) (f h u c : List ℕ) where
           unfold judged in
           let r₁ = given-zero _ _ (zero-lt-suc 0) e in
           let r₂ = given-zero _ _ (zero-lt-suc 1) (r₁ .1) in
-          channel-gives e (good-reader r (not-false _ (r₁ .0))) (channelAt s (vc f) (bypass f)) refl (first-found _ (s .listed)) (clear (r₂ .1))
+          passed-gives e (passed s f (channelAt s (vc f) (bypass f))) (passes s f (good-reader r (not-false _ (r₁ .0)) .setting) (r₂ .1))
       go (suc n) e = unfold judged in refused-gives n e
 
   -- Outcomes allowed for one input are equal.
@@ -316,20 +334,65 @@ module _ (r : Reader) (f h u c : List ℕ) where
 
   -- "Reader 1 to 12."
   pub read-number : (a : Got) → Keeps a → (n : ℕ) → a .taken .answer .class ≡ Class.Refused n → among n readerNumbers ≡ true
-  unfolding readRefusals refusals refusalsAt numbers classRefusal classIn
-  read-number a p n e = go (given-among (readRefusals r f h u c))
-    where
-      never : (t t′ : Bool) → cond t Class.Idle (cond t′ Class.Counted Class.Read) ≡ Class.Refused n → ⊥
-      never true t′ q = let z : _≡_ {A = ℕ} 0 1 = cc in omega (arith, z)
-      never false true q = let z : _≡_ {A = ℕ} 0 1 = cc in omega (arith, z)
-      never false false q = let z : _≡_ {A = ℕ} 0 1 = cc in omega (arith, z)
+  unfolding readRefusals refusals refusalsAt numbers
+  read-number a p n e = class-among s f (readRefusals r f h u c) _ (p .refusal) (p .class) n e
 
-      go : (given (readRefusals r f h u c) ≡ 0) ⊎ (among (given (readRefusals r f h u c)) (numbers (readRefusals r f h u c)) ≡ true)
-          → among n readerNumbers ≡ true
-      go (inl z) = absurd (never (vc f =? 63) (command f =? 1 || none (laneAt s (channelIn s f) (map f))) (sym (p .class z) ∙ e))
-      go (inr q) = rw (ap classRefusal (sym e) ∙ p .refusal) q
+-- ---- look
+
+module _ (r : Reader) (f : List ℕ) where
+  refused-looks : (n : ℕ) → given (lookRefusals r f) ≡ suc n → LookGives r f (onLook (Verdict.Refused (suc n)) r f)
+  unfolding onLook classRefusal classMissing classChannel classLane
+  refused-looks n e =
+      record { refusal = sym e; class = λ z. absurd (omega (arith, sym e ∙ z)); missing = refl; channel = refl; lane = refl }
+
+  passed-looks : given (lookRefusals r f) ≡ 0 → (v : Verdict) → Passes (r .setting) f v → LookGives r f (onLook v r f)
+  unfolding onLook classRefusal classMissing classChannel classLane missingIn countOf
+  passed-looks z (Verdict.Refused n) p = absurd p
+  passed-looks z Verdict.Idle e = record { refusal = sym z; class = λ i. sym e; missing = refl; channel = refl; lane = refl }
+  passed-looks z (Verdict.Counted k) p =
+      record { refusal = sym z; class = λ i. sym (p .1); missing = rw (p .0); channel = rw (p .0); lane = refl }
+  passed-looks z (Verdict.Read l) p =
+      record { refusal = sym z; class = λ i. sym (p .2); missing = rw (p .0); channel = rw (p .0); lane = rw (p .1) }
+
+  -- The rule of a look keeps the promise.
+  pub look-gives : LookGives r f (look r f)
+  unfolding look looked lookRefusals
+  look-gives = go (given (lookRefusals r f)) refl
+    where
+      go : (n : ℕ) → given (lookRefusals r f) ≡ n → LookGives r f (onLook (judged (r .setting) f n) r f)
+      go zero e =
+          unfold judged in
+          let r₁ = given-zero _ _ (zero-lt-suc 0) e in
+          passed-looks e (passed (r .setting) f (channelAt (r .setting) (vc f) (bypass f)))
+          (passes (r .setting) f (good-reader r (not-false _ (r₁ .0)) .setting) (r₁ .1))
+      go (suc n) e = unfold judged in refused-looks n e
+
+  -- Answers allowed for one state and frame are equal.
+  pub look-once : (a b : Looked) → LookGives r f a → LookGives r f b → a ≡ b
+  look-once a b p q =
+      let k : a .class ≡ b .class = class-once _ _ _ _ (p .refusal) (p .class) (q .refusal) (q .class) in
+      let m : a .missing ≡ b .missing = p .missing ∙ rw k (sym (q .missing)) in
+      let c : a .channel ≡ b .channel = p .channel ∙ rw k (sym (q .channel)) in
+      let l : a .lane ≡ b .lane = p .lane ∙ rw k (sym (q .lane)) in
+      ap₂ (λ (x : Class) (y : ℕ). record { class = x; missing = y; channel = a .channel; lane = a .lane }) k m
+      ∙ ap₂ (λ (x y : Place). record { class = b .class; missing = b .missing; channel = x; lane = y }) c l
+
+  pub look-by : (a : Looked) → a ≡ look r f → LookGives r f a
+  look-by a e = rw e look-gives
+
+  pub look-is : (a : Looked) → LookGives r f a → a ≡ look r f
+  look-is a p = look-once a (look r f) p look-gives
+
+  -- 1 and 3 to 12: "never gives 2".
+  pub look-number : (a : Looked) → LookGives r f a → (n : ℕ) → a .class ≡ Class.Refused n → among n lookNumbers ≡ true
+  unfolding lookRefusals refusals refusalsAt numbers
+  look-number a p n e = class-among (r .setting) f (lookRefusals r f) _ (p .refusal) (p .class) n e
+
+pub two-in-none : among 2 lookNumbers ≡ false
+unfolding among
+two-in-none = refl
 
 -- No call answers Refused(0).
-pub zero-in-none : (among 0 readerNumbers ≡ false) × (among 0 writerNumbers ≡ false) × (among 0 setUpNumbers ≡ false)
+pub zero-in-none : (among 0 readerNumbers ≡ false) × (among 0 writerNumbers ≡ false) × (among 0 setUpNumbers ≡ false) × (among 0 lookNumbers ≡ false)
 unfolding among
-zero-in-none = (refl, refl, refl)
+zero-in-none = (refl, refl, refl, refl)

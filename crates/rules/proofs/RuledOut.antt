@@ -11,15 +11,16 @@ use Rattle.rules.specs.declared.Writer.{Writer}
 use Rattle.rules.specs.declared.Outcome.{Outcome}
 use Rattle.rules.specs.declared.Class.{Class}
 use Rattle.rules.specs.declared.Answer.{Answer}
+use Rattle.rules.specs.declared.Looked.{Looked}
 use Rattle.rules.specs.Tests.{given}
 use Rattle.rules.specs.Areas.{laid, joined, heldSize, recordsSize, unitsSize}
 use Rattle.rules.specs.Reading.{octetsOf}
 use Rattle.rules.specs.Settings.{lane, count, number}
 use Rattle.rules.specs.Writing.{frameOf}
-use Rattle.rules.specs.Calls.{setUpReader, setUpWriter, Sent, writeRefusals, Got, readRefusals, read}
-use Rattle.rules.specs.Promises.{outcomeLeaves, channelIn, laneIn, classIn, countOf, gapIn, madeIn, Values, valuesIn, classValues, classArea}
-use Rattle.rules.specs.Worked.{worked, packetLane, packet₀, packet₁, frame₀, frame₁}
-use Rattle.rules.specs.RuledOut.{OfRead, OfWrite, ReaderAllowed, WriterAllowed, readerAsFound, writerAsFound, readerRefusing, writerRefusing, readerFixed, writerFixed, untried, readerOnce, invented, readerAnswering, inventsMissing, inventsIdle, inventsFill, inventsDropped}
+use Rattle.rules.specs.Calls.{setUpReader, setUpWriter, Sent, writeRefusals, Got, readRefusals, read, lookRefusals, look}
+use Rattle.rules.specs.Promises.{outcomeLeaves, channelIn, laneIn, classIn, countOf, gapIn, madeIn, Values, valuesIn, classValues, classArea, missingIn, classMissing}
+use Rattle.rules.specs.Worked.{worked, packetLane, packet₀, packet₁, frame₀, frame₁, recounted}
+use Rattle.rules.specs.RuledOut.{OfRead, OfWrite, OfLook, ReaderAllowed, WriterAllowed, LookerAllowed, readerAsFound, writerAsFound, readerRefusing, writerRefusing, lookerRefusing, readerFixed, writerFixed, lookerFixed, untried, readerOnce, invented, readerAnswering, inventsMissing, inventsIdle, inventsFill, inventsDropped, lookerMissing, lookInvents, lookLeavesOut}
 use Rattle.rules.proofs.Worked.{rules}
 
 -- ---- the inputs: a fresh reader and one that has read frame 0, each lent areas full of 55; a fresh writer and the worked batch
@@ -73,6 +74,34 @@ refused-3 = refl
 first-octet : getD (laid units₀ 0 (joined (octetsOf ((madeIn fresh frame₀ held₀) .units)))) 0 0 ≡ 0
 unfolding rules fresh held₀ units₀ madeIn gapIn laneIn channelIn countOf
 first-octet = refl
+
+look-accepted : given (lookRefusals fresh frame₀) ≡ 0
+unfolding rules fresh
+look-accepted = refl
+
+look-refused-3 : given (lookRefusals fresh []) ≡ 3
+unfolding rules fresh
+look-refused-3 = refl
+
+-- Frame 1 with count 5 where 1 is expected: four are missing.
+gone : List ℕ
+gone = recounted 5 frame₁
+
+gone-accepted : given (lookRefusals (after .taken .state) gone) ≡ 0
+unfolding rules fresh held₀ units₀ records₀ after gone
+gone-accepted = refl
+
+gone-class : classIn (after .taken .state .setting) gone ≡ Class.Read
+unfolding rules fresh held₀ units₀ records₀ after gone classIn channelIn
+gone-class = refl
+
+none-gone : missingIn fresh frame₀ ≡ 0
+unfolding rules fresh missingIn channelIn countOf
+none-gone = refl
+
+gone-four : missingIn (after .taken .state) gone ≡ 4
+unfolding rules fresh held₀ units₀ records₀ after gone missingIn channelIn countOf
+gone-four = refl
 
 -- Frame 0 gives one unit; nothing is missing, idle, fill or dropped.
 nothing-lost : classValues Class.Read (gapIn fresh frame₀) (madeIn fresh frame₀ held₀)
@@ -202,3 +231,43 @@ invents-fill n ok = no-number n _ (ap (λ (v : Values). v .fill) first-answer) (
 pub invents-dropped : (n : ℕ) → ReaderAllowed (inventsDropped n) → ⊥
 unfolding inventsDropped valuesIn
 invents-dropped n ok = no-number n _ (ap (λ (v : Values). v .dropped) first-answer) (ap (λ (v : Values). v .dropped) (other-answer _ ok))
+
+-- ---- looks
+
+pub looker-refusing : (n : OfLook ℕ) → LookerAllowed (lookerRefusing n) → ⊥
+unfolding lookerRefusing
+looker-refusing n ok =
+    let e = ok fresh frame₀ .class look-accepted ∙ class-read in
+    let z : _≡_ {A = ℕ} 0 1 = cc in
+    omega (arith, z)
+
+pub looker-fixed : (o : Looked) → LookerAllowed (lookerFixed o) → ⊥
+unfolding lookerFixed
+looker-fixed o ok =
+    let e = ok fresh frame₀ .refusal ∙ look-accepted in
+    let q = ok fresh [] .refusal ∙ look-refused-3 in
+    omega (arith, e, q)
+
+first-look : (look fresh frame₀) .missing ≡ 0
+unfolding rules fresh
+first-look = refl
+
+-- A number of missing frames that is allowed is the one of the frame.
+gone-missing : (other : ℕ → ℕ) → LookerAllowed (lookerMissing other) → (r : Reader) (f : List ℕ) → given (lookRefusals r f) ≡ 0
+    → classIn (r .setting) f ≡ Class.Read → other ((look r f) .missing) ≡ missingIn r f
+unfolding lookerMissing classMissing
+gone-missing other ok r f a k =
+    let o = ok r f in
+    o .missing ∙ ap (λ (x : Class). classMissing x (missingIn r f)) (o .class a ∙ k)
+
+pub look-invents : (n : ℕ) → LookerAllowed (lookInvents n) → ⊥
+unfolding lookInvents
+look-invents n ok =
+    no-number n _ first-look (gone-missing _ ok fresh frame₀ look-accepted class-read ∙ none-gone)
+
+-- "A look that leaves out missing."
+pub look-leaves-out : LookerAllowed lookLeavesOut → ⊥
+unfolding lookLeavesOut
+look-leaves-out ok =
+    let e = gone-missing _ ok (after .taken .state) gone gone-accepted gone-class ∙ gone-four in
+    omega (arith, e)

@@ -1,5 +1,5 @@
--- The calls as wholes: set-up, write and read. Each is one equation between everything handed in and everything handed back or left
--- in an area that was lent.
+-- The calls as wholes: set-up, write and read, which is the call take, and look. Each is one equation between everything handed in and everything
+-- handed back or left in an area that was lent.
 use Prim.Native.Nat.{ℕ, zero, suc, _+_, _*_}
 use mathlib.Core.Bool.{Bool, cond, not, _||_}
 use mathlib.Core.List.{List, [], _∷_}
@@ -15,14 +15,16 @@ use Rattle.rules.specs.declared.Answer.{Answer}
 use Rattle.rules.specs.declared.Taken.{Taken}
 use Rattle.rules.specs.declared.Listener.{Listener}
 use Rattle.rules.specs.declared.Sender.{Sender}
+use Rattle.rules.specs.declared.Looked.{Looked}
+use Rattle.rules.specs.declared.Place.the-variants.{At, Nowhere}
 use Rattle.rules.specs.declared.Verdict.{Verdict}
 use Rattle.rules.specs.declared.Gap.{Gap}
 use Rattle.rules.specs.Tests.{_≤?_, _<?_, _≠?_, Refusal, refuse, given}
 use Rattle.rules.specs.Areas.{laid, joined, part, heldSize, partSize, recordsSize, unitsSize}
-use Rattle.rules.specs.Settings.{channel, lane, channelOf, heldBy, withSlot, count, number, zone, ocfOctets, settingOk, readerOk, writerOk, freshReader, freshWriter, noReader, noWriter}
+use Rattle.rules.specs.Settings.{channel, lane, channelOf, expect, heldBy, withSlot, count, number, zone, ocfOctets, settingOk, readerOk, writerOk, freshReader, freshWriter, noReader, noWriter}
 use Rattle.rules.specs.Frames.{countIn, ruleIn, pointerIn, zoneIn, pointsTo}
 use Rattle.rules.specs.Writing.{batchOk, frames, frameOf, writerAfter}
-use Rattle.rules.specs.Reading.{gap, octetsOf, Made, keeps, laneStep, recordsFrom, infoOf}
+use Rattle.rules.specs.Reading.{missing, gap, octetsOf, Made, keeps, laneStep, recordsFrom, infoOf}
 use Rattle.rules.specs.Refusals.{refusals, judged}
 
 -- ---- the paper's number for each case of an answer; 0 where none is refused
@@ -169,3 +171,43 @@ verdict r f h u c = judged (r .setting) f (given (readRefusals r f h u c))
 
 unfoldable pub read : Reader → List ℕ → List ℕ → List ℕ → List ℕ → Got
 read r f h u c = onVerdict (verdict r f h u c) r f h u c
+
+-- ---- look: "One call shall check and answer class and missing without changing anything, another takes a frame" (document 02, A7). It is
+-- handed a state and a frame, and hands back no state.
+
+-- "Refusals: unchanged; looking is lent no areas and never gives 2."
+unfoldable pub lookRefusals : Reader → List ℕ → List Refusal
+lookRefusals r f =
+    -- "setting or state not valid"
+    refuse 1 (not (readerOk r))
+    -- the frame's own, 3 to 12
+    ∷ refusals (r .setting) f
+
+-- What the checks say of a look.
+unfoldable pub looked : Reader → List ℕ → Verdict
+looked r f = judged (r .setting) f (given (lookRefusals r f))
+
+-- How many frames of channel c are missing before one with count k.
+unfoldable pub missingAt : Reader → ℕ → ℕ → ℕ
+missingAt r c k = missing ((channel (r .setting) c) .octets) (expect r c) k
+
+-- A class of no channel and no lane.
+abbrev pub nowhere : Class → Looked
+nowhere k = record { class = k; missing = 0; channel = Nowhere; lane = Nowhere }
+
+-- "Class and missing", and whose the frame is.
+unfoldable pub onLook : Verdict → Reader → List ℕ → Looked
+onLook (Verdict.Refused n) r f = nowhere (Class.Refused n)
+onLook Verdict.Idle r f = nowhere Class.Idle
+onLook (Verdict.Counted c) r f =
+    record { class = Class.Counted; missing = missingAt r c (countIn (channel (r .setting) c) f); channel = At c; lane = Nowhere }
+onLook (Verdict.Read l) r f =
+    record {
+      class = Class.Read;
+      missing = missingAt r ((lane (r .setting) l) .channel) (countIn (channelOf (r .setting) l) f);
+      channel = At ((lane (r .setting) l) .channel);
+      lane = At l;
+    }
+
+unfoldable pub look : Reader → List ℕ → Looked
+look r f = onLook (looked r f) r f

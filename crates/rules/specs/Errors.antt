@@ -9,14 +9,15 @@ use Rattle.rules.specs.declared.Setting.{Setting}
 use Rattle.rules.specs.declared.Reader.{Reader}
 use Rattle.rules.specs.declared.Writer.{Writer}
 use Rattle.rules.specs.declared.Class.{Class}
+use Rattle.rules.specs.declared.Looked.{Looked}
 use Rattle.rules.specs.declared.Place.{Place}
 use Rattle.rules.specs.declared.Place.the-variants.{At, Nowhere}
 use Rattle.rules.specs.Tests.{given}
 use Rattle.rules.specs.Octets.{flag, checkOf}
-use Rattle.rules.specs.Settings.{noChannel, noLane, noReader, noWriter, freshReader}
+use Rattle.rules.specs.Settings.{noChannel, noLane, noReader, noWriter, freshReader, withExpect}
 use Rattle.rules.specs.Reading.{DataUnit, octetsOf, Made, laneStep}
 use Rattle.rules.specs.Refusals.{refusals}
-use Rattle.rules.specs.Calls.{refusalOf, classRefusal, Sent, write, Got, read}
+use Rattle.rules.specs.Calls.{refusalOf, classRefusal, Sent, write, Got, read, look}
 use Rattle.rules.specs.Worked.{small, worked, packetLane, Case, case, each, numbers, packet₀, packet₁, frame₀, frame₁, recounted, packetOf, reads}
 
 -- ---- a setting of two channels and three lanes, all zones of 21 octets
@@ -225,6 +226,21 @@ workedWriter i = record { setting = worked packetLane; counts = replicate 8 0; n
 abbrev pub readRefusal : Reader → ℕ → ℕ → ℕ → ℕ
 readRefusal r h u c = classRefusal ((read r (take 31 frame₀) (replicate h 0) (replicate u 0) (replicate c 0)) .taken .answer .class)
 
+-- A look's class and missing, and the places of channel and lane, each and one; 0 for none.
+abbrev pub placeShown : Place → ℕ
+placeShown (At i) = suc i
+placeShown Nowhere = 0
+
+abbrev pub lookShown : Looked → List ℕ
+lookShown o = classShown (o .class) ∷ o .missing ∷ placeShown (o .channel) ∷ placeShown (o .lane) ∷ []
+
+-- Looks of a reader that expects count 1 on the first of two channels, and none on the other.
+abbrev pub pairedAfter : Reader
+pairedAfter = withExpect (freshReader paired) 0 (record { known = true; count = 1 })
+
+abbrev pub looksAfter : List (List ℕ) → List (List ℕ)
+looksAfter fs = map (λ (f : List ℕ). lookShown (look pairedAfter f)) fs
+
 -- Octets of a read's held area and unit area, and one more of each.
 abbrev pub areas : Got → List ℕ
 areas o = take 12 (o .heldArea) ++ take 11 (o .unitArea)
@@ -258,4 +274,17 @@ wholes =
     ((1 ∷ 2 ∷ 2 ∷ 2 ∷ 3 ∷ []) ∷ [])
     -- The areas after frame 0, and after a gap has dropped what was held: its octets stay where they were.
     ∷ case 6 (each areas (reads (worked packetLane) (frame₀ ∷ recounted 5 frame₁ ∷ [])))
-    ((take 11 packet₁ ++ (0x55 ∷ []) ++ packet₀ ++ (0x55 ∷ [])) ∷ (take 11 packet₁ ++ (0x55 ∷ []) ++ packet₀ ++ (0x55 ∷ [])) ∷ []) ∷ []
+    ((take 11 packet₁ ++ (0x55 ∷ []) ++ packet₀ ++ (0x55 ∷ [])) ∷ (take 11 packet₁ ++ (0x55 ∷ []) ++ packet₀ ++ (0x55 ∷ [])) ∷ [])
+    -- Looks where count 1 is expected: frame 1 with one gone before it, twice; a map of no lane with two gone; the other service, on which none was expected;
+    -- an idle frame; frame 0 less an octet.
+    ∷ case 7
+    (looksAfter
+    (recounted 2 frame₁ ∷ recounted 2 frame₁ ∷ packetFrame 7 3 0 fill21 ∷ accessFrame 9 1 20 data21 ∷ forged (2 ∷ 3 ∷ []) (0xA7 ∷ 0xE0 ∷ []) frame₀
+    ∷ take 31 frame₀ ∷ []))
+    ((103 ∷ 1 ∷ 1 ∷ 1 ∷ []) ∷ (103 ∷ 1 ∷ 1 ∷ 1 ∷ []) ∷ (102 ∷ 2 ∷ 1 ∷ 0 ∷ []) ∷ (103 ∷ 0 ∷ 2 ∷ 3 ∷ []) ∷ (101 ∷ 0 ∷ 0 ∷ 0 ∷ []) ∷ (3 ∷ 0 ∷ 0 ∷ 0 ∷ []) ∷ [])
+    -- A bad frame with a short area: a look says what the frame is refused by, a read says 2. A state of zeros: both say 1.
+    ∷ case 8
+    ((classRefusal ((look (freshReader (worked packetLane)) (take 31 frame₀)) .class) ∷ readRefusal (freshReader (worked packetLane)) 65535 12288 9600
+    ∷ classRefusal ((look noReader (take 31 frame₀)) .class) ∷ readRefusal noReader 65536 12288 9600 ∷ [])
+    ∷ [])
+    ((3 ∷ 2 ∷ 1 ∷ 1 ∷ []) ∷ []) ∷ []

@@ -13,6 +13,7 @@ pub mod Refusals
 pub mod Valid
 pub mod Calls
 pub mod Promises
+pub mod Passes
 pub mod Worked
 pub mod Listing
 pub mod Errors

@@ -14,6 +14,7 @@ use Rattle.rules.specs.declared.Outcome.the-variants.{Done, Refused}
 use Rattle.rules.specs.declared.Class.{Class}
 use Rattle.rules.specs.declared.Answer.{Answer}
 use Rattle.rules.specs.declared.Taken.{Taken}
+use Rattle.rules.specs.declared.Looked.{Looked}
 use Rattle.rules.specs.declared.Listener.{Listener}
 use Rattle.rules.specs.declared.Sender.{Sender}
 use Rattle.rules.specs.declared.Place.{Place}
@@ -26,7 +27,7 @@ use Rattle.rules.specs.Frames.{vc, map, bypass, command, countIn}
 use Rattle.rules.specs.Writing.{frameOf, writerAfter}
 use Rattle.rules.specs.Reading.{gap, octetsOf, Made, keeps, recordsFrom, infoOf}
 use Rattle.rules.specs.Refusals.{channelAt, laneAt}
-use Rattle.rules.specs.Calls.{refusalOf, classRefusal, writeRefusals, readRefusals, madeBy}
+use Rattle.rules.specs.Calls.{refusalOf, classRefusal, writeRefusals, readRefusals, madeBy, lookRefusals, missingAt}
 
 -- ---- "Reader 1 to 12; writer 1, 2, 13 to 16; set-up 1."
 
@@ -38,6 +39,10 @@ writerNumbers = 1 ∷ 2 ∷ 13 ∷ 14 ∷ 15 ∷ 16 ∷ []
 
 abbrev pub setUpNumbers : List ℕ
 setUpNumbers = 1 ∷ []
+
+-- "Looking is lent no areas and never gives 2" (document 02, A7).
+abbrev pub lookNumbers : List ℕ
+lookNumbers = 1 ∷ 3 ∷ 4 ∷ 5 ∷ 6 ∷ 7 ∷ 8 ∷ 9 ∷ 10 ∷ 11 ∷ 12 ∷ []
 
 -- The number is one of these.
 unfoldable pub among : ℕ → List ℕ → Bool
@@ -174,3 +179,38 @@ pub record ReadGives (r : Reader) (f h u c : List ℕ) (o : Taken) (h′ u′ c�
       c′
       ≡ classArea (o .answer .class) c
       (laid c 0 (recordsFrom (infoOf (r .setting) (laneIn (r .setting) f) (countOf (r .setting) f)) 0 ((madeIn r f h) .units)))
+
+-- ---- look: each class's values
+
+-- "Missing = (count - expected) modulo 256^n, and 0 if none was expected", of the frame's channel and count.
+unfoldable pub missingIn : Reader → List ℕ → ℕ
+missingIn r f = missingAt r (channelIn (r .setting) f) (countOf (r .setting) f)
+
+-- "For Counted and Read."
+unfoldable pub classMissing : Class → ℕ → ℕ
+classMissing Class.Idle m = 0
+classMissing Class.Counted m = m
+classMissing Class.Read m = m
+classMissing (Class.Refused n) m = 0
+
+-- The channel is that of a frame that is Counted or Read, the lane that of one that is Read.
+unfoldable pub classChannel : Class → ℕ → Place
+classChannel Class.Idle c = Nowhere
+classChannel Class.Counted c = At c
+classChannel Class.Read c = At c
+classChannel (Class.Refused n) c = Nowhere
+
+unfoldable pub classLane : Class → ℕ → Place
+classLane Class.Idle l = Nowhere
+classLane Class.Counted l = Nowhere
+classLane Class.Read l = At l
+classLane (Class.Refused n) l = Nowhere
+
+pub record LookGives (r : Reader) (f : List ℕ) (o : Looked) : Type 0 where
+  -- "The first that applies is given, and none otherwise."
+  pub refusal : classRefusal (o .class) ≡ given (lookRefusals r f)
+  -- "A frame that passes the checks is one of three."
+  pub class : given (lookRefusals r f) ≡ 0 → o .class ≡ classIn (r .setting) f
+  pub missing : o .missing ≡ classMissing (o .class) (missingIn r f)
+  pub channel : o .channel ≡ classChannel (o .class) (channelIn (r .setting) f)
+  pub lane : o .lane ≡ classLane (o .class) (laneIn (r .setting) f)

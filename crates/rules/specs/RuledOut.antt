@@ -9,10 +9,11 @@ use Rattle.rules.specs.declared.Outcome.{Outcome}
 use Rattle.rules.specs.declared.Outcome.the-variants.{Refused}
 use Rattle.rules.specs.declared.Class.{Class}
 use Rattle.rules.specs.declared.Answer.{Answer}
+use Rattle.rules.specs.declared.Looked.{Looked}
 use Rattle.rules.specs.Tests.{every}
 use Rattle.rules.specs.Settings.{expect}
-use Rattle.rules.specs.Calls.{Sent, Got, bare, read}
-use Rattle.rules.specs.Promises.{WriteGives, ReadGives}
+use Rattle.rules.specs.Calls.{Sent, Got, bare, read, nowhere, look}
+use Rattle.rules.specs.Promises.{WriteGives, ReadGives, LookGives}
 
 -- ---- readers and writers, and what it is that the promise allows one
 
@@ -24,6 +25,10 @@ OfRead A = Reader → List ℕ → List ℕ → List ℕ → List ℕ → A
 abbrev pub OfWrite : Type 0 → Type 0
 OfWrite A = Writer → ℕ → List ℕ → List ℕ → List ℕ → List ℕ → A
 
+-- Of the state and the frame.
+abbrev pub OfLook : Type 0 → Type 0
+OfLook A = Reader → List ℕ → A
+
 -- On all inputs, what comes back is what the promise says.
 abbrev pub ReaderAllowed : OfRead Got → Type 0
 ReaderAllowed p =
@@ -34,6 +39,9 @@ abbrev pub WriterAllowed : OfWrite Sent → Type 0
 WriterAllowed p =
     (w : Writer) (l : ℕ) (batch insert ocf area : List ℕ)
     → WriteGives w l batch insert ocf area ((p w l batch insert ocf area) .sender) ((p w l batch insert ocf area) .area)
+
+abbrev pub LookerAllowed : OfLook Looked → Type 0
+LookerAllowed p = (r : Reader) (f : List ℕ) → LookGives r f (p r f)
 
 -- ---- "One that leaves areas and state as found", whatever it answers
 
@@ -53,6 +61,9 @@ readerRefusing n r f h u c = readerAsFound (λ r f h u c. bare (Class.Refused (n
 unfoldable pub writerRefusing : OfWrite ℕ → OfWrite Sent
 writerRefusing n w l batch insert ocf area = writerAsFound (λ w l batch insert ocf area. Refused (n w l batch insert ocf area)) w l batch insert ocf area
 
+unfoldable pub lookerRefusing : OfLook ℕ → OfLook Looked
+lookerRefusing n r f = nowhere (Class.Refused (n r f))
+
 -- ---- "One with a fixed answer", whatever it does besides
 
 unfoldable pub readerFixed : Answer → OfRead Got → OfRead Got
@@ -70,6 +81,9 @@ writerFixed o p w l batch insert ocf area =
       sender = record { outcome = o; state = (p w l batch insert ocf area) .sender .state };
       area = (p w l batch insert ocf area) .area;
     }
+
+unfoldable pub lookerFixed : Looked → OfLook Looked
+lookerFixed o r f = o
 
 -- ---- "One that reads its first frame and then only says so"
 
@@ -114,3 +128,14 @@ inventsDropped n =
     readerAnswering
     (λ (a : Answer).
     record { class = a .class; units = a .units; octets = a .octets; missing = a .missing; idle = a .idle; fill = a .fill; dropped = invented n (a .dropped) })
+
+-- A look that does as the rules say, with another number of missing frames: one that invents them, and one that leaves them out.
+unfoldable pub lookerMissing : (ℕ → ℕ) → OfLook Looked
+lookerMissing other r f =
+    record { class = (look r f) .class; missing = other ((look r f) .missing); channel = (look r f) .channel; lane = (look r f) .lane }
+
+unfoldable pub lookInvents : ℕ → OfLook Looked
+lookInvents n = lookerMissing (invented n)
+
+unfoldable pub lookLeavesOut : OfLook Looked
+lookLeavesOut = lookerMissing (λ (m : ℕ). 0)

@@ -132,6 +132,14 @@ pub enum Place {
     Nowhere,
 }
 
+// What a look answers: class, missing frames, the place of the frame's channel if it is Counted or Read, and its lane if it is Read.
+pub struct Looked {
+    pub missing: u64,
+    pub channel: Place,
+    pub lane: Place,
+    pub class: Class,
+}
+
 // What the octets from a packet's first on say of it.
 pub enum Measure {
     Lacks,

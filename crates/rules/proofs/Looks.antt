@@ -1,0 +1,138 @@
+-- Look beside take: where no area is short their answers are the same; looks change no later answer; and what a pass leaves as it was.
+use mathlib.Core.Path.{_≡_, refl, sym, ap, _∙_}
+use Prim.Native.Nat.{ℕ, zero, suc}
+use mathlib.Core.Bool.{Bool, true, false, cond, not}
+use mathlib.Core.List.{List, [], _∷_}
+use lib.ListN.{getD, replicate}
+use Rattle.rules.specs.declared.Setting.{Setting}
+use Rattle.rules.specs.declared.Reader.{Reader}
+use Rattle.rules.specs.declared.Class.{Class}
+use Rattle.rules.specs.declared.Looked.{Looked}
+use Rattle.rules.specs.declared.Place.{Place}
+use Rattle.rules.specs.declared.Place.the-variants.{At, Nowhere}
+use Rattle.rules.specs.declared.Verdict.{Verdict}
+use Rattle.rules.specs.Tests.{at, given}
+use Rattle.rules.specs.Settings.{channel, lane, channelOf, readerOk, withExpect}
+use Rattle.rules.specs.Frames.{countIn}
+use Rattle.rules.specs.Reading.{expected, gapBy, gap}
+use Rattle.rules.specs.Refusals.{refusals, judged, judge}
+use Rattle.rules.specs.Calls.{Got, areasShort, laidOut, readOn, onVerdict, verdict, read, lookRefusals, looked, missingAt, onLook, look}
+use Rattle.rules.specs.Passes.{whose, whoseOf, leftOut, passBy, pass, Step, takes, onlyTaken}
+use Rattle.rules.proofs.Calls.{verdict-cond, read-valid}
+
+-- ---- what a look finds
+
+module _ (r : Reader) (f : List ℕ) where
+  -- The table's first row comes before the frame's own.
+  pub looked-cond : looked r f ≡ cond (not (readerOk r)) (Verdict.Refused 1) (judge (r .setting) f)
+  unfolding looked lookRefusals given judged judge
+  looked-cond = go (readerOk r)
+    where
+      go : (a : Bool) → judged (r .setting) f (cond (not a) 1 (given (refusals (r .setting) f)))
+          ≡ cond (not a) (Verdict.Refused 1) (judge (r .setting) f)
+      go true = refl
+      go false = refl
+
+  -- A look tells whose the frame is.
+  pub whose-look : whose (look r f) ≡ looked r f
+  unfolding look whose
+  whose-look = go (looked r f)
+    where
+      go : (v : Verdict) → whose (onLook v r f) ≡ v
+      go (Verdict.Refused n) = unfold onLook whoseOf in refl
+      go Verdict.Idle = unfold onLook whoseOf in refl
+      go (Verdict.Counted c) = unfold onLook whoseOf in refl
+      go (Verdict.Read l) = unfold onLook whoseOf in refl
+
+-- A gap has as many missing as a look says.
+pub gap-missing : (r : Reader) (c k : ℕ) → (gap r c k) .missing ≡ missingAt r c k
+unfolding gap missingAt
+gap-missing r c k = go _
+  where
+    go : (m : ℕ) → (gapBy (withExpect r c (expected ((channel (r .setting) c) .octets) k)) c m) .missing ≡ m
+    go zero = unfold gapBy in refl
+    go (suc m) = unfold gapBy in refl
+
+-- ---- "Where the areas are long enough the answers are the same."
+
+-- Refusal and class, and missing.
+pub record Same (r : Reader) (f h u c : List ℕ) : Type 0 where
+  pub class : (look r f) .class ≡ (read r f h u c) .taken .answer .class
+  pub missing : (look r f) .missing ≡ (read r f h u c) .taken .answer .missing
+
+module _ (r : Reader) (f h u c : List ℕ) where
+  pub verdict-looked : areasShort h u c ≡ false → verdict r f h u c ≡ looked r f
+  verdict-looked e = verdict-cond r f h u c ∙ rw e (sym (looked-cond r f))
+
+  pub same-answers : areasShort h u c ≡ false → Same r f h u c
+  unfolding look read
+  same-answers e =
+      record {
+        class = classes (looked r f) ∙ ap (λ (v : Verdict). (onVerdict v r f h u c) .taken .answer .class) (sym (verdict-looked e));
+        missing = missings (looked r f) ∙ ap (λ (v : Verdict). (onVerdict v r f h u c) .taken .answer .missing) (sym (verdict-looked e));
+      }
+    where
+      classes : (v : Verdict) → (onLook v r f) .class ≡ (onVerdict v r f h u c) .taken .answer .class
+      classes (Verdict.Refused n) = unfold onLook onVerdict in refl
+      classes Verdict.Idle = unfold onLook onVerdict in refl
+      classes (Verdict.Counted k) = unfold onLook onVerdict in refl
+      classes (Verdict.Read l) = unfold onLook onVerdict readOn laidOut in refl
+
+      missings : (v : Verdict) → (onLook v r f) .missing ≡ (onVerdict v r f h u c) .taken .answer .missing
+      missings (Verdict.Refused n) = unfold onLook onVerdict in refl
+      missings Verdict.Idle = unfold onLook onVerdict in refl
+      missings (Verdict.Counted k) = unfold onLook onVerdict in sym (gap-missing r k (countIn (channel (r .setting) k) f))
+      missings (Verdict.Read l) =
+          unfold onLook onVerdict readOn laidOut in sym (gap-missing r ((lane (r .setting) l) .channel) (countIn (channelOf (r .setting) l) f))
+
+  -- With a short area a take gives 2, whatever the look said of the frame.
+  pub short-gives-two : readerOk r ≡ true → areasShort h u c ≡ true → (read r f h u c) .taken .answer .class ≡ Class.Refused 2
+  unfolding read onVerdict
+  short-gives-two ok e =
+      let two : verdict r f h u c ≡ Verdict.Refused 2 = verdict-cond r f h u c ∙ rw (ok, e) in
+      ap (λ (v : Verdict). (onVerdict v r f h u c) .taken .answer .class) two
+
+-- ---- looking any number of times changes no later answer
+
+pub looks-change-nothing : (xs : List Step) (r : Reader) (h u c : List ℕ) → takes r h u c xs ≡ takes r h u c (onlyTaken xs)
+unfolding takes onlyTaken
+looks-change-nothing [] r h u c = refl
+looks-change-nothing (x ∷ xs) r h u c =
+    let after : Got = read r (x .frame) h u c in
+    go (x .taken) refl (looks-change-nothing xs (after .taken .state) (after .heldArea) (after .unitArea) (after .recordArea))
+    (looks-change-nothing xs r h u c)
+  where
+    then : Got → List Step → List Got
+    then o ys = takes (o .taken .state) (o .heldArea) (o .unitArea) (o .recordArea) ys
+
+    go : (t : Bool) → x .taken ≡ t → then (read r (x .frame) h u c) xs ≡ then (read r (x .frame) h u c) (onlyTaken xs)
+        → takes r h u c xs ≡ takes r h u c (onlyTaken xs)
+        → cond t (read r (x .frame) h u c ∷ then (read r (x .frame) h u c) xs) (takes r h u c xs)
+        ≡ takes r h u c (cond t (x ∷ onlyTaken xs) (onlyTaken xs))
+    go true e taken looked = rw e (ap (_∷_ (read r (x .frame) h u c)) taken)
+    go false e taken looked = looked
+
+-- ---- a pass
+
+-- Where no virtual channel is left out, a pass is the read.
+pub pass-all : (n : ℕ) (r : Reader) (f h u c : List ℕ) → pass (replicate n false) r f h u c ≡ read r f h u c
+unfolding pass leftOut passBy
+pass-all n r f h u c = ap (λ (b : Bool). passBy b r f h u c) (go ((look r f) .channel))
+  where
+    none-so : (n i : ℕ) → getD (replicate n false) i false ≡ false
+    none-so zero i = refl
+    none-so (suc n) zero = refl
+    none-so (suc n) (suc i) = none-so n i
+
+    go : (p : Place) → at p (λ (k : ℕ). getD (replicate n false) ((channel (r .setting) k) .vc) false) ≡ false
+    go (At k) = none-so n ((channel (r .setting) k) .vc)
+    go Nowhere = refl
+
+-- A valid state stays valid.
+pub pass-valid : (w : List Bool) (r : Reader) (f h u c : List ℕ) → readerOk r ≡ true → readerOk ((pass w r f h u c) .taken .state) ≡ true
+unfolding pass
+pass-valid w r f h u c ok = go (leftOut w (r .setting) (look r f))
+  where
+    go : (b : Bool) → readerOk ((passBy b r f h u c) .taken .state) ≡ true
+    go true = unfold passBy in ok
+    go false = unfold passBy in read-valid r f h u c ok

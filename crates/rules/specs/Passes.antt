@@ -1,0 +1,64 @@
+-- "Operators decide after the checks whether a frame goes into this pass" (document 02, A7): what look and take make together.
+use Prim.Native.Nat.{ℕ}
+use mathlib.Core.Bool.{Bool, true, false, cond}
+use mathlib.Core.List.{List, [], _∷_}
+use lib.ListN.{getD}
+use Rattle.rules.specs.declared.Setting.{Setting}
+use Rattle.rules.specs.declared.Reader.{Reader}
+use Rattle.rules.specs.declared.Class.{Class}
+use Rattle.rules.specs.declared.Answer.{Answer}
+use Rattle.rules.specs.declared.Looked.{Looked}
+use Rattle.rules.specs.declared.Place.{Place}
+use Rattle.rules.specs.declared.Verdict.{Verdict}
+use Rattle.rules.specs.Tests.{at}
+use Rattle.rules.specs.Settings.{channel}
+use Rattle.rules.specs.Calls.{Got, read, look}
+use Rattle.rules.specs.Promises.{placed}
+
+-- ---- whose a frame is, by what a look answers
+
+unfoldable pub whoseOf : Class → Place → Place → Verdict
+whoseOf Class.Idle c l = Verdict.Idle
+whoseOf Class.Counted c l = Verdict.Counted (placed c)
+whoseOf Class.Read c l = Verdict.Read (placed l)
+whoseOf (Class.Refused n) c l = Verdict.Refused n
+
+unfoldable pub whose : Looked → Verdict
+whose o = whoseOf (o .class) (o .channel) (o .lane)
+
+-- ---- a decision by virtual channel, and a frame by it
+
+-- A decision says of each virtual channel whether its frames are left out. A frame that is refused or idle is of no listed channel.
+unfoldable pub leftOut : List Bool → Setting → Looked → Bool
+leftOut without s o = at (o .channel) (λ (c : ℕ). getD without ((channel s c) .vc) false)
+
+-- What the look said, and nothing else.
+abbrev pub seen : Looked → Answer
+seen o = record { class = o .class; units = 0; octets = 0; missing = o .missing; idle = 0; fill = 0; dropped = 0 }
+
+-- A frame is looked at; it is taken, or it is left out, and then the state and all areas stay as they were.
+unfoldable pub passBy : Bool → Reader → List ℕ → List ℕ → List ℕ → List ℕ → Got
+passBy true r f h u c = record { taken = record { answer = seen (look r f); state = r }; heldArea = h; unitArea = u; recordArea = c }
+passBy false r f h u c = read r f h u c
+
+unfoldable pub pass : List Bool → Reader → List ℕ → List ℕ → List ℕ → List ℕ → Got
+pass without r f h u c = passBy (leftOut without (r .setting) (look r f)) r f h u c
+
+-- ---- looks and takes in a row, each handed what the last take left
+
+-- A frame, and whether it is taken or looked at.
+pub record Step : Type 0 where
+  pub frame : List ℕ
+  pub taken : Bool
+
+-- What the takes give.
+unfoldable pub takes : Reader → List ℕ → List ℕ → List ℕ → List Step → List Got
+takes r h u c [] = []
+takes r h u c (x ∷ xs) =
+    let o : Got = read r (x .frame) h u c in
+    cond (x .taken) (o ∷ takes (o .taken .state) (o .heldArea) (o .unitArea) (o .recordArea) xs) (takes r h u c xs)
+
+-- The same steps without the looks.
+unfoldable pub onlyTaken : List Step → List Step
+onlyTaken [] = []
+onlyTaken (x ∷ xs) = cond (x .taken) (x ∷ onlyTaken xs) (onlyTaken xs)
