@@ -6,6 +6,7 @@ ghost use lib.ListN.{getD};
 ghost use Rattle.rules.specs.Tests.{_=?_};
 ghost use Rattle.rules.specs.Settings.{noSlot, readerOk, channel};
 ghost use Rattle.rules.specs.Reading.{missing, emptied, lost, lanesOf, gapBy, gap};
+ghost use Rattle.rules.specs.Calls.{missingAt};
 use rules::Expect;
 use rules::Expects;
 use rules::Gap;
@@ -94,9 +95,22 @@ fn gap_by(s: Setting, expects: Expects, slots: [Slot; 8], c: usize, missing: u64
     }
 }
 
-// A frame of channel c with count k: what it expects next, what is missing, and what that drops.
-pub fn gap_of(r: Reader, c: usize, k: u64) -> Gap
+// How many frames of channel c are missing before one with count k.
+pub fn missing_at(r: Reader, c: usize, k: u64) -> u64
     requires { ⌜ (readerOk r ≡ true) × (c < r .setting .listed) × (k < 256 ^ channel (r .setting) c .octets) ⌝ }
+    ensures { λ m. ⌜ m ≡ missingAt r c k ⌝ }
+{
+    let s = r.setting;
+    let expects = r.expects;
+    let channels = s.channels;
+    let ch = channels[c];
+    let e = setting::expect_of(expects, c);
+    missing_of(ch.octets as usize, e, k)
+}
+
+// A frame of channel c with count k, before which so many are missing: what is expected next, and what that drops.
+pub fn gap_of(r: Reader, c: usize, k: u64, missing: u64) -> Gap
+    requires { ⌜ (readerOk r ≡ true) × (c < r .setting .listed) × (k < 256 ^ channel (r .setting) c .octets) × (missing ≡ missingAt r c k) ⌝ }
     ensures { λ g. ⌜ g ≡ gap r c k ⌝ }
 {
     let s = r.setting;
@@ -105,8 +119,6 @@ pub fn gap_of(r: Reader, c: usize, k: u64) -> Gap
     let channels = s.channels;
     let ch = channels[c];
     let n = ch.octets as usize;
-    let e = setting::expect_of(expects, c);
-    let missing = missing_of(n, e, k);
     let m = octets::modulus(n);
     let next = Expect {
         known: true,

@@ -21,7 +21,7 @@ use Rattle.judge.specs.declared.Sight.{Sight}
 use Rattle.judge.specs.declared.Sighting.{Sighting}
 use Rattle.judge.specs.declared.Sighting.the-variants.{Seen}
 use Rattle.judge.specs.Judging.{dataWrongOf, judgeData, judgeMap}
-use Rattle.judge.specs.Sights.{countedSight, readSight, sightOf, verdictIn, Fitting}
+use Rattle.judge.specs.Sights.{countedSight, readSight, sightOf, Fitting}
 
 module _ (s : Setting) (f : List ℕ) (c : ℕ) where
   -- The data field, as a slice's rest.
@@ -114,11 +114,3 @@ module _ (s : Setting) (f : List ℕ) where
       let z : At k ≡ At l = ap (λ (y : Sight). y .lane) o ∙ q in
       let j : k ≡ l = cc in
       (ap Verdict.Read j, sym o ∙ ap (readSight s f) j)
-
-  -- A sight says the verdict by which it was found.
-  pub verdict-back : (w : Verdict) → verdictIn (sightOf s f w) ≡ w
-  unfolding sightOf
-  verdict-back (Verdict.Refused n) = refl
-  verdict-back Verdict.Idle = refl
-  verdict-back (Verdict.Counted c) = refl
-  verdict-back (Verdict.Read l) = refl

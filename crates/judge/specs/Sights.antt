@@ -37,16 +37,6 @@ sightOf s f Verdict.Idle = Idle
 sightOf s f (Verdict.Counted c) = Seen (countedSight c (countIn (channel s c) f))
 sightOf s f (Verdict.Read l) = Seen (readSight s f l)
 
--- The verdict that a sight says: counted on its channel, or read by its lane.
-abbrev pub seenVerdict : ℕ → Place → Verdict
-seenVerdict c Nowhere = Verdict.Counted c
-seenVerdict c (At l) = Verdict.Read l
-
-abbrev pub verdictIn : Sighting → Verdict
-verdictIn (Refused n) = Verdict.Refused n
-verdictIn Idle = Verdict.Idle
-verdictIn (Seen x) = seenVerdict (x .channel) (x .lane)
-
 -- A count that was seen is one of its channel's.
 abbrev pub Fitting : Setting → Sighting → Type 0
 Fitting s (Refused n) = Unit {0}

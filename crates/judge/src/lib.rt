@@ -9,7 +9,7 @@ ghost use Rattle.rules.specs.Frames.{vc, map, bypass, countIn, pointsTo, checkH
 ghost use Rattle.rules.specs.Refusals.{channelAt, laneAt, ruleFits, judge};
 ghost use Rattle.header.specs.Heads.{headOf};
 ghost use Rattle.judge.specs.Judging.{dataWrongOf, judgeData, judgeMap, judgeListed, judgeChannel, fieldRefusal, headRefusal};
-ghost use Rattle.judge.specs.Sights.{OnChannel, countedSight, sightOf, verdictIn, Fitting};
+ghost use Rattle.judge.specs.Sights.{OnChannel, countedSight, sightOf, Fitting};
 ghost use Rattle.judge.specs.declared.Sighting.the-variants.{Seen};
 use header::Data;
 use header::Head;
@@ -17,7 +17,6 @@ use rules::Kind;
 use rules::Lane;
 use rules::Place;
 use rules::Setting;
-use rules::Verdict;
 
 // What the checks found of a frame of a listed channel: the channel's place, the lane that reads it, if any, and its count. Of a frame
 // that is read also its construction rule, what its pointer points to, and where its zone begins and how many octets it has.
@@ -260,21 +259,4 @@ pub fn judge_frame(s: Setting, frame: &[u8]) -> Sighting
         return Sighting::Refused(n);
     }
     Sighting::Refused(4)
-}
-
-// The verdict that a sight says.
-pub fn verdict_of(v: Sighting) -> Verdict
-    ensures { λ r. ⌜ r ≡ verdictIn v ⌝ }
-{
-    match v {
-        Sighting::Refused(n) => Verdict::Refused(n),
-        Sighting::Idle => Verdict::Idle,
-        Sighting::Seen(x) => {
-            let on = x.lane;
-            match on {
-                Place::Nowhere => Verdict::Counted(x.channel),
-                Place::At(l) => Verdict::Read(l),
-            }
-        }
-    }
 }

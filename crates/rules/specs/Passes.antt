@@ -1,4 +1,5 @@
 -- "Operators decide after the checks whether a frame goes into this pass" (document 02, A7): what look and take make together.
+use mathlib.Core.Path.{_≡_}
 use Prim.Native.Nat.{ℕ}
 use mathlib.Core.Bool.{Bool, true, false, cond}
 use mathlib.Core.List.{List, [], _∷_}
@@ -8,12 +9,13 @@ use Rattle.rules.specs.declared.Reader.{Reader}
 use Rattle.rules.specs.declared.Class.{Class}
 use Rattle.rules.specs.declared.Answer.{Answer}
 use Rattle.rules.specs.declared.Looked.{Looked}
+use Rattle.rules.specs.declared.Passed.{Passed}
 use Rattle.rules.specs.declared.Place.{Place}
 use Rattle.rules.specs.declared.Verdict.{Verdict}
 use Rattle.rules.specs.Tests.{at}
 use Rattle.rules.specs.Settings.{channel}
 use Rattle.rules.specs.Calls.{Got, read, look}
-use Rattle.rules.specs.Promises.{placed}
+use Rattle.rules.specs.Promises.{placed, LookGives}
 
 -- ---- whose a frame is, by what a look answers
 
@@ -43,6 +45,12 @@ passBy false r f h u c = read r f h u c
 
 unfoldable pub pass : List Bool → Reader → List ℕ → List ℕ → List ℕ → List ℕ → Got
 pass without r f h u c = passBy (leftOut without (r .setting) (look r f)) r f h u c
+
+-- What a pass promises of a frame, by this decision.
+pub record PassGives (w : List Bool) (r : Reader) (f h u c : List ℕ) (o : Passed) (h′ u′ c′ : List ℕ) : Type 0 where
+  pub looked : LookGives r f (o .looked)
+  pub left : o .left ≡ leftOut w (r .setting) (look r f)
+  pub got : record { taken = o .taken; heldArea = h′; unitArea = u′; recordArea = c′ } ≡ pass w r f h u c
 
 -- ---- looks and takes in a row, each handed what the last take left
 

@@ -140,6 +140,13 @@ pub struct Looked {
     pub class: Class,
 }
 
+// What comes of a frame that is looked at, and then taken or left out: what the look said, the answer and the state, and whether it was left out.
+pub struct Passed {
+    pub taken: Taken,
+    pub looked: Looked,
+    pub left: bool,
+}
+
 // What the octets from a packet's first on say of it.
 pub enum Measure {
     Lacks,
