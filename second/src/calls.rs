@@ -3,7 +3,9 @@
 use std::io::{BufRead, Write};
 
 use crate::frame::frame_check;
-use crate::reader::{Answer, Areas, Class, Expected, Look, Reader, HELD_AREA, HELD_PART, RECORD, RECORD_AREA, UNIT_AREA};
+use crate::reader::{
+    Answer, Areas, Class, Expected, Look, Reader, HELD_AREA, HELD_PART, RECORD, RECORD_AREA, UNIT_AREA,
+};
 use crate::setting::{Channel, Kind, Lane, Setting};
 use crate::text::{decimal, hex, unhex, words};
 use crate::writer::{Lent, Writer};
