@@ -3,7 +3,9 @@
 use std::io::{BufRead, Write};
 
 use crate::frame::frame_check;
-use crate::reader::{Answer, Areas, Class, Expected, Reader, HELD_AREA, HELD_PART, RECORD, RECORD_AREA, UNIT_AREA};
+use crate::reader::{
+    Answer, Areas, Class, Expected, Look, Reader, HELD_AREA, HELD_PART, RECORD, RECORD_AREA, UNIT_AREA,
+};
 use crate::setting::{Channel, Kind, Lane, Setting};
 use crate::text::{decimal, hex, unhex, words};
 use crate::writer::{Lent, Writer};
@@ -34,6 +36,7 @@ pub enum Line {
     Held(u64, Vec<u8>),
     Hold(u64, u64),
     Write { lane: u64, batch: Vec<u8>, insert: Vec<u8>, ocf: Vec<u8>, area: u64 },
+    Look(Vec<u8>),
     Read { frame: Vec<u8>, areas: [u64; 3] },
     Keep(u64),
     Check(Vec<u8>),
@@ -58,6 +61,7 @@ impl Line {
                 ocf: unhex(ocf)?,
                 area: decimal(area)?,
             }),
+            ["look", frame] => Ok(Line::Look(unhex(frame)?)),
             ["read", frame, lengths @ ..] if lengths.len() <= 3 => {
                 Ok(Line::Read { frame: unhex(frame)?, areas: area_lengths(lengths)? })
             }
@@ -280,6 +284,11 @@ impl Ends {
         taken(&answer, &self.reader, [&self.units, &self.records, &self.held])
     }
 
+    /// A look is lent nothing and leaves all as it is.
+    fn look(&self, frame: &[u8]) -> String {
+        looked(&self.reader.reader().look(frame), &self.reader)
+    }
+
     /// One line of the script; what it prints.
     fn obey(&mut self, line: &Line) -> String {
         match line {
@@ -287,6 +296,7 @@ impl Ends {
             Line::Write { lane, batch, insert, ocf, area } => {
                 return self.write(&Lent { lane: *lane, batch, insert, ocf }, *area);
             }
+            Line::Look(frame) => return self.look(frame),
             Line::Read { frame, areas } => return self.read(frame, *areas),
             Line::Keep(length) => {
                 let frame = self.frame[..(*length).min(FRAME_ROOM as u64) as usize].to_vec();
@@ -356,6 +366,13 @@ pub fn taken(answer: &Answer, reader: &ReaderSlots, areas: [&[u8]; 3]) -> String
     text + &format!("areas {sums}\n{}", reader.line())
 }
 
+pub fn looked(look: &Look, reader: &ReaderSlots) -> String {
+    let place = |place: Option<usize>| place.map_or("-".to_string(), |place| place.to_string());
+    let (channel, lane) = (place(look.channel), place(look.lane));
+    let class = class_words(look.class);
+    format!("look {class} missing {} channel {channel} lane {lane}\n{}", look.missing, reader.line())
+}
+
 pub fn checked(check: u64) -> String {
     format!("check {check:04X}\n")
 }
@@ -365,13 +382,17 @@ fn front(octets: &[u8], length: u64) -> &[u8] {
     &octets[..length.min(octets.len() as u64) as usize]
 }
 
-fn answer_line(answer: &Answer) -> String {
-    let class = match answer.class {
+fn class_words(class: Class) -> String {
+    match class {
         Class::Idle => "idle".to_string(),
         Class::Counted => "counted".to_string(),
         Class::Read => "read".to_string(),
         Class::Refused(number) => format!("refused {number}"),
-    };
+    }
+}
+
+fn answer_line(answer: &Answer) -> String {
+    let class = class_words(answer.class);
     let Answer { units, octets, missing, idle, fill, dropped, .. } = answer;
     format!("read {class} units {units} octets {octets} missing {missing} idle {idle} fill {fill} dropped {dropped}\n")
 }

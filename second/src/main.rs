@@ -22,7 +22,7 @@ use std::fs::File;
 use std::io::{self, BufReader, BufWriter, Write};
 use std::process::ExitCode;
 
-const USAGE: &str = "usage: second unpack [--totals] [--units] SETTING RECORDING PREFIX
+const USAGE: &str = "usage: second unpack [--totals] [--units] [--without=V] .. SETTING RECORDING PREFIX
        second pack SETTING LANE=FILE ..
        second calls
        second requests

@@ -7,7 +7,7 @@ use std::os::fd::AsFd;
 use std::os::unix::fs::MetadataExt;
 
 use crate::packet::whole_space_packet;
-use crate::reader::{Answer, Areas, Class, Reader, HELD_AREA, RECORD, RECORD_AREA, UNIT_AREA};
+use crate::reader::{Answer, Areas, Class, Look, Reader, HELD_AREA, RECORD, RECORD_AREA, UNIT_AREA};
 use crate::setting::{Kind, Lane, Setting};
 use crate::text::{decimal, setting_from_file, LONGEST_SETTING_FILE};
 use crate::writer::{Lent, Writer, LONGEST_BATCH};
@@ -67,6 +67,7 @@ struct Totals {
     counted: u64,
     idle_frames: u64,
     refused: u64,
+    left: u64,
     units: u64,
     octets: u64,
     idle: u64,
@@ -106,6 +107,12 @@ impl Totals {
         }
     }
 
+    /// A frame that is left out is no lane's and no channel's: it is not taken.
+    fn leave(&mut self) {
+        self.frames += 1;
+        self.left += 1;
+    }
+
     fn print(&self, reader: &Reader, out: &mut impl Write) -> io::Result<()> {
         for (lane, totals) in self.lanes.iter().enumerate() {
             writeln!(out, "lane {lane} frames {} units {} octets {}", totals.frames, totals.units, totals.octets)?;
@@ -124,12 +131,14 @@ impl Totals {
         }
         writeln!(
             out,
-            "total frames {} read {} counted {} idle {} refused {} units {} octets {} idle {} fill {} dropped {} held {}",
+            "total frames {} read {} counted {} idle {} refused {} left {} units {} octets {} idle {} fill {} dropped {} \
+             held {}",
             self.frames,
             self.read,
             self.counted,
             self.idle_frames,
             self.refused,
+            self.left,
             self.units,
             self.octets,
             self.idle,
@@ -140,11 +149,16 @@ impl Totals {
     }
 }
 
+/// A lane's number, `-` for none.
+fn lane_word(lane: Option<usize>) -> String {
+    lane.map_or("-".to_string(), |lane| lane.to_string())
+}
+
 fn print_answer(number: u64, answer: &Answer, out: &mut impl Write) -> io::Result<()> {
     let (class, where_or_why) = match answer.class {
-        Class::Idle => ("idle", "-".to_string()),
-        Class::Counted => ("counted", "-".to_string()),
-        Class::Read => ("read", answer.lane.map_or("-".to_string(), |lane| lane.to_string())),
+        Class::Idle => ("idle", lane_word(None)),
+        Class::Counted => ("counted", lane_word(None)),
+        Class::Read => ("read", lane_word(answer.lane)),
         Class::Refused(refusal) => ("refused", refusal.to_string()),
     };
     writeln!(
@@ -152,6 +166,11 @@ fn print_answer(number: u64, answer: &Answer, out: &mut impl Write) -> io::Resul
         "{number} {class} {where_or_why} {} {} {} {} {} {}",
         answer.units, answer.octets, answer.missing, answer.idle, answer.fill, answer.dropped
     )
+}
+
+/// The line of a frame that is left out: all that is known of it is what the look said.
+fn print_left(number: u64, look: &Look, out: &mut impl Write) -> io::Result<()> {
+    writeln!(out, "{number} left {} 0 0 {} 0 0 0", lane_word(look.lane), look.missing)
 }
 
 /// The recording's next F octets, fewer at its end, none past it.
@@ -198,17 +217,57 @@ impl UnitTable {
     }
 }
 
-pub fn unpack(arguments: &[String]) -> Result<(), String> {
-    let (options, names): (Vec<&String>, Vec<&String>) = arguments.iter().partition(|word| word.starts_with("--"));
-    if let Some(word) = options.iter().find(|word| !["--totals", "--units"].contains(&word.as_str())) {
-        return Err(format!("{word}: is no option"));
+/// What the options of `unpack` ask for.
+struct UnpackOptions {
+    lines: bool,
+    table: bool,
+    /// The virtual channels whose frames are left out.
+    without: Vec<u64>,
+}
+
+impl UnpackOptions {
+    fn parse(words: &[&String]) -> Result<UnpackOptions, String> {
+        let mut options = UnpackOptions { lines: true, table: false, without: Vec::new() };
+        for word in words {
+            match (word.as_str(), left_out_by(word)) {
+                ("--totals", _) => options.lines = false,
+                ("--units", _) => options.table = true,
+                (_, Some(virtual_channel)) => options.without.push(virtual_channel),
+                _ => return Err(format!("{word}: is no option")),
+            }
+        }
+        Ok(options)
     }
-    let asked = |word: &str| options.iter().any(|option| *option == word);
-    let (lines, table) = (!asked("--totals"), asked("--units"));
+
+    /// Each virtual channel that is left out has to be a listed one; the lowest that is not is told.
+    fn judge(&self, setting: &Setting) -> Result<(), String> {
+        let listed = |virtual_channel: u64| setting.channels.iter().any(|c| c.virtual_channel == virtual_channel);
+        match self.without.iter().filter(|&&virtual_channel| !listed(virtual_channel)).min() {
+            Some(lowest) => Err(format!("--without={lowest}: the setting lists no such virtual channel")),
+            None => Ok(()),
+        }
+    }
+
+    /// Whether a frame is not to be taken. Idle and refused frames have no channel, and stay what they are.
+    fn leaves(&self, setting: &Setting, look: &Look) -> bool {
+        look.channel.is_some_and(|place| self.without.contains(&setting.channels[place].virtual_channel))
+    }
+}
+
+/// The virtual channel, 0 to 62 in one digit or two, that `--without=V` names.
+fn left_out_by(word: &str) -> Option<u64> {
+    let digits = word.strip_prefix("--without=").filter(|digits| digits.len() <= 2)?;
+    decimal(digits).ok().filter(|&virtual_channel| virtual_channel <= 62)
+}
+
+pub fn unpack(arguments: &[String]) -> Result<(), String> {
+    let (words, names): (Vec<&String>, Vec<&String>) = arguments.iter().partition(|word| word.starts_with("--"));
+    let options = UnpackOptions::parse(&words)?;
     let [setting_path, recording_path, prefix] = names[..] else {
-        return Err("usage: unpack [--totals] [--units] SETTING RECORDING PREFIX".to_string());
+        return Err("usage: unpack [--totals] [--units] [--without=V] .. SETTING RECORDING PREFIX".to_string());
     };
     let setting = load_setting(setting_path)?;
+    options.judge(&setting)?;
     let file = File::open(recording_path).map_err(|error| format!("{recording_path}: {error}"))?;
     let mut recording = BufReader::new(file);
     let mut lane_files = Vec::new();
@@ -216,7 +275,7 @@ pub fn unpack(arguments: &[String]) -> Result<(), String> {
         lane_files.push(create(format!("{prefix}.lane{lane}"))?);
     }
     let mut records_file = create(format!("{prefix}.records"))?;
-    let mut unit_table = match table {
+    let mut unit_table = match options.table {
         true => Some(UnitTable::new(format!("{prefix}.units.csv"), setting.lanes.len())?),
         false => None,
     };
@@ -229,13 +288,21 @@ pub fn unpack(arguments: &[String]) -> Result<(), String> {
         channels: vec![ChannelTotals::default(); setting.channels.len()],
         ..Totals::default()
     };
-    if lines {
+    if options.lines {
         writeln!(out, "frame answer lane units octets missing idle fill dropped").map_err(said)?;
     }
     while let Some(frame) = next_frame(&mut recording, setting.frame_length as usize).map_err(said)? {
+        let look = reader.look(&frame);
+        if options.leaves(&setting, &look) {
+            if options.lines {
+                print_left(totals.frames, &look, &mut out).map_err(said)?;
+            }
+            totals.leave();
+            continue;
+        }
         let mut areas = Areas { held: &mut held, units: &mut units, records: &mut records };
         let answer = reader.read(&frame, &mut areas);
-        if lines {
+        if options.lines {
             print_answer(totals.frames, &answer, &mut out).map_err(said)?;
         }
         if let Some(lane) = answer.lane {

@@ -540,15 +540,16 @@ impl Script {
 
     fn step(&mut self) {
         match self.random.below(100) {
-            0..=31 => self.good_write(),
+            0..=27 => self.good_write(),
+            28..=31 => self.look_alone(),
             32..=36 => self.wrap(),
             37..=41 => self.gap_over_lanes(),
             42..=49 => self.bad_write(),
             50..=57 => self.damaged_read(),
             58..=67 => self.forged_field_read(),
             68..=84 => self.forged_lane_read(),
-            85..=86 => self.odd_area_read(),
-            87..=91 => self.writer_state(),
+            85..=87 => self.odd_area_read(),
+            88..=91 => self.writer_state(),
             92..=95 => self.reader_state(),
             96..=97 => self.other_frame_read(),
             98 => self.check_line(),
@@ -562,7 +563,24 @@ impl Script {
 
     // Lines
 
+    fn look_line(&mut self, frame: &[u8]) {
+        self.calls += 1;
+        let line = format!("look {}", hex(frame));
+        self.line(&line);
+    }
+
+    /// One look or two: the second has to answer what the first did.
+    fn look_lines(&mut self, frame: &[u8]) {
+        for _ in 0..self.random.pick(&[1, 1, 2]) {
+            self.look_line(frame);
+        }
+    }
+
+    /// A read; about one in three is looked at first.
     fn read_line(&mut self, frame: &[u8]) {
+        if self.random.one_in(3) {
+            self.look_lines(frame);
+        }
         self.calls += 1;
         let line = format!("read {}", hex(frame));
         self.line(&line);
@@ -921,12 +939,31 @@ impl Script {
         self.read_line(&damaged);
     }
 
-    fn odd_area_read(&mut self) {
+    /// A look that no read of the frame follows, so that what it may have changed shows in a call of another frame.
+    fn look_alone(&mut self) {
         let frame = self.some_frame();
+        let frame = if self.random.percent(70) { self.forge_fields(frame) } else { frame };
+        self.look_lines(&frame);
+    }
+
+    fn good_or_bad_frame(&mut self) -> Vec<u8> {
+        let frame = self.some_frame();
+        match self.random.below(4) {
+            0 => self.damage(&frame),
+            1 => self.forge_fields(frame),
+            _ => frame,
+        }
+    }
+
+    /// Areas of other lengths, mostly after a look, which is lent none and says what the frame is all the same.
+    fn odd_area_read(&mut self) {
+        let frame = self.good_or_bad_frame();
         let units = self.random.pick(&[UNIT_AREA, UNIT_AREA - 1, UNIT_AREA + 1, 0]);
         let records = self.random.pick(&[RECORD_AREA, RECORD_AREA, RECORD_AREA - 1, RECORD_AREA + 16, 0]);
         let held = self.random.pick(&[HELD_AREA, HELD_AREA, HELD_AREA - 1, HELD_AREA + 1, 0]);
-        let frame = if self.random.one_in(4) { self.damage(&frame) } else { frame };
+        if self.random.percent(60) {
+            self.look_lines(&frame);
+        }
         self.calls += 1;
         let line = format!("read {} {units} {records} {held}", hex(&frame));
         self.line(&line);
@@ -939,9 +976,14 @@ impl Script {
         }
     }
 
-    /// A written frame with one field, sometimes two, set to other values.
     fn forged_field_read(&mut self) {
-        let mut frame = self.some_frame();
+        let frame = self.some_frame();
+        let forged = self.forge_fields(frame);
+        self.read_line(&forged);
+    }
+
+    /// A written frame with one field, sometimes two, set to other values.
+    fn forge_fields(&mut self, mut frame: Vec<u8>) -> Vec<u8> {
         let mut header = Header::from_octets(&frame);
         let count_length = usize::from(header.count_length);
         for _ in 0..self.random.pick(&[1, 1, 1, 2]) {
@@ -965,7 +1007,7 @@ impl Script {
             _ => {}
         }
         self.seal(&mut frame);
-        self.read_line(&frame);
+        frame
     }
 
     fn forge_header_field(&mut self, header: &mut Header) {

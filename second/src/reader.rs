@@ -1,4 +1,4 @@
-//! The reader (document 01, "Reading"; refusals 1 to 12).
+//! The reader (document 01, "Reading"; refusals 1 to 12), and the look before it (document 02, A7).
 
 use std::cmp::Ordering;
 
@@ -56,7 +56,17 @@ pub struct Answer {
     pub lane: Option<usize>,
 }
 
-/// The three areas that a call lends.
+/// What a look answers; refused and idle frames have nothing missing.
+#[derive(Clone, Copy, PartialEq, Eq, Debug)]
+pub struct Look {
+    pub class: Class,
+    pub missing: u64,
+    /// Where the frame belongs: its channel if counted or read, its lane if read.
+    pub channel: Option<usize>,
+    pub lane: Option<usize>,
+}
+
+/// The three areas that a read is lent.
 pub struct Areas<'a> {
     pub held: &'a mut [u8],
     pub units: &'a mut [u8],
@@ -86,6 +96,22 @@ impl Answer {
     }
 }
 
+impl Look {
+    fn empty(class: Class) -> Look {
+        Look { class, missing: 0, channel: None, lane: None }
+    }
+}
+
+impl Areas<'_> {
+    /// Refusal 2, which only a call that is lent areas can give.
+    fn judge(&self) -> Result<(), u8> {
+        if self.held.len() != HELD_AREA || self.units.len() < UNIT_AREA || self.records.len() < RECORD_AREA {
+            return Err(2);
+        }
+        Ok(())
+    }
+}
+
 impl Reader {
     /// Set-up: a fresh reader, or refusal 1.
     pub fn fresh(setting: &Setting) -> Result<Reader, u8> {
@@ -110,8 +136,27 @@ impl Reader {
             && self.setting.lanes.iter().zip(&self.held).all(|(lane, &held)| (held as u64) < lane.longest)
     }
 
+    /// What a frame is and how many are missing before it. No area is lent and nothing changes.
+    pub fn look(&self, frame: &[u8]) -> Look {
+        match self.judge_state().and_then(|()| self.judge_frame(frame)) {
+            Err(number) => Look::empty(Class::Refused(number)),
+            Ok(Passed::Idle) => Look::empty(Class::Idle),
+            Ok(Passed::Counted { channel, count }) => {
+                Look { missing: self.missing(channel, count), channel: Some(channel), ..Look::empty(Class::Counted) }
+            }
+            Ok(Passed::Read { channel, count, lane, .. }) => Look {
+                class: Class::Read,
+                missing: self.missing(channel, count),
+                channel: Some(channel),
+                lane: Some(lane),
+            },
+        }
+    }
+
+    /// Takes a frame. Whether it was looked at before makes no difference: everything is judged again.
     pub fn read(&mut self, frame: &[u8], areas: &mut Areas) -> Answer {
-        match self.judge(frame, areas) {
+        let judged = self.judge_state().and_then(|()| areas.judge()).and_then(|()| self.judge_frame(frame));
+        match judged {
             Err(number) => Answer::empty(Class::Refused(number)),
             Ok(Passed::Idle) => Answer::empty(Class::Idle),
             Ok(Passed::Counted { channel, count }) => {
@@ -138,15 +183,17 @@ impl Reader {
         }
     }
 
-    /// The first refusal that applies, or what the frame is.
-    fn judge(&self, frame: &[u8], areas: &Areas) -> Result<Passed, u8> {
-        let setting = &self.setting;
+    /// Refusal 1.
+    fn judge_state(&self) -> Result<(), u8> {
         if !self.valid() {
             return Err(1);
         }
-        if areas.held.len() != HELD_AREA || areas.units.len() < UNIT_AREA || areas.records.len() < RECORD_AREA {
-            return Err(2);
-        }
+        Ok(())
+    }
+
+    /// The first of refusals 3 to 12 that applies, or what the frame is. The state is valid.
+    fn judge_frame(&self, frame: &[u8]) -> Result<Passed, u8> {
+        let setting = &self.setting;
         if frame.len() as u64 != setting.frame_length {
             return Err(3);
         }
@@ -194,11 +241,21 @@ impl Reader {
         Ok(Passed::Read { channel: place, count, lane, rule, pointer })
     }
 
+    /// How many frames of a channel are missing before the one with this count.
+    fn missing(&self, place: usize, count: u64) -> u64 {
+        let modulus = self.setting.channels[place].modulus();
+        let expected = self.expected[place];
+        if expected.known {
+            (count + modulus - expected.count) % modulus
+        } else {
+            0
+        }
+    }
+
     /// Takes a frame's count; a gap drops what all lanes of the channel hold. Returns missing and dropped.
     fn take_count(&mut self, place: usize, count: u64) -> (u64, usize) {
         let modulus = self.setting.channels[place].modulus();
-        let expected = self.expected[place];
-        let missing = if expected.known { (count + modulus - expected.count) % modulus } else { 0 };
+        let missing = self.missing(place, count);
         self.expected[place] = Expected { known: true, count: (count + 1) % modulus };
         let mut dropped = 0;
         if missing != 0 {

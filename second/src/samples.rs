@@ -13,7 +13,8 @@ use crate::writer::{Lent, Writer};
 const COUNT_LENGTHS: [u64; 5] = [1, 1, 1, 2, 7];
 
 /// The files: `setting`; `recording`; `insert` and `ocf`; `lane0` and so on for `pack`, and `list0` and so on of those
-/// that have a list of lengths. The lines of `words` are its words after the setting.
+/// that have a list of lengths. The lines of `words` are its words after the setting; those of `without` are options of
+/// `unpack`.
 pub fn write_sample(seed: u64, folder: &str) -> Result<(), String> {
     let mut random = Random::new(seed);
     let setting = valid_setting(&mut random, &COUNT_LENGTHS);
@@ -41,7 +42,26 @@ pub fn write_sample(seed: u64, folder: &str) -> Result<(), String> {
         words.insert(place, "--interleave".to_string());
     }
     spoil_words(&mut random, &mut words);
-    put(folder, "words", (words.join("\n") + "\n").as_bytes())
+    put(folder, "words", (words.join("\n") + "\n").as_bytes())?;
+    put(folder, "without", without(&mut random, &setting).as_bytes())
+}
+
+/// Options that leave virtual channels out: none, one or two, a line each. Mostly listed ones; now and then one that is
+/// not, or a word that is no option.
+fn without(random: &mut Random, setting: &Setting) -> String {
+    let mut lines = String::new();
+    for _ in 0..random.below(3) {
+        let place = random.below(setting.channels.len() as u64) as usize;
+        let listed = setting.channels[place].virtual_channel;
+        lines += &match random.below(40) {
+            0 => format!("--without={}\n", random.below(63)),
+            1 => "--without=63\n".to_string(),
+            2 => random.pick(&["--without\n", "--without=\n", "--without=007\n", "--without=+1\n"]).to_string(),
+            3..=9 => format!("--without={listed:02}\n"),
+            _ => format!("--without={listed}\n"),
+        };
+    }
+    lines
 }
 
 fn put(folder: &str, name: &str, octets: &[u8]) -> Result<(), String> {

@@ -3,11 +3,11 @@
 use std::io::{BufRead, Read, Write};
 
 use crate::calls::{
-    begun, checked, lines, put, taken, written, Line, ReaderSlots, Said, WriterSlots, AREA_OCTET, FRAME_ROOM,
+    begun, checked, lines, looked, put, taken, written, Line, ReaderSlots, Said, WriterSlots, AREA_OCTET, FRAME_ROOM,
     HELD_ROOM, LENT, RECORD_ROOM, SLOTS, UNIT_ROOM,
 };
 use crate::frame::big_endian;
-use crate::reader::{Answer, Class, Expected, HELD_PART};
+use crate::reader::{Answer, Class, Expected, Look, HELD_PART};
 
 /// A number's octets, and a row's: eight numbers.
 const NUMBER: usize = 8;
@@ -41,6 +41,7 @@ enum What {
     SetReader = 6,
     Write = 7,
     Check = 8,
+    Look = 9,
 }
 
 fn octets_of(numbers: &[u64]) -> Vec<u8> {
@@ -137,6 +138,7 @@ fn requests_of(said: &mut Said, line: &Line) -> Result<Vec<u8>, String> {
             let behind = [padded(insert, INSERT_ROOM)?, padded(ocf, OCF_ROOM)?, batch.clone()].concat();
             ask(&mut out, What::Write, &[*lane, insert.len() as u64, ocf.len() as u64, *area], &behind);
         }
+        Line::Look(frame) => ask(&mut out, What::Look, &[], frame),
         Line::Read { frame, areas } => ask(&mut out, What::Read, areas, frame),
         Line::Keep(length) => {
             let [units, records, held] = LENT;
@@ -204,16 +206,31 @@ fn reader_on(desk: &[u8]) -> ReaderSlots {
     }
 }
 
+/// The class that the first two numbers of an answer say.
+fn class_of(class: u64, refusal: u64) -> Result<Class, String> {
+    match (class, u8::try_from(refusal)) {
+        (0, Ok(0)) => Ok(Class::Idle),
+        (1, Ok(0)) => Ok(Class::Counted),
+        (2, Ok(0)) => Ok(Class::Read),
+        (3, Ok(number)) => Ok(Class::Refused(number)),
+        _ => Err(format!("an answer has class {class} and refusal {refusal}")),
+    }
+}
+
 fn answer_on(desk: &[u8]) -> Result<Answer, String> {
     let [class, refusal, units, octets, missing, idle, fill, dropped] = row(desk, 0);
-    let class = match (class, u8::try_from(refusal)) {
-        (0, Ok(0)) => Class::Idle,
-        (1, Ok(0)) => Class::Counted,
-        (2, Ok(0)) => Class::Read,
-        (3, Ok(number)) => Class::Refused(number),
-        _ => return Err(format!("an answer has class {class} and refusal {refusal}")),
-    };
+    let class = class_of(class, refusal)?;
     Ok(Answer { class, units, octets, missing, idle, fill, dropped, channel: None, lane: None })
+}
+
+fn look_on(desk: &[u8]) -> Result<Look, String> {
+    let [class, refusal, channel, lane, missing, others @ ..]: [u64; ROW / NUMBER] = row(desk, 0);
+    if others != [0; ROW / NUMBER - 5] {
+        return Err("a look's answer has a number that should be 0".to_string());
+    }
+    // A place and one; 0 is none.
+    let place = |number: u64| number.checked_sub(1).map(|place| place as usize);
+    Ok(Look { class: class_of(class, refusal)?, missing, channel: place(channel), lane: place(lane) })
 }
 
 /// The settings that a script has said so far, and that both states should have.
@@ -302,6 +319,10 @@ impl Course {
                 Ok(written(Course::number_on(&desk)?, &writer_on(&desk), &desk[ROWS..]))
             }
             Line::Check(_) => Ok(checked(Course::number_on(&self.desk(answers)?)?)),
+            Line::Look(_) => {
+                let desk = self.desk(answers)?;
+                Ok(looked(&look_on(&desk)?, &reader_on(&desk)))
+            }
             Line::Read { .. } | Line::Keep(_) => {
                 let desk = self.desk(answers)?;
                 let held = area(answers, HELD_ROOM)?;

@@ -1,10 +1,11 @@
-//! Document 01's worked frames (cases 1 to 11), the published values of the frame check, and what must not change.
+//! Document 01's worked frames (cases 1 to 11), looks at them (document 02, A7), the published values of the frame check, and
+//! what must not change.
 
 use crate::calls;
 use crate::demand3;
 use crate::frame::frame_check;
 use crate::random;
-use crate::reader::{Answer, Areas, Class, Reader, HELD_AREA, HELD_PART, RECORD_AREA, UNIT_AREA};
+use crate::reader::{Answer, Areas, Class, Expected, Look, Reader, HELD_AREA, HELD_PART, RECORD_AREA, UNIT_AREA};
 use crate::setting::{Channel, Kind, Lane, Setting};
 use crate::stream;
 use crate::text::{setting_from_file, setting_to_lines, unhex};
@@ -81,6 +82,46 @@ impl End {
         assert!(self.records[answer.units as usize * 16..].iter().all(|&octet| octet == 0x55));
         answer
     }
+}
+
+impl End {
+    /// A read that is lent so many octets of units, records and held area.
+    fn read_lent(&mut self, frame: &[u8], [units, records, held]: [usize; 3]) -> Answer {
+        let areas = &mut Areas {
+            held: &mut self.held[..held],
+            units: &mut self.units[..units],
+            records: &mut self.records[..records],
+        };
+        self.reader.read(frame, areas)
+    }
+
+    /// A look at a frame; the reader is as it was after it.
+    fn look(&self, frame: &[u8]) -> Look {
+        let before = self.reader.clone();
+        let look = self.reader.look(frame);
+        assert_eq!(self.reader, before);
+        look
+    }
+}
+
+/// Areas of which one is an octet too short.
+const SHORT_AREAS: [[usize; 3]; 3] = [
+    [UNIT_AREA - 1, RECORD_AREA, HELD_AREA],
+    [UNIT_AREA, RECORD_AREA - 1, HELD_AREA],
+    [UNIT_AREA, RECORD_AREA, HELD_AREA - 1],
+];
+
+fn looks(class: Class, missing: u64, channel: Option<usize>, lane: Option<usize>) -> Look {
+    Look { class, missing, channel, lane }
+}
+
+/// The look at a frame of the worked setting's lane.
+fn looks_read(missing: u64) -> Look {
+    looks(Class::Read, missing, Some(0), Some(0))
+}
+
+fn looks_refused(number: u8) -> Look {
+    looks(Class::Refused(number), 0, None, None)
 }
 
 fn case_2_batch() -> Vec<u8> {
@@ -228,6 +269,199 @@ fn the_listing_example() {
         .map(|answer| (answer.units, answer.missing))
         .collect();
     assert_eq!(answers, [(1, 0), (1, 0), (0, 255)]);
+}
+
+#[test]
+fn looks_before_and_after_the_worked_frames() {
+    let frames = frames_of(&worked_setting(), &case_2_batch());
+    let mut end = End::fresh(&worked_setting());
+    // No count is expected: none is missing.
+    assert_eq!(end.look(&frames[0]), looks_read(0));
+    assert_eq!(end.look(&frames[1]), looks_read(0));
+    end.read(&frames[0]);
+    // 1 is expected: 0 - 1 and 1 - 1 modulo 256.
+    assert_eq!(end.look(&frames[0]), looks_read(255));
+    assert_eq!(end.look(&frames[1]), looks_read(0));
+    end.read(&frames[1]);
+    assert_eq!(end.look(&frames[0]), looks_read(254));
+    assert_eq!(end.look(&frames[1]), looks_read(255));
+}
+
+#[test]
+fn a_look_at_a_gap_drops_nothing() {
+    let frames = frames_of(&worked_setting(), &case_2_batch());
+    let late = with_count(&frames[1], 2);
+    let mut end = End::fresh(&worked_setting());
+    end.read(&frames[0]);
+    assert_eq!(end.look(&late), looks_read(1));
+    assert_eq!(end.reader.held, [11]);
+    let answer = end.read(&late);
+    assert_eq!((answer.missing, answer.dropped, answer.units, answer.idle), (1, 18, 0, 14));
+    // 3 is expected now.
+    assert_eq!(end.look(&late), looks_read(255));
+}
+
+#[test]
+fn looks_at_counts_around_the_wrap() {
+    let frame = frames_of(&worked_setting(), &packet(7)).remove(0);
+    let missing = |counts: &[u8]| -> Vec<u64> {
+        let mut end = End::fresh(&worked_setting());
+        let missing = |count: &u8| {
+            let frame = with_count(&frame, *count);
+            let look = end.look(&frame);
+            assert_eq!(end.read(&frame).missing, look.missing);
+            look.missing
+        };
+        counts.iter().map(missing).collect()
+    };
+    assert_eq!(missing(&[254, 255, 0]), [0, 0, 0]);
+    assert_eq!(missing(&[255, 2]), [0, 2]);
+    assert_eq!(missing(&[5, 5]), [0, 255]);
+}
+
+/// Frames of the worked setting, each with the refusal that it gives: frame 1 with one octet other, or of another length.
+fn refused_frames() -> Vec<(u8, Vec<u8>)> {
+    let frame = frames_of(&worked_setting(), &case_2_batch()).remove(1);
+    let with = |place: usize, octet: u8| {
+        let mut frame = frame.clone();
+        frame[place] = octet;
+        frame
+    };
+    vec![
+        (3, frame[..31].to_vec()),
+        (3, [&frame[..], &[0xE0]].concat()),
+        (3, Vec::new()),
+        (5, with(0, 0xD0)),
+        (6, with(2, 0xB0)),
+        (6, with(2, 0xA8)),
+        (7, with(3, 0x6B)),
+        (8, with(5, 0x20)),
+        (8, with(6, 0x11)),
+        (8, with(6, 0x41)),
+        (9, with(3, 0x8A)),
+        (9, with(6, 0x81)),
+        (10, with(6, 0x02)),
+        (11, with(6, 0x09)),
+        (12, with(8, 0x20)),
+        (12, with(8, 0x01)),
+        (12, with(10, 21)),
+    ]
+}
+
+#[test]
+fn a_look_gives_the_frames_own_number_where_areas_are_short() {
+    let frames = frames_of(&worked_setting(), &case_2_batch());
+    let mut end = End::fresh(&worked_setting());
+    end.read(&frames[0]);
+    let state = end.reader.clone();
+    for (number, frame) in refused_frames() {
+        assert_eq!(end.look(&frame), looks_refused(number));
+        for lengths in SHORT_AREAS {
+            assert_eq!(end.read_lent(&frame, lengths).class, Class::Refused(2));
+        }
+        assert_eq!(end.read(&frame).class, Class::Refused(number));
+    }
+    // A good frame too.
+    for lengths in SHORT_AREAS {
+        assert_eq!(end.look(&frames[1]), looks_read(0));
+        assert_eq!(end.read_lent(&frames[1], lengths).class, Class::Refused(2));
+    }
+    assert_eq!(end.reader, state);
+}
+
+#[test]
+fn a_look_holds_the_frame_check() {
+    let mut setting = worked_setting();
+    setting.check = true;
+    let mut frame = frames_of(&setting, &packet(7)).remove(0);
+    let mut end = End::fresh(&setting);
+    assert_eq!(end.look(&frame), looks_read(0));
+    frame[31] ^= 1;
+    assert_eq!(end.look(&frame), looks_refused(4));
+    assert_eq!(end.read_lent(&frame, SHORT_AREAS[0]).class, Class::Refused(2));
+    // The length first, then the check, then the version.
+    assert_eq!(end.look(&frame[..31]), looks_refused(3));
+    frame[0] = 0xD0;
+    assert_eq!(end.look(&frame), looks_refused(4));
+}
+
+#[test]
+fn looks_change_no_answer() {
+    let frames = frames_of(&worked_setting(), &case_2_batch());
+    let areas = |end: &End| [end.held.clone(), end.units.clone(), end.records.clone()];
+    let (mut looked, mut alone) = (End::fresh(&worked_setting()), End::fresh(&worked_setting()));
+    for frame in [&frames[0], &frames[1], &frames[1], &with_count(&frames[0], 7), &frames[0][..31].to_vec()] {
+        let look = looked.look(frame);
+        assert_eq!(looked.look(frame), look);
+        let answer = looked.read(frame);
+        assert_eq!(answer, alone.read(frame));
+        assert_eq!(look, looks(answer.class, answer.missing, answer.channel, answer.lane));
+        assert_eq!(looked.reader, alone.reader);
+        assert!(areas(&looked) == areas(&alone));
+    }
+}
+
+#[test]
+fn a_look_with_a_state_that_is_not_valid() {
+    let frames = frames_of(&worked_setting(), &case_2_batch());
+    assert_eq!(Reader::default().look(&frames[0]), looks_refused(1));
+    assert_eq!(Reader::default().look(&[]), looks_refused(1));
+    // As many octets held as the longest unit has; a count of 256, though none is expected.
+    let (mut full, mut beyond) = (End::fresh(&worked_setting()), End::fresh(&worked_setting()));
+    full.reader.held[0] = 64;
+    beyond.reader.expected[0] = Expected { known: false, count: 256 };
+    for (_, frame) in refused_frames() {
+        assert_eq!(full.look(&frame), looks_refused(1));
+        assert_eq!(beyond.look(&frame), looks_refused(1));
+    }
+    assert_eq!(full.look(&frames[0]), looks_refused(1));
+    assert_eq!(full.read_lent(&frames[0], SHORT_AREAS[0]).class, Class::Refused(1));
+    full.reader.held[0] = 63;
+    assert_eq!(full.look(&frames[0]), looks_read(0));
+}
+
+#[test]
+fn a_look_at_an_idle_frame() {
+    let frames = frames_of(&worked_setting(), &case_2_batch());
+    let mut end = End::fresh(&worked_setting());
+    end.read(&frames[0]);
+    // Virtual channel 63 with another count, count length and OCF flag: none of these is looked at.
+    let mut frame = octets("C0 02 A7 EA 00 1F 0F 09");
+    frame.resize(32, 0xFF);
+    assert_eq!(end.look(&frame), looks(Class::Idle, 0, None, None));
+    assert_eq!(end.read(&frame).class, Class::Idle);
+    // It is a frame all the same: a command with bypass 0.
+    frame[6] = 0x41;
+    assert_eq!(end.look(&frame), looks_refused(8));
+}
+
+#[test]
+fn looks_at_counted_frames() {
+    let mut setting = worked_setting();
+    setting.channels.push(Channel { virtual_channel: 3, service: 1, count_length: 1, ocf: false });
+    setting.lanes.push(Lane { channel: 1, map: 5, kind: Kind::Access, longest: 64, upid: 5 });
+    let frames = frames_of(&worked_setting(), &case_2_batch());
+    let mut end = End::fresh(&setting);
+    end.read(&frames[0]);
+    // Map 6, of which there is no lane, with a data field that no lane would read.
+    let mut other_map = with_count(&frames[1], 4);
+    other_map[3] = 0x6C;
+    other_map[8] = 0xFF;
+    assert_eq!(end.look(&other_map), looks(Class::Counted, 3, Some(0), None));
+    // The command bit, with bypass 1: the other service's channel, which expects no count yet.
+    let mut command = with_count(&frames[1], 4);
+    command[6] = 0xC1;
+    assert_eq!(end.look(&command), looks(Class::Counted, 0, Some(1), None));
+    end.read(&command);
+    assert_eq!(end.look(&command), looks(Class::Counted, 255, Some(1), None));
+    // Without the command bit its rule is not that of the lane of this map; with rule and UPID it is read there.
+    command[6] = 0x81;
+    assert_eq!(end.look(&command), looks_refused(12));
+    command[8] = 0x25;
+    assert_eq!(end.look(&command), looks(Class::Read, 255, Some(1), Some(1)));
+    assert_eq!(end.reader.held, [11, 0]);
+    let answer = end.read(&other_map);
+    assert_eq!((answer.class, answer.missing, answer.dropped), (Class::Counted, 3, 11));
 }
 
 #[test]
@@ -390,6 +624,8 @@ fn a_script_as_requests() {
     let held = [row(&[2, 2, 8_192]), vec![1, 2], row(&[4, 8, 64 * 28 + 40]), vec![0, 0, 0, 0, 0, 0, 0, 2]].concat();
     assert_eq!(after("held 1 0102\n"), held);
     assert_eq!(after("read 0A 1\n"), [row(&[1, 1, 1, 9_600, 65_536]), vec![10]].concat());
+    assert_eq!(after("look 0A0B\n"), [row(&[9, 2]), vec![10, 11]].concat());
+    assert_eq!(after("look -\n"), row(&[9, 0]));
     assert_eq!(after("keep 32\n"), row(&[0, 0, 12_288, 9_600, 65_536, 32]));
     let write = [row(&[7, 274, 3, 1, 0, 40]), vec![0xAA], vec![0; 271], vec![1, 2]].concat();
     assert_eq!(after("write 3 0102 AA - 40\n"), write);
@@ -427,11 +663,67 @@ fn answers_as_text() {
 }
 
 #[test]
+fn answers_to_looks_as_text() {
+    let text = |row_0: [u64; 8], changed: Option<usize>| {
+        let mut desk: Vec<u8> = row_0.iter().flat_map(|number| number.to_be_bytes()).collect();
+        desk.resize(2_240, 0);
+        desk.extend(vec![0x55; 4_200]);
+        if let Some(place) = changed {
+            desk[place] ^= 1;
+        }
+        let mut out = Vec::new();
+        stream::answers("look 00\n".as_bytes(), &desk[..], &mut out).map(|()| String::from_utf8(out).unwrap())
+    };
+    let state = "reader expects 0:0 0:0 0:0 0:0 0:0 0:0 0:0 0:0 held 0 0 0 0 0 0 0 0 setting 0\n";
+    let said = |line: &str| Ok(format!("1 look {line}\n{state}"));
+    assert_eq!(text([3, 1, 0, 0, 0, 0, 0, 0], None), said("refused 1 missing 0 channel - lane -"));
+    assert_eq!(text([3, 1, 0, 0, 0, 0, 0, 0], None), Ok(printed("look 00\n")));
+    assert_eq!(text([0, 0, 0, 0, 0, 0, 0, 0], None), said("idle missing 0 channel - lane -"));
+    assert_eq!(text([1, 0, 1, 0, 1, 0, 0, 0], None), said("counted missing 1 channel 0 lane -"));
+    assert_eq!(text([2, 0, 2, 8, 255, 0, 0, 0], None), said("read missing 255 channel 1 lane 7"));
+    // Numbers that should be 0: of the answer, of a class with a refusal's number, of no class.
+    for wrong in [[2, 0, 2, 8, 255, 1, 0, 0], [2, 0, 2, 8, 255, 0, 1, 0], [2, 0, 2, 8, 255, 0, 0, 1]] {
+        assert!(text(wrong, None).is_err());
+    }
+    assert!(text([2, 1, 0, 0, 0, 0, 0, 0], None).is_err());
+    assert!(text([4, 0, 0, 0, 0, 0, 0, 0], None).is_err());
+    // A setting that changed, of the writer and of the reader; an expected count, and octets held.
+    for place in [64 + 7, 18 * 64 + 7] {
+        assert!(text([0; 8], Some(place)).is_err());
+    }
+    for place in [19 * 64 + 39, 19 * 64 + 47, 27 * 64 + 47] {
+        assert_ne!(text([0; 8], Some(place)), text([0; 8], None));
+    }
+}
+
+#[test]
 fn random_scripts_are_the_same_each_time_and_can_be_called() {
     let script = random::script(7, 300);
     assert_eq!(script, random::script(7, 300));
     assert_ne!(script, random::script(8, 300));
     assert!(printed(&script).lines().count() > 300);
+}
+
+/// What calls print, a string each and without the numbers of the script's lines.
+fn printed_by_call(script: &str) -> Vec<String> {
+    let mut calls: Vec<String> = Vec::new();
+    for line in printed(script).lines() {
+        match line.split_once(' ') {
+            Some((number, rest)) if number.bytes().all(|octet| octet.is_ascii_digit()) => calls.push(rest.to_string()),
+            _ => *calls.last_mut().unwrap() += line,
+        }
+    }
+    calls
+}
+
+#[test]
+fn other_calls_print_the_same_without_the_looks() {
+    let script = random::script(9, 300);
+    let without: String = script.split_inclusive('\n').filter(|line| !line.starts_with("look ")).collect();
+    let (looks, others): (Vec<String>, Vec<String>) =
+        printed_by_call(&script).into_iter().partition(|call| call.starts_with("look "));
+    assert!(looks.len() > 30);
+    assert_eq!(others, printed_by_call(&without));
 }
 
 #[test]

@@ -12,7 +12,8 @@ extern "C" {
 }
 
 /// The system's bits, and the word that is printed for each.
-const EVENTS: [(u32, &str); 5] = [(0x8, "closed"), (0x40, "left"), (0x80, "taken"), (0x100, "made"), (0x200, "removed")];
+const EVENTS: [(u32, &str); 5] =
+    [(0x8, "closed"), (0x40, "left"), (0x80, "taken"), (0x100, "made"), (0x200, "removed")];
 
 /// An event's octets before its name: watch, bits, cookie, and how long the name is with its zeros.
 const HEAD: usize = 16;
