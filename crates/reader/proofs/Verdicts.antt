@@ -1,7 +1,7 @@
 -- A read by its verdict: what each case may rely on, and what it makes of the call.
 use mathlib.Core.Path.{_≡_, refl, sym, ap, _∙_}
-use mathlib.Core.Bool.{true, false}
-use Prim.Native.Nat.{ℕ, _^_, _≤_, _<_}
+use mathlib.Core.Bool.{Bool, true, false, cond, not}
+use Prim.Native.Nat.{ℕ, _≤_}
 use mathlib.Core.List.{List}
 use lib.ListN.{length}
 use borrow.Author.Tests.{eqb-true, ltb-false}
@@ -13,28 +13,83 @@ use Rattle.rules.specs.declared.Verdict.{Verdict}
 use Rattle.rules.specs.Settings.{channel, lane, channelOf, readerOk}
 use Rattle.rules.specs.Frames.{countIn}
 use Rattle.rules.specs.Reading.{gap}
-use Rattle.rules.specs.Calls.{Got, areasShort, readOn, onVerdict, verdict, read}
+use Rattle.rules.specs.Calls.{Got, areasShort, readOn, onVerdict, verdict, read, looked, missingAt, onLook}
 use borrow.Author.Tests.{not-false}
 use Rattle.rules.proofs.Tests.{or-none}
-use Rattle.rules.proofs.States.{reader-ok, gap-setting, good-gap}
+use Rattle.rules.proofs.States.{gap-setting, good-gap}
 use Rattle.rules.specs.Promises.{ReadGives}
+use Rattle.rules.specs.Refusals.{judge}
+use Rattle.rules.proofs.Judged.{Judged, judge-facts}
+use Rattle.rules.proofs.Valid.{good-reader}
+use Rattle.rules.proofs.Looks.{verdict-looked}
 use Rattle.rules.proofs.Promises.{Keeps, read-by}
 use Rattle.rules.proofs.Calls.{Ordered, Ruled, verdict-cond, verdict-facts}
 use Rattle.judge.specs.declared.Sight.{Sight}
 use Rattle.judge.specs.declared.Sighting.{Sighting}
-use Rattle.judge.specs.Sights.{readSight, sightOf}
+use Rattle.judge.specs.declared.Sighting.the-variants.{Seen}
+use Rattle.judge.specs.Sights.{readSight, sightOf, Fitting}
 use Rattle.judge.proofs.Sights.{counted-sight, read-sight}
 use Rattle.rules.specs.declared.Place.{Place}
 use Rattle.rules.specs.declared.Place.the-variants.{At, Nowhere}
-use Rattle.reader.specs.Reads.{verdictOf, countedOf, OnLane, SeenOn}
+use Rattle.reader.specs.Reads.{shortOf, shortRefusal, countedOf, OnLane, SeenOn}
+use Rattle.reader.specs.declared.Found.{Found}
+use Rattle.reader.specs.Finds.{Sound, missingFor, foundOf, shownOf}
 use Rattle.gaps.proofs.Gaps.{gap-small}
 use Rattle.rules.specs.Areas.{heldSize, recordsSize, unitsSize}
 
+-- ---- what is found
+
+module _ (r : Reader) (f : List ℕ) where
+  -- By a valid state's checks.
+  pub sound : readerOk r ≡ true → (v : Sighting) → v ≡ sightOf (r .setting) f (judge (r .setting) f) → Fitting (r .setting) v → Sound r v
+  unfolding sightOf
+  sound ok v e k = rw e (go (judge (r .setting) f) (judge-facts (r .setting) f) (rw e at k))
+    where
+      go : (w : Verdict) → Judged (r .setting) f w → Fitting (r .setting) (sightOf (r .setting) f w) → Sound r (sightOf (r .setting) f w)
+      go (Verdict.Refused n) j q = tt
+      go Verdict.Idle j q = tt
+      go (Verdict.Counted c) j q = (ok, j .0, q)
+      go (Verdict.Read l) j q = (ok, good-reader r ok .setting .lanes l (j .numbered) .channel, q)
+
+  pub missing-found : (w : Verdict) → missingFor r (sightOf (r .setting) f w) ≡ (onLook w r f) .missing
+  unfolding sightOf onLook
+  missing-found (Verdict.Refused n) = refl
+  missing-found Verdict.Idle = refl
+  missing-found (Verdict.Counted c) = refl
+  missing-found (Verdict.Read l) = refl
+
+  -- What a look shows of it is the rule's.
+  pub shown-look : (w : Verdict) → shownOf (foundOf r f w) ≡ onLook w r f
+  unfolding foundOf sightOf onLook
+  shown-look (Verdict.Refused n) = refl
+  shown-look Verdict.Idle = refl
+  shown-look (Verdict.Counted c) = refl
+  shown-look (Verdict.Read l) = refl
+
+  module _ (w : Verdict) (v : Found) (e : v ≡ foundOf r f w) where
+    pub said : v .sighting ≡ sightOf (r .setting) f w
+    unfolding foundOf
+    said = ap (λ (x : Found). x .sighting) e
+
+    pub gone : (x : Sight) → v .sighting ≡ Seen x → v .missing ≡ missingAt r (x .channel) (x .count)
+    unfolding foundOf
+    gone x q = ap (λ (y : Found). y .missing) e ∙ sym (missing-found w) ∙ ap (missingFor r) (sym said ∙ q)
+
+-- ---- what is made of it
+
 module _ (r : Reader) (f h u c : List ℕ) where
-  -- The verdict by which a sight was found.
-  pub sighted : (v : Sighting) → v ≡ sightOf (r .setting) f (verdictOf r f (length h) (length u) (length c)) → sightOf (r .setting) f (verdict r f h u c) ≡ v
+  -- Where no area is short, what is found is what the checks of a read say.
+  pub found-lent : shortOf (length h) (length u) (length c) ≡ false → (v : Found) → v ≡ foundOf r f (looked r f) → v ≡ foundOf r f (verdict r f h u c)
   unfolding areasShort
-  sighted v e = ap (sightOf (r .setting) f) (verdict-cond r f h u c) ∙ sym e
+  found-lent e v q = q ∙ ap (foundOf r f) (sym (verdict-looked r f h u c e))
+
+  pub found-short : shortOf (length h) (length u) (length c) ≡ true → verdict r f h u c ≡ Verdict.Refused (shortRefusal r)
+  unfolding areasShort
+  found-short e = verdict-cond r f h u c ∙ rw e (go (readerOk r))
+    where
+      go : (a : Bool) → cond (not a) (Verdict.Refused 1) (Verdict.Refused 2) ≡ Verdict.Refused (cond a 2 1)
+      go true = refl
+      go false = refl
 
   -- What a case of the verdict makes keeps the promise.
   kept : (w : Verdict) → verdict r f h u c ≡ w → (x : Got) → x ≡ onVerdict w r f h u c → Keeps r f h u c x
@@ -59,23 +114,8 @@ module _ (r : Reader) (f h u c : List ℕ) where
       let b = or-none _ _ (a .0) in
       (eqb-true _ _ (not-false _ (b .0)), ltb-false _ _ (b .1), ltb-false _ _ (a .1))
 
-  -- What was seen is on a listed channel, with a valid state.
-  module _ (x : Sight) (o : SeenOn r x f h u c) where
-    pub seen-good : (readerOk r ≡ true) × (x .channel < r .setting .listed) × (x .count < 256 ^ (channel (r .setting) (x .channel)) .octets)
-    seen-good = go (x .lane) refl
-      where
-        go : (p : Place) → x .lane ≡ p → (readerOk r ≡ true) × (x .channel < r .setting .listed) ×
-            (x .count < 256 ^ (channel (r .setting) (x .channel)) .octets)
-        go Nowhere q =
-            let w = counted-sight (r .setting) f x (verdict r f h u c) (sym (o .found)) q in
-            let k : Ordered r f h u c (Verdict.Counted (x .channel)) = facts (Verdict.Counted (x .channel)) (w .0) in
-            (reader-ok r (k .good), k .judged .0, o .fits)
-        go (At l) q =
-            let w = read-sight (r .setting) f x (verdict r f h u c) l (sym (o .found)) q in
-            let k : Ordered r f h u c (Verdict.Read l) = facts (Verdict.Read l) (w .0) in
-            let j : x .channel ≡ lane (r .setting) l .channel = ap (λ (y : Sight). y .channel) (w .1) in
-            (reader-ok r (k .good), rw j (k .good .setting .lanes l (k .judged .numbered) .channel), o .fits)
-
+  -- What was seen, with its count taken.
+  module _ (x : Sight) (m : ℕ) (o : SeenOn r x m f h u c) where
     -- Counted: what the gap leaves.
     pub counted-kept : x .lane ≡ Nowhere → (g : Gap) → g ≡ gap r (x .channel) (x .count) → (t : Taken) → t ≡ countedOf g → ReadGives r f h u c t h u c
     unfolding onVerdict

@@ -1,7 +1,7 @@
 -- What a read's parts are lent and hand back.
 use mathlib.Core.Path.{_≡_}
-use mathlib.Core.Bool.{Bool, cond, not, _||_}
-use Prim.Native.Nat.{ℕ, _+_, _^_, _≤_, _<_}
+use mathlib.Core.Bool.{Bool, cond, _||_}
+use Prim.Native.Nat.{ℕ, _+_, _≤_}
 use mathlib.Core.List.{List}
 use lib.ListN.{length}
 use Rattle.rules.specs.declared.Class.{Class}
@@ -9,15 +9,14 @@ use Rattle.rules.specs.declared.Gap.{Gap}
 use Rattle.rules.specs.declared.Reader.{Reader}
 use Rattle.rules.specs.declared.Setting.{Setting}
 use Rattle.rules.specs.declared.Taken.{Taken}
-use Rattle.rules.specs.declared.Verdict.{Verdict}
 use Rattle.rules.specs.Tests.{_<?_, _≠?_}
 use Rattle.rules.specs.Settings.{channel, lane, withSlot, readerOk}
-use Rattle.rules.specs.Refusals.{judge}
-use Rattle.rules.specs.Calls.{counted, verdict}
+use Rattle.rules.specs.Calls.{counted, verdict, missingAt}
 use Rattle.judge.specs.declared.Sight.{Sight}
 use Rattle.judge.specs.declared.Sighting.the-variants.{Seen}
 use Rattle.judge.specs.Sights.{sightOf}
 use Rattle.rules.specs.Valid.{GoodReader, Reads}
+use Rattle.reader.specs.Finds.{Sound}
 use Rattle.lanes.specs.declared.units.Stand.{Stand}
 use Rattle.lanes.specs.declared.units.Terms.{Terms}
 use Rattle.rules.specs.Areas.{heldSize, recordsSize, unitsSize}
@@ -57,18 +56,20 @@ pub record OnLane (g : Gap) (l : ℕ) (f h u c : List ℕ) : Type 0 where
   pub units : unitsSize ≤ length u
   pub records : recordsSize ≤ length c
 
--- The checks of a read, whose areas have these lengths.
+-- An area is too short, of these lengths.
 abbrev pub shortOf : ℕ → ℕ → ℕ → Bool
 shortOf h u c = h ≠? heldSize || u <? unitsSize || c <? recordsSize
 
-abbrev pub verdictOf : Reader → List ℕ → ℕ → ℕ → ℕ → Verdict
-verdictOf r f h u c = cond (not (readerOk r)) (Verdict.Refused 1) (cond (shortOf h u c) (Verdict.Refused 2) (judge (r .setting) f))
+-- Then 2 is given, but for a state that is not valid.
+abbrev pub shortRefusal : Reader → ℕ
+shortRefusal r = cond (readerOk r) 2 1
 
 -- The answer and the state of a frame that is Counted, after gap g.
 abbrev pub countedOf : Gap → Taken
 countedOf g = record { answer = counted g; state = g .state }
 
--- A sight of this frame, found by the checks of a read that refuse nothing.
-pub record SeenOn (r : Reader) (x : Sight) (f h u c : List ℕ) : Type 0 where
+-- A sight of this frame, found by the checks of a read that refuse nothing, with as many frames missing.
+pub record SeenOn (r : Reader) (x : Sight) (m : ℕ) (f h u c : List ℕ) : Type 0 where
   pub found : Seen x ≡ sightOf (r .setting) f (verdict r f h u c)
-  pub fits : x .count < 256 ^ (channel (r .setting) (x .channel)) .octets
+  pub missing : m ≡ missingAt r (x .channel) (x .count)
+  pub sound : Sound r (Seen x)

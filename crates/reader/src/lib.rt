@@ -1,11 +1,17 @@
-// The reader: set-up, and one call a frame.
+// The reader: set-up, and two calls a frame. One judgement of state and frame, `find`: `look` shows it, `take` acts on it, and `pass` does both, with an
+// operator's decision between them.
+mod choices;
+
 ghost use mathlib.Core.Path.{_≡_};
 ghost use Prim.Native.Nat.{_≤_, _<_};
+ghost use Rattle.rules.specs.declared.Place.the-variants.{Nowhere};
 ghost use Rattle.rules.specs.Settings.{channelOf};
-ghost use Rattle.rules.specs.Calls.{readOn, bare, verdict};
-ghost use Rattle.rules.specs.Promises.{ReaderStarts, ReadGives};
-ghost use Rattle.judge.specs.Sights.{readSight, sightOf, Fitting};
-ghost use Rattle.reader.specs.Reads.{termsFor, takenOf, countedOf, shortOf, verdictOf, OnLane, SeenOn};
+ghost use Rattle.rules.specs.Calls.{readOn, bare, verdict, looked};
+ghost use Rattle.rules.specs.Promises.{ReaderStarts, ReadGives, LookGives};
+ghost use Rattle.rules.specs.Passes.{whose as whoseIn, seen, PassGives};
+ghost use Rattle.judge.specs.Sights.{readSight, sightOf};
+ghost use Rattle.reader.specs.Reads.{termsFor, takenOf, countedOf, shortOf, shortRefusal, OnLane, SeenOn};
+ghost use Rattle.reader.specs.Finds.{Sound, missingFor, foundOf, classOn, shownOf};
 ghost use Rattle.rules.specs.Areas.{heldSize, unitsSize};
 use judge::Sight;
 use judge::Sighting;
@@ -16,7 +22,9 @@ use rules::Class;
 use rules::Gap;
 use rules::Info;
 use rules::Listener;
+use rules::Looked;
 use rules::Outcome;
+use rules::Passed;
 use rules::Place;
 use rules::Reader;
 use rules::Setting;
@@ -141,21 +149,126 @@ fn areas_short(held: usize, units: usize, records: usize) -> bool
     records < rules::RECORDS_SIZE
 }
 
-// What the checks find of a read, lent areas of these lengths.
-fn sight_of(r: Reader, frame: &[u8], held: usize, units: usize, records: usize) -> Sighting
-    ensures { λ v. ⌜ (v ≡ sightOf (r .setting) (now (frame .entry)) (verdictOf r (now (frame .entry)) held units records)) × Fitting (r .setting) v ⌝ }
+// ---- the one judgement
+
+// What is found of a frame: what the checks say of it, and how many frames are missing before it.
+struct Found {
+    sighting: Sighting,
+    missing: u64,
+}
+
+// What the checks say of state and frame, where no area is lent.
+fn sight_of(r: Reader, frame: &[u8]) -> Sighting
+    ensures { λ v. ⌜ (v ≡ sightOf (r .setting) (now (frame .entry)) (looked r (now (frame .entry)))) × Sound r v ⌝ }
 {
     let valid = setting::reader_ok(r);
     if valid {
-        let short = areas_short(held, units, records);
-        if short {
-            return Sighting::Refused(2);
-        }
         let s = r.setting;
         return judge::judge_frame(s, frame);
     }
     Sighting::Refused(1)
 }
+
+// How many frames are missing before one of which the checks say this.
+fn missing_before(r: Reader, v: Sighting) -> u64
+    requires { ⌜ Sound r v ⌝ }
+    ensures { λ m. ⌜ m ≡ missingFor r v ⌝ }
+{
+    match v {
+        Sighting::Refused(_) => 0,
+        Sighting::Idle => 0,
+        Sighting::Seen(x) => gaps::missing_at(r, x.channel, x.count),
+    }
+}
+
+// What is found of a frame.
+fn find(r: Reader, frame: &[u8]) -> Found
+    ensures { λ v. ⌜ (v ≡ foundOf r (now (frame .entry)) (looked r (now (frame .entry)))) × Sound r (v .sighting) ⌝ }
+{
+    let v = sight_of(r, frame);
+    let m = missing_before(r, v);
+    Found {
+        sighting: v,
+        missing: m,
+    }
+}
+
+// ---- look
+
+// The class of a frame of a listed channel, by the lane that reads it, if any.
+fn class_on(lane: Place) -> Class
+    ensures { λ k. ⌜ k ≡ classOn lane ⌝ }
+{
+    match lane {
+        Place::Nowhere => Class::Counted,
+        Place::At(_) => Class::Read,
+    }
+}
+
+// The answer of a look at a frame of no channel.
+fn nowhere(class: Class, missing: u64) -> Looked
+    ensures { λ o. ⌜ o ≡ record { class = class; missing = missing; channel = Nowhere; lane = Nowhere } ⌝ }
+{
+    Looked {
+        missing: missing,
+        channel: Place::Nowhere,
+        lane: Place::Nowhere,
+        class: class,
+    }
+}
+
+// A look's answer: what was found, as the paper has it.
+fn shown(v: Found) -> Looked
+    ensures { λ o. ⌜ o ≡ shownOf v ⌝ }
+{
+    let said = v.sighting;
+    match said {
+        Sighting::Refused(n) => {
+            let class = Class::Refused(n);
+            nowhere(class, v.missing)
+        }
+        Sighting::Idle => {
+            let class = Class::Idle;
+            nowhere(class, v.missing)
+        }
+        Sighting::Seen(x) => {
+            let on = x.lane;
+            let class = class_on(on);
+            let at = Place::At(x.channel);
+            Looked {
+                missing: v.missing,
+                channel: at,
+                lane: on,
+                class: class,
+            }
+        }
+    }
+}
+
+// Checks a frame, and says its class, how many frames are missing, and whose it is. Nothing is lent to be changed, and no state is handed back.
+pub fn look(r: Reader, frame: &[u8]) -> Looked
+    ensures { λ o. ⌜ LookGives r (now (frame .entry)) o ⌝ }
+{
+    let v = find(r, frame);
+    shown(v)
+}
+
+// Whose a frame is that a look says this of.
+pub fn whose(o: Looked) -> Verdict
+    ensures { λ v. ⌜ v ≡ whoseIn o ⌝ }
+{
+    let class = o.class;
+    let c = o.channel;
+    let l = o.lane;
+    match class {
+        Class::Idle => Verdict::Idle,
+        Class::Counted => Verdict::Counted(choices::number_of(c)),
+        Class::Read => Verdict::Read(choices::number_of(l)),
+        Class::Refused(n) => Verdict::Refused(n),
+    }
+}
+
+// ---- take
 
 // An answer of this class whose counts are 0, and the state as it was.
 fn untouched(class: Class, r: Reader) -> Taken
@@ -195,11 +308,19 @@ fn counted_of(g: Gap) -> Taken
 }
 
 // Takes the count of the frame that x is the sight of, and reads it where a lane does.
-fn take_seen(r: Reader, x: Sight, f: &[u8], h: &mut [u8], u: &mut [u8], c: &mut [u8]) -> Taken
-    requires { ⌜ SeenOn r x (now f) (now h) (now u) (now c) ⌝ }
+fn take_seen(
+    r: Reader,
+    x: Sight,
+    missing: u64,
+    f: &[u8],
+    h: &mut [u8],
+    u: &mut [u8],
+    c: &mut [u8],
+) -> Taken
+    requires { ⌜ SeenOn r x missing (now f) (now h) (now u) (now c) ⌝ }
     ensures { λ t. ⌜ ReadGives r (now (f .entry)) (now (h .entry)) (now (u .entry)) (now (c .entry)) t (now (h .exit)) (now (u .exit)) (now (c .exit)) ⌝ }
 {
-    let g = gaps::gap_of(r, x.channel, x.count);
+    let g = gaps::gap_of(r, x.channel, x.count, missing);
     let on = x.lane;
     match on {
         Place::Nowhere => counted_of(g),
@@ -207,12 +328,13 @@ fn take_seen(r: Reader, x: Sight, f: &[u8], h: &mut [u8], u: &mut [u8], c: &mut 
     }
 }
 
-// Does what the checks' finding v asks for.
-fn act_on(v: Sighting, r: Reader, f: &[u8], h: &mut [u8], u: &mut [u8], c: &mut [u8]) -> Taken
-    requires { ⌜ (v ≡ sightOf (r .setting) (now f) (verdict r (now f) (now h) (now u) (now c))) × Fitting (r .setting) v ⌝ }
+// Does what was found asks for.
+fn act_on(v: Found, r: Reader, f: &[u8], h: &mut [u8], u: &mut [u8], c: &mut [u8]) -> Taken
+    requires { ⌜ (v ≡ foundOf r (now f) (verdict r (now f) (now h) (now u) (now c))) × Sound r (v .sighting) ⌝ }
     ensures { λ t. ⌜ ReadGives r (now (f .entry)) (now (h .entry)) (now (u .entry)) (now (c .entry)) t (now (h .exit)) (now (u .exit)) (now (c .exit)) ⌝ }
 {
-    match v {
+    let said = v.sighting;
+    match said {
         Sighting::Refused(n) => {
             let class = Class::Refused(n);
             untouched(class, r)
@@ -221,40 +343,92 @@ fn act_on(v: Sighting, r: Reader, f: &[u8], h: &mut [u8], u: &mut [u8], c: &mut 
             let class = Class::Idle;
             untouched(class, r)
         }
-        Sighting::Seen(x) => take_seen(r, x, f, h, u, c),
+        Sighting::Seen(x) => take_seen(r, x, v.missing, f, h, u, c),
     }
 }
 
-// A read, and whose the frame is: what the checks say of it.
-pub struct Whose {
-    pub taken: Taken,
-    pub verdict: Verdict,
+// The refusal where an area is too short: 2, but for a state that is not valid.
+fn short_refusal(r: Reader) -> u8
+    ensures { λ n. ⌜ n ≡ shortRefusal r ⌝ }
+{
+    let valid = setting::reader_ok(r);
+    if valid {
+        return 2;
+    }
+    1
 }
 
-// Reads one frame into the areas lent, or refuses it and changes nothing; and says whose it is.
-pub fn read_whose(
+// Takes the frame of which v was found into the areas lent, or refuses it and changes nothing.
+fn take_found(v: Found, r: Reader, f: &[u8], h: &mut [u8], u: &mut [u8], c: &mut [u8]) -> Taken
+    requires { ⌜ (v ≡ foundOf r (now f) (looked r (now f))) × Sound r (v .sighting) ⌝ }
+    ensures { λ t. ⌜ ReadGives r (now (f .entry)) (now (h .entry)) (now (u .entry)) (now (c .entry)) t (now (h .exit)) (now (u .exit)) (now (c .exit)) ⌝ }
+{
+    let short = areas_short(h.len(), u.len(), c.len());
+    if short {
+        let n = short_refusal(r);
+        let class = Class::Refused(n);
+        return untouched(class, r);
+    }
+    act_on(v, r, f, h, u, c)
+}
+
+// Takes one frame into the areas lent, or refuses it and changes nothing: document 01's read. All checks are done, whatever a look said before.
+pub fn take(r: Reader, frame: &[u8], held: &mut [u8], units: &mut [u8], records: &mut [u8]) -> Taken
+    ensures { λ t. ⌜ ReadGives r (now (frame .entry)) (now (held .entry)) (now (units .entry)) (now (records .entry)) t (now (held .exit)) (now (units .exit)) (now (records .exit)) ⌝ }
+{
+    let v = find(r, frame);
+    take_found(v, r, frame, held, units, records)
+}
+
+// ---- look, decide, take
+
+// A frame that is left out: what the look said of it, and the state as it was.
+fn passed_over(o: Looked, r: Reader) -> Taken
+    ensures { λ t. ⌜ t ≡ record { answer = seen o; state = r } ⌝ }
+{
+    let class = o.class;
+    Taken {
+        answer: Answer {
+            class: class,
+            units: 0,
+            octets: 0,
+            missing: o.missing,
+            idle: 0,
+            fill: 0,
+            dropped: 0,
+        },
+        state: r,
+    }
+}
+
+// Looks at a frame, and takes it, unless it is of a virtual channel that is to be left out: then nothing changes. Nothing can come between the look and
+// the take here, so what the look found is what the take finds, and the checks are done once.
+pub fn pass(
+    without: [bool; 63],
     r: Reader,
     frame: &[u8],
     held: &mut [u8],
     units: &mut [u8],
     records: &mut [u8],
-) -> Whose
-    ensures { λ t. ⌜ ReadGives r (now (frame .entry)) (now (held .entry)) (now (units .entry)) (now (records .entry)) (t .taken) (now (held .exit)) (now (units .exit)) (now (records .exit)) × (t .verdict ≡ verdict r (now (frame .entry)) (now (held .entry)) (now (units .entry)) (now (records .entry))) ⌝ }
+) -> Passed
+    ensures { λ o. ⌜ PassGives without r (now (frame .entry)) (now (held .entry)) (now (units .entry)) (now (records .entry)) o (now (held .exit)) (now (units .exit)) (now (records .exit)) ⌝ }
 {
-    let v = sight_of(r, frame, held.len(), units.len(), records.len());
-    let whose = judge::verdict_of(v);
-    let t = act_on(v, r, frame, held, units, records);
-    Whose {
-        taken: t,
-        verdict: whose,
+    let v = find(r, frame);
+    let o = shown(v);
+    let s = r.setting;
+    let left = choices::left_out(without, s, o);
+    if left {
+        let t = passed_over(o, r);
+        return Passed {
+            taken: t,
+            looked: o,
+            left: true,
+        };
     }
-}
-
-// Reads one frame into the areas lent, or refuses it and changes nothing.
-pub fn read(r: Reader, frame: &[u8], held: &mut [u8], units: &mut [u8], records: &mut [u8]) -> Taken
-    ensures { λ t. ⌜ ReadGives r (now (frame .entry)) (now (held .entry)) (now (units .entry)) (now (records .entry)) t (now (held .exit)) (now (units .exit)) (now (records .exit)) ⌝ }
-{
-    let t = read_whose(r, frame, held, units, records);
-    let taken = t.taken;
-    taken
+    let t = take_found(v, r, frame, held, units, records);
+    Passed {
+        taken: t,
+        looked: o,
+        left: false,
+    }
 }
