@@ -1,6 +1,5 @@
 -- `words::unpack_start::channel_word`: test by test; what a digit stands for is its octet less 48.
 use mathlib.Core.Path.{sym, _∙_}
-use native.Mathlib.Omega.{arith}
 use borrow.Author.Tests.{le-leb, lt-leb}
 use Rattle.words.specs.UnpackWords.{channelWord}
 use Rattle.words.proofs.Without.{digit-low}
