@@ -8,7 +8,7 @@ use Rattle.rules.specs.declared.Setting.{Setting}
 use Rattle.rules.specs.declared.Verdict.{Verdict}
 use Rattle.rules.specs.Areas.{laid}
 use Rattle.rules.specs.Tests.{_<?_}
-use Rattle.unpack_text.specs.Totals.{add, tallied, noTally}
+use Rattle.unpack_text.specs.Totals.{add, tallied, noTally, passedOver as talliedOver}
 use Rattle.refusals.specs.declared.First.{First}
 use Rattle.refusals.specs.declared.Refusals.{Refusals}
 use Rattle.refusals.specs.declared.Totals.{Totals}
@@ -36,6 +36,10 @@ refusedAfter t (Verdict.Read l) k f = t
 unfoldable pub totalled : Setting → Totals → Verdict → Answer → List ℕ → Totals
 totalled s t v a f =
     record { tally = tallied s (t .tally) v a; refusals = refusedAfter (t .refusals) v (t .tally .classes .frames) f }
+
+-- With one frame more that was left out: the refusals are as they were.
+unfoldable pub passedOver : Totals → Totals
+passedOver t = record { tally = talliedOver (t .tally); refusals = t .refusals }
 
 unfoldable pub noRefusals : Refusals
 noRefusals = record { counts = replicate 13 0; first = record { frame = 0; octets = 0; front = replicate 7 0; there = false } }

@@ -4,7 +4,7 @@ ghost use mathlib.Core.Path.{_≡_};
 ghost use Prim.Native.Nat.{_+_, _≤_, _<_};
 ghost use lib.ListN.{length};
 ghost use Rattle.unpack_text.specs.Lines.{Wrote};
-ghost use Rattle.refusals.specs.Counts.{raised, frontOf, firstAfter, refusedAfter, totalled, noTotals, commoner, commonest};
+ghost use Rattle.refusals.specs.Counts.{raised, frontOf, firstAfter, refusedAfter, totalled, passedOver, noTotals, commoner, commonest};
 ghost use Rattle.refusals.specs.Words.{naming, refusedLine, refusedLines, totalsText, commonText, firstText, marked};
 use rules::Answer;
 use rules::Reader;
@@ -113,6 +113,17 @@ pub fn count_frame(s: Setting, t: Totals, v: Verdict, a: Answer, frame: &[u8]) -
     }
 }
 
+// The totals with one frame more that was left out: it is not refused.
+pub fn pass_over(t: Totals) -> Totals
+    ensures { λ r. ⌜ r ≡ passedOver t ⌝ }
+{
+    let x = t.tally;
+    let tally = unpack_text::pass_over(x);
+    let mut u = t;
+    u.tally = tally;
+    u
+}
+
 // The totals of no frame.
 pub fn no_totals() -> Totals
     ensures { λ r. ⌜ r ≡ noTotals ⌝ }
@@ -213,8 +224,8 @@ fn put_refusals(area: &mut [u8], from: usize, counts: [u64; 13]) -> usize
 
 // Puts all totals of a recording, after which a reader has this state.
 pub fn put_totals(area: &mut [u8], from: usize, r: Reader, t: Totals) -> usize
-    requires { ⌜ (r .setting .listed ≤ 8) × (r .setting .numbered ≤ 8) × (from + 4342 ≤ length (now area)) ⌝ }
-    ensures { λ e. ⌜ Wrote 4342 (totalsText r t) (now (area .entry)) from (now (area .exit)) e ⌝ }
+    requires { ⌜ (r .setting .listed ≤ 8) × (r .setting .numbered ≤ 8) × (from + 4368 ≤ length (now area)) ⌝ }
+    ensures { λ e. ⌜ Wrote 4368 (totalsText r t) (now (area .entry)) from (now (area .exit)) e ⌝ }
 {
     let x = t.tally;
     let counts = t.refusals.counts;

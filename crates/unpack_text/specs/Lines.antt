@@ -1,8 +1,10 @@
 -- What unpack prints, as docs/PROGRAMS.md has it.
 use Prim.Native.Nat.{ℕ, zero, suc, _≤_}
+use mathlib.Core.Bool.{Bool, cond}
 use mathlib.Core.List.{List, [], _++_}
 use lib.ListN.{length, getD}
 use Rattle.rules.specs.declared.Answer.{Answer}
+use Rattle.rules.specs.declared.Class.{Class}
 use Rattle.rules.specs.declared.Reader.{Reader}
 use Rattle.rules.specs.declared.Channel.{Channel}
 use Rattle.rules.specs.declared.Verdict.{Verdict}
@@ -25,7 +27,7 @@ pub record Wrote (n : ℕ) (xs area : List ℕ) (from : ℕ) (area′ : List ℕ
 unfoldable pub title : List ℕ
 title = text "frame answer lane units octets missing idle fill dropped\n"
 
--- "The lane's number if read, the refusal number if refused, `-` otherwise."
+-- "The lane's number if it is read, or would be, the refusal number if refused, `-` otherwise."
 unfoldable pub third : Verdict → List ℕ
 third (Refused n) = decimal n
 third Idle = text "-"
@@ -39,9 +41,13 @@ givenText a = text " " ++ decimal (a .units) ++ (text " " ++ decimal (a .octets)
 unfoldable pub restText : Answer → List ℕ
 restText a = text " " ++ decimal (a .idle) ++ (text " " ++ decimal (a .fill)) ++ (text " " ++ decimal (a .dropped)) ++ text "\n"
 
--- The line of frame k: its number, its class, whose it is, and its counts.
-unfoldable pub frameLine : ℕ → Verdict → Answer → List ℕ
-frameLine k v a = front k (a .class) ++ third v ++ givenText a ++ restText a
+-- Its number and its class, "or `left` where it is left out".
+unfoldable pub frontText : ℕ → Bool → Class → List ℕ
+frontText k left class = cond left (decimal k ++ text " left ") (front k class)
+
+-- The line of frame k: its number, its class or that it is left out, whose it is, and its counts.
+unfoldable pub frameLine : ℕ → Bool → Verdict → Answer → List ℕ
+frameLine k left v a = frontText k left (a .class) ++ third v ++ givenText a ++ restText a
 
 unfoldable pub laneLine : ℕ → LaneTally → List ℕ
 laneLine l t =
@@ -66,6 +72,7 @@ classesText t =
     ++ (text " counted " ++ decimal (t .counted))
     ++ (text " idle " ++ decimal (t .idle))
     ++ (text " refused " ++ decimal (t .refused))
+    ++ (text " left " ++ decimal (t .left))
 
 unfoldable pub sumsText : Sums → List ℕ
 sumsText t =

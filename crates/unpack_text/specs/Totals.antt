@@ -21,10 +21,10 @@ add a b = min (a + b) 18446744073709551615
 
 -- One frame more, and one of its class.
 unfoldable pub classed : Classes → Class → Classes
-classed t Idle = record { frames = add (t .frames) 1; read = t .read; counted = t .counted; idle = add (t .idle) 1; refused = t .refused }
-classed t Counted = record { frames = add (t .frames) 1; read = t .read; counted = add (t .counted) 1; idle = t .idle; refused = t .refused }
-classed t Read = record { frames = add (t .frames) 1; read = add (t .read) 1; counted = t .counted; idle = t .idle; refused = t .refused }
-classed t (Refused n) = record { frames = add (t .frames) 1; read = t .read; counted = t .counted; idle = t .idle; refused = add (t .refused) 1 }
+classed t Idle = record { frames = add (t .frames) 1; read = t .read; counted = t .counted; idle = add (t .idle) 1; refused = t .refused; left = t .left }
+classed t Counted = record { frames = add (t .frames) 1; read = t .read; counted = add (t .counted) 1; idle = t .idle; refused = t .refused; left = t .left }
+classed t Read = record { frames = add (t .frames) 1; read = add (t .read) 1; counted = t .counted; idle = t .idle; refused = t .refused; left = t .left }
+classed t (Refused n) = record { frames = add (t .frames) 1; read = t .read; counted = t .counted; idle = t .idle; refused = add (t .refused) 1; left = t .left }
 
 -- An answer's units and octets, added.
 unfoldable pub summed : Sums → Answer → Sums
@@ -79,10 +79,28 @@ tallied s t v a =
       channels = channelsAfter s (t .channels) v (a .missing);
     }
 
+-- With one frame more that was left out: it is in no class, and in no line of a lane or a channel.
+unfoldable pub passedOver : Tally → Tally
+passedOver t =
+    record {
+      classes =
+          record {
+            frames = add (t .classes .frames) 1;
+            read = t .classes .read;
+            counted = t .classes .counted;
+            idle = t .classes .idle;
+            refused = t .classes .refused;
+            left = add (t .classes .left) 1;
+          };
+      sums = t .sums;
+      lanes = t .lanes;
+      channels = t .channels;
+    }
+
 unfoldable pub noTally : Tally
 noTally =
     record {
-      classes = record { frames = 0; read = 0; counted = 0; idle = 0; refused = 0 };
+      classes = record { frames = 0; read = 0; counted = 0; idle = 0; refused = 0; left = 0 };
       sums = record { units = 0; octets = 0; idle = 0; fill = 0; dropped = 0 };
       lanes = replicate 8 noLaneTally;
       channels = replicate 8 noChannelTally;

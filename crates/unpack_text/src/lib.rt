@@ -6,8 +6,8 @@ ghost use lib.ListN.{length, getD};
 ghost use Rattle.rules.specs.Settings.{noSlot, lane};
 ghost use Rattle.rules.specs.Frames.{vc};
 ghost use Rattle.rules.specs.Listing.{decimal};
-ghost use Rattle.unpack_text.specs.Totals.{add, classed, summed, laneAfter, channelAfter, inLane, inChannel, lanesAfter, channelsAfter, tallied, noTally, heldIn};
-ghost use Rattle.unpack_text.specs.Lines.{Wrote, third, frameLine, laneLine, channelLine, title, laneLines, channelLines, placesText, lastLine};
+ghost use Rattle.unpack_text.specs.Totals.{add, classed, summed, laneAfter, channelAfter, inLane, inChannel, lanesAfter, channelsAfter, tallied, passedOver, noTally, heldIn};
+ghost use Rattle.unpack_text.specs.Lines.{Wrote, third, frontText, frameLine, laneLine, channelLine, title, laneLines, channelLines, placesText, lastLine};
 use rules::Answer;
 use rules::Channel;
 use rules::Class;
@@ -16,13 +16,14 @@ use rules::Setting;
 use rules::Slot;
 use rules::Verdict;
 
-// How many frames there were, and how many of each class.
+// How many frames there were, how many of each class, and how many were left out.
 pub struct Classes {
     pub frames: u64,
     pub read: u64,
     pub counted: u64,
     pub idle: u64,
     pub refused: u64,
+    pub left: u64,
 }
 
 // What all frames gave together: units, their octets, and octets that were idle, fill or dropped.
@@ -221,6 +222,18 @@ pub fn count_frame(s: Setting, t: Tally, v: Verdict, a: Answer) -> Tally
     }
 }
 
+// The totals with one frame more that was left out.
+pub fn pass_over(t: Tally) -> Tally
+    ensures { λ r. ⌜ r ≡ passedOver t ⌝ }
+{
+    let mut c = t.classes;
+    c.frames = add(c.frames, 1);
+    c.left = add(c.left, 1);
+    let mut u = t;
+    u.classes = c;
+    u
+}
+
 // The totals of no frame.
 pub fn no_tally() -> Tally
     ensures { λ r. ⌜ r ≡ noTally ⌝ }
@@ -241,6 +254,7 @@ pub fn no_tally() -> Tally
             counted: 0,
             idle: 0,
             refused: 0,
+            left: 0,
         },
         sums: Sums {
             units: 0,
@@ -303,13 +317,25 @@ fn put_third(area: &mut [u8], from: usize, v: Verdict) -> usize
     }
 }
 
-// Puts the line of frame k.
-pub fn put_line(area: &mut [u8], from: usize, k: u64, v: Verdict, a: Answer) -> usize
+// Puts the line of frame k up to its third field: a frame that was left out has no class's word there.
+fn put_front(area: &mut [u8], from: usize, k: u64, left: bool, class: Class) -> usize
+    requires { ⌜ from + 29 ≤ length (now area) ⌝ }
+    ensures { λ r. ⌜ Wrote 29 (frontText k left class) (now (area .entry)) from (now (area .exit)) r ⌝ }
+{
+    if left {
+        let values = [k];
+        return listing_text::put_filled(area, from, b"# left ", &values);
+    }
+    listing_text::put_front(area, from, k, class)
+}
+
+// Puts the line of frame k, which was left out or not.
+pub fn put_line(area: &mut [u8], from: usize, k: u64, left: bool, v: Verdict, a: Answer) -> usize
     requires { ⌜ from + 176 ≤ length (now area) ⌝ }
-    ensures { λ r. ⌜ Wrote 176 (frameLine k v a) (now (area .entry)) from (now (area .exit)) r ⌝ }
+    ensures { λ r. ⌜ Wrote 176 (frameLine k left v a) (now (area .entry)) from (now (area .exit)) r ⌝ }
 {
     let class = a.class;
-    let at = listing_text::put_front(area, from, k, class);
+    let at = put_front(area, from, k, left, class);
     let at = put_third(area, at, v);
     let values = [
         a.units as u64,
@@ -408,8 +434,8 @@ pub fn put_places(area: &mut [u8], from: usize, r: Reader, t: Tally) -> usize
 
 // Puts the line of all frames of a recording, after which a reader has this state.
 pub fn put_last(area: &mut [u8], from: usize, r: Reader, t: Tally) -> usize
-    requires { ⌜ from + 306 ≤ length (now area) ⌝ }
-    ensures { λ e. ⌜ Wrote 306 (lastLine r t) (now (area .entry)) from (now (area .exit)) e ⌝ }
+    requires { ⌜ from + 332 ≤ length (now area) ⌝ }
+    ensures { λ e. ⌜ Wrote 332 (lastLine r t) (now (area .entry)) from (now (area .exit)) e ⌝ }
 {
     let slots = r.slots;
     let held = held_in(slots, r.setting.numbered);
@@ -419,6 +445,7 @@ pub fn put_last(area: &mut [u8], from: usize, r: Reader, t: Tally) -> usize
         t.classes.counted,
         t.classes.idle,
         t.classes.refused,
+        t.classes.left,
         t.sums.units,
         t.sums.octets,
         t.sums.idle,
@@ -429,7 +456,7 @@ pub fn put_last(area: &mut [u8], from: usize, r: Reader, t: Tally) -> usize
     listing_text::put_filled(
         area,
         from,
-        b"total frames # read # counted # idle # refused # units # octets # idle # fill # dropped # held #\n",
+        b"total frames # read # counted # idle # refused # left # units # octets # idle # fill # dropped # held #\n",
         &values,
     )
 }

@@ -1,7 +1,8 @@
 -- What the words of a command line ask for.
 use Prim.Native.Nat.{ℕ}
-use mathlib.Core.Bool.{true, false, cond, _&&_}
+use mathlib.Core.Bool.{Bool, true, false, cond, _&&_}
 use mathlib.Core.List.{List}
+use lib.ListN.{set, replicate}
 use Rattle.rules.specs.Listing.{text}
 use Rattle.rules.specs.Tests.{_=?_, _≤?_}
 use Rattle.words.specs.Words.{isWord, isOption}
@@ -19,31 +20,71 @@ wordOf w =
     word.Name
 
 unfoldable pub noAsked : Asked
-noAsked = record { names = 0; one = 0; two = 0; three = 0; unknown = 0; first = false; second = false; help = false; version = false }
+noAsked =
+    record {
+      names = 0;
+      one = 0;
+      two = 0;
+      three = 0;
+      unknown = 0;
+      first = false;
+      second = false;
+      help = false;
+      version = false;
+      without = replicate 63 false;
+    }
+
+-- The same but for the names.
+abbrev pub withNames : Asked → ℕ → ℕ → ℕ → ℕ → Asked
+withNames a names one two three =
+    record {
+      names = names;
+      one = one;
+      two = two;
+      three = three;
+      unknown = a .unknown;
+      first = a .first;
+      second = a .second;
+      help = a .help;
+      version = a .version;
+      without = a .without;
+    }
+
+-- The same but for the options.
+abbrev pub withOptions : Asked → ℕ → Bool → Bool → Bool → Bool → List Bool → Asked
+withOptions a unknown first second help version without =
+    record {
+      names = a .names;
+      one = a .one;
+      two = a .two;
+      three = a .three;
+      unknown = unknown;
+      first = first;
+      second = second;
+      help = help;
+      version = version;
+      without = without;
+    }
 
 -- Names are counted up to four; the places of the first three are kept.
 unfoldable pub named : Asked → ℕ → Asked
 named a i =
-    cond (a .names =? 0)
-    (record { names = 1; one = i; two = a .two; three = a .three; unknown = a .unknown; first = a .first; second = a .second; help = a .help; version = a .version })
-    (cond (a .names =? 1)
-    (record { names = 2; one = a .one; two = i; three = a .three; unknown = a .unknown; first = a .first; second = a .second; help = a .help; version = a .version })
-    (cond (a .names =? 2)
-    (record { names = 3; one = a .one; two = a .two; three = i; unknown = a .unknown; first = a .first; second = a .second; help = a .help; version = a .version })
-    (record { names = 4; one = a .one; two = a .two; three = a .three; unknown = a .unknown; first = a .first; second = a .second; help = a .help; version = a .version })))
+    cond (a .names =? 0) (withNames a 1 i (a .two) (a .three))
+    (cond (a .names =? 1) (withNames a 2 (a .one) i (a .three))
+    (cond (a .names =? 2) (withNames a 3 (a .one) (a .two) i) (withNames a 4 (a .one) (a .two) (a .three))))
+
+-- "`--without=V` leaves the frames of virtual channel V out", and "may stand several times".
+unfoldable pub leftOut : Asked → ℕ → Asked
+leftOut a v = withOptions a (a .unknown) (a .first) (a .second) (a .help) (a .version) (set (a .without) v true)
 
 -- With one word more, word i.
 unfoldable pub askedNext : Asked → ℕ → Word → Asked
-askedNext a i word.First =
-    record { names = a .names; one = a .one; two = a .two; three = a .three; unknown = a .unknown; first = true; second = a .second; help = a .help; version = a .version }
-askedNext a i word.Second =
-    record { names = a .names; one = a .one; two = a .two; three = a .three; unknown = a .unknown; first = a .first; second = true; help = a .help; version = a .version }
-askedNext a i word.Help =
-    record { names = a .names; one = a .one; two = a .two; three = a .three; unknown = a .unknown; first = a .first; second = a .second; help = true; version = a .version }
-askedNext a i word.Version =
-    record { names = a .names; one = a .one; two = a .two; three = a .three; unknown = a .unknown; first = a .first; second = a .second; help = a .help; version = true }
-askedNext a i word.Unknown =
-    record { names = a .names; one = a .one; two = a .two; three = a .three; unknown = cond (a .unknown =? 0) i (a .unknown); first = a .first; second = a .second; help = a .help; version = a .version }
+askedNext a i word.First = withOptions a (a .unknown) true (a .second) (a .help) (a .version) (a .without)
+askedNext a i word.Second = withOptions a (a .unknown) (a .first) true (a .help) (a .version) (a .without)
+askedNext a i (word.Without v) = leftOut a v
+askedNext a i word.Help = withOptions a (a .unknown) (a .first) (a .second) true (a .version) (a .without)
+askedNext a i word.Version = withOptions a (a .unknown) (a .first) (a .second) (a .help) true (a .without)
+askedNext a i word.Unknown = withOptions a (cond (a .unknown =? 0) i (a .unknown)) (a .first) (a .second) (a .help) (a .version) (a .without)
 askedNext a i word.Name = named a i
 
 -- Help, version, an option that there is not, and as many names as there should be: the first that applies.

@@ -7,7 +7,7 @@ ghost use mathlib.Core.Path.{_≡_};
 ghost use Prim.Native.Nat.{_≤_};
 ghost use lib.ListN.{length};
 ghost use Rattle.words.specs.Words.{begins as beginsWith, isWord, isOption, isDash, behind as behindOf};
-ghost use Rattle.words.specs.Asked.{wordOf, noAsked, named, askedNext, startOf};
+ghost use Rattle.words.specs.Asked.{wordOf, noAsked, named, leftOut, askedNext, startOf};
 ghost use Rattle.words.specs.Programs.{wordTo};
 
 // Whether these octets begin with that word.
@@ -68,11 +68,12 @@ pub fn behind(s: &[u8]) -> usize
 
 // ---- what all words ask for
 
-// What a word of the command line is: one of the program's own two options, one of those that every program has, an option that there is not, or
-// a name.
+// What a word of the command line is: one of the program's own options, of which one gives a virtual channel, one of those that every program has,
+// an option that there is not, or a name.
 pub enum Word {
     First,
     Second,
+    Without(usize),
     Help,
     Version,
     Unknown,
@@ -80,7 +81,7 @@ pub enum Word {
 }
 
 // What the command line asks for: how many names there are, up to four, and which words the first three are; the first option that there is not,
-// 0 for none; and which options stand there.
+// 0 for none; which options stand there; and which virtual channels are left out.
 pub struct Asked {
     pub names: usize,
     pub one: usize,
@@ -91,6 +92,7 @@ pub struct Asked {
     pub second: bool,
     pub help: bool,
     pub version: bool,
+    pub without: [bool; 63],
 }
 
 // What a run of the program does: it prints its help or its version, refuses an option or the number of names, or does its work.
@@ -151,6 +153,7 @@ pub fn no_asked() -> Asked
         second: false,
         help: false,
         version: false,
+        without: [false; 63],
     }
 }
 
@@ -178,6 +181,17 @@ fn name_at(a: Asked, i: usize) -> Asked
     b
 }
 
+// With virtual channel v left out, if there is such a place.
+fn leave_out(a: Asked, v: usize) -> Asked
+    ensures { λ r. ⌜ r ≡ leftOut a v ⌝ }
+{
+    let mut b = a;
+    if v < 63 {
+        b.without[v] = true;
+    }
+    b
+}
+
 // With one word more, word i.
 pub fn next_word(a: Asked, i: usize, w: Word) -> Asked
     ensures { λ r. ⌜ r ≡ askedNext a i w ⌝ }
@@ -192,6 +206,7 @@ pub fn next_word(a: Asked, i: usize, w: Word) -> Asked
             b.second = true;
             b
         }
+        Word::Without(v) => leave_out(a, v),
         Word::Help => {
             b.help = true;
             b

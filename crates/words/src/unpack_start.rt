@@ -1,9 +1,10 @@
 // What unpack decides beside its frames: what a word of its command line is, whether names of files can begin with a prefix, and whether little
 // was read.
 ghost use mathlib.Core.Path.{_≡_};
+ghost use lib.ListN.{drop};
 ghost use Rattle.words.specs.Asked.{startOf};
 ghost use Rattle.words.specs.Starts.{prefixOf, prefixAt, littleOf};
-ghost use Rattle.words.specs.UnpackWords.{wordOf};
+ghost use Rattle.words.specs.UnpackWords.{isDigit, channelWord, withoutWord, wordOf};
 use crate::Asked;
 use crate::Start;
 use crate::Word;
@@ -58,7 +59,47 @@ pub fn little_of(read: u64, refused: u64) -> Little
 
 // ---- words
 
-// What a word is: its first option is --totals, its second --units.
+// Whether an octet is a decimal digit.
+fn is_digit(x: u8) -> bool
+    ensures { λ r. ⌜ r ≡ isDigit x ⌝ }
+{
+    (b'0' <= x) & (x <= b'9')
+}
+
+// What --without= with these two octets behind it is.
+fn channel_word(x: u8, y: u8) -> Word
+    ensures { λ r. ⌜ r ≡ channelWord x y ⌝ }
+{
+    let tens = is_digit(x);
+    if tens {} else {
+        return Word::Unknown;
+    }
+    let ones = is_digit(y);
+    if ones {} else {
+        return Word::Unknown;
+    }
+    let v = (x - b'0') as usize * 10 + (y - b'0') as usize;
+    if 62 < v {
+        return Word::Unknown;
+    }
+    Word::Without(v)
+}
+
+// What a word is whose first ten octets are --without=. The channel has one digit or two: one is read with a 0 before it.
+fn without_word(word: &[u8]) -> Word
+    ensures { λ r. ⌜ r ≡ withoutWord (drop 10 (now (word .entry))) ⌝ }
+{
+    let n = word.len();
+    if n == 11 {
+        return channel_word(b'0', word[10]);
+    }
+    if n == 12 {
+        return channel_word(word[10], word[11]);
+    }
+    Word::Unknown
+}
+
+// What a word is: its first option is --totals, its second --units, and --without=V leaves a virtual channel out.
 pub fn word_of(word: &[u8]) -> Word
     ensures { λ r. ⌜ r ≡ wordOf (now (word .entry)) ⌝ }
 {
@@ -69,6 +110,10 @@ pub fn word_of(word: &[u8]) -> Word
     let units = crate::is_word(word, b"--units");
     if units {
         return Word::Second;
+    }
+    let without = crate::begins(word, b"--without=");
+    if without {
+        return without_word(word);
     }
     crate::word_of(word)
 }

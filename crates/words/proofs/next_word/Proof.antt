@@ -11,6 +11,12 @@ enum-told c = search needs
 enum-told-2 : tie.Need-enum-told-2
 enum-told-2 c = search needs
 
+enum-known-w : tie.Need-enum-known-w
+enum-known-w c = search needs
+
+leave-out-requires : tie.Need-leave-out-requires
+leave-out-requires c κs = search needs
+
 enum-told-3 : tie.Need-enum-told-3
 enum-told-3 c = search needs
 
@@ -36,23 +42,27 @@ returns-2 c = rw (c .enum-told2 .given .1)
 
 returns-3 : tie.Need-returns-3
 unfolding askedNext
-returns-3 c = rw (c .enum-told3 .given .1)
+returns-3 c = rw (c .before .before .w .given .1) (c .leave-out .ensures)
 
 returns-4 : tie.Need-returns-4
 unfolding askedNext
-returns-4 c = rw (c .enum-told4 .given .1)
+returns-4 c = rw (c .enum-told3 .given .1)
 
 returns-5 : tie.Need-returns-5
 unfolding askedNext
-returns-5 c = rw (c .before .before .enum-told5 .given .1, eq-eqb _ _ (c .if1 .taken))
+returns-5 c = rw (c .enum-told4 .given .1)
 
 returns-6 : tie.Need-returns-6
 unfolding askedNext
-returns-6 c = rw (c .before .before .enum-told5 .given .1, ne-eqb _ _ (c .if1 .left))
+returns-6 c = rw (c .before .before .enum-told5 .given .1, eq-eqb _ _ (c .if1 .taken))
 
 returns-7 : tie.Need-returns-7
 unfolding askedNext
-returns-7 c = rw (c .before .enum-told6 .given .1) (c .name-at .ensures)
+returns-7 c = rw (c .before .before .enum-told5 .given .1, ne-eqb _ _ (c .if1 .left))
+
+returns-8 : tie.Need-returns-8
+unfolding askedNext
+returns-8 c = rw (c .before .enum-told6 .given .1) (c .name-at .ensures)
 
 pub next-word-spec : {M : Type 1} → statement M
 next-word-spec =
@@ -60,6 +70,8 @@ next-word-spec =
     (tie.spec
     enum-told
     enum-told-2
+    enum-known-w
+    leave-out-requires
     enum-told-3
     enum-told-4
     enum-told-5
@@ -71,4 +83,5 @@ next-word-spec =
     returns-4
     returns-5
     returns-6
-    returns-7)
+    returns-7
+    returns-8)

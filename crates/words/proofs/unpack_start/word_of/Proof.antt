@@ -30,15 +30,37 @@ returns-2 c =
       sym (c .before .is-word2 .ensures) ∙ c .if2 .taken,
     )
 
-word-of-requires : tie.Need-word-of-requires
-word-of-requires c κs = search needs
+slice-aggregate-begins : tie.Need-slice-aggregate-begins
+slice-aggregate-begins c = search needs
+
+begins-requires : tie.Need-begins-requires
+begins-requires c κs = search needs
+
+without-word-requires : tie.Need-without-word-requires
+without-word-requires c κs = search needs
 
 returns-3 : tie.Need-returns-3
 unfolding wordOf text
 returns-3 c =
+    let c₄ = c .before .before .before .before in
     rw (
-      sym (c .before .before .before .before .before .is-word .ensures) ∙ c .before .before .before .before .if1 .left,
-      sym (c .before .before .is-word2 .ensures) ∙ c .before .if2 .left,
+      sym (c₄ .before .before .before .before .is-word .ensures) ∙ c₄ .before .before .before .if1 .left,
+      sym (c₄ .before .is-word2 .ensures) ∙ c₄ .if2 .left,
+      sym (c .before .before .begins .ensures) ∙ c .before .if3 .taken,
+      c .without-word .ensures,
+    )
+
+word-of-requires : tie.Need-word-of-requires
+word-of-requires c κs = search needs
+
+returns-4 : tie.Need-returns-4
+unfolding wordOf text
+returns-4 c =
+    let c₄ = c .before .before .before .before in
+    rw (
+      sym (c₄ .before .before .before .before .is-word .ensures) ∙ c₄ .before .before .before .if1 .left,
+      sym (c₄ .before .is-word2 .ensures) ∙ c₄ .if2 .left,
+      sym (c .before .before .begins .ensures) ∙ c .before .if3 .left,
       c .word-of .ensures,
     )
 
@@ -52,5 +74,9 @@ word-of-spec =
     slice-aggregate-is-word-2
     is-word-requires-2
     returns-2
+    slice-aggregate-begins
+    begins-requires
+    without-word-requires
+    returns-3
     word-of-requires
-    returns-3)
+    returns-4)
