@@ -1,56 +1,63 @@
+-- `reader::act_on` meets its contract: each case of what was found makes what the rule makes of the verdict behind it.
+use mathlib.Core.Path.{refl, sym, _∙_}
+use Rattle.rules.specs.Calls.{onVerdict}
+use Rattle.judge.proofs.Sights.{refused-sight, idle-sight}
+use Rattle.reader.proofs.Verdicts.{said, gone, areas-kept}
 use borrow.Author.Needs.{needs}
 use Rattle.reader.proofs.act_on.Statement.{statement}
 use Rattle.reader.proofs.act_on.Tie as tie
-use Rattle.reader.proofs.act_on.Reads as reads
-use Rattle.reader.proofs.act_on.Lts as lts
-use Rattle.reader.proofs.take_seen.Reads as take-seen-reads
-use Rattle.reader.proofs.untouched.Reads as untouched-reads
 
--- src/lib.rt:323:27
 enum-known-said : tie.Need-enum-known-said
 enum-known-said c = search needs
 
--- src/lib.rt:325:13
 untouched-requires : tie.Need-untouched-requires
 untouched-requires c κs = search needs
 
--- src/lib.rt:328:17
 enum-told : tie.Need-enum-told
 enum-told c = search needs
 
--- src/lib.rt:329:13
 untouched-requires-2 : tie.Need-untouched-requires-2
 untouched-requires-2 c κs = search needs
 
--- src/lib.rt:331:24
 enum-known-said-2 : tie.Need-enum-known-said-2
 enum-known-said-2 c = search needs
 
--- src/lib.rt:331:30
 take-seen-requires : tie.Need-take-seen-requires
-take-seen-requires c κs = ?
+take-seen-requires c κs =
+    let b = c .before .before .before .before .before .before .before .before .before .before in
+    let a = b .args in
+    let e = c .before .before .before .before .said2 .given .1 in
+    record {
+      found = sym e ∙ said (a .r) (a .f .now) _ (a .v) (b .pre .0);
+      missing = gone (a .r) (a .f .now) _ (a .v) (b .pre .0) _ e;
+      sound = rw e at (b .pre .1);
+    }
 
--- src/lib.rt:317:1
 returns : tie.Need-returns
-returns c = ?
+unfolding onVerdict
+returns c =
+    let b = c .before .before .before .before .before .before .before .before in
+    let a = b .args in
+    let e = refused-sight (a .r .setting) (a .f .now) _ _ (sym (said (a .r) (a .f .now) _ (a .v) (b .pre .0)) ∙ c .before .before .said .given .1) in
+    areas-kept (a .r) (a .f .now) (a .h .now) (a .u .now) (a .c .now) _ _ _ e (c .untouched .ensures) refl
 
--- src/lib.rt:317:1
 returns-2 : tie.Need-returns-2
-returns-2 c = ?
+unfolding onVerdict
+returns-2 c =
+    let b = c .before .before .before .before .before .before .before in
+    let a = b .args in
+    let e = idle-sight (a .r .setting) (a .f .now) _ (sym (said (a .r) (a .f .now) _ (a .v) (b .pre .0)) ∙ c .before .enum-told .given .1) in
+    areas-kept (a .r) (a .f .now) (a .h .now) (a .u .now) (a .c .now) _ _ _ e (c .untouched2 .ensures) refl
 
--- src/lib.rt:317:1
 same-length : tie.Need-same-length
 same-length c = search needs
 
--- src/lib.rt:317:1
 same-length-2 : tie.Need-same-length-2
 same-length-2 c = search needs
 
--- src/lib.rt:317:1
 same-length-3 : tie.Need-same-length-3
 same-length-3 c = search needs
 
--- src/lib.rt:317:1
 returns-3 : tie.Need-returns-3
 returns-3 c = search needs
 

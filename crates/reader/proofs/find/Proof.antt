@@ -1,22 +1,24 @@
+-- `reader::find` meets its contract: what the checks say, and what is missing before a frame that they say this of.
+use mathlib.Core.Path.{ap, _∙_}
+use Rattle.judge.specs.declared.Sighting.{Sighting}
+use Rattle.reader.specs.Finds.{missingFor, foundOf}
+use Rattle.reader.proofs.Verdicts.{missing-found}
 use borrow.Author.Needs.{needs}
 use Rattle.reader.proofs.find.Statement.{statement}
 use Rattle.reader.proofs.find.Tie as tie
-use Rattle.reader.proofs.find.Reads as reads
-use Rattle.reader.proofs.find.Lts as lts
-use Rattle.reader.proofs.missing_before.Reads as missing-before-reads
-use Rattle.reader.proofs.sight_of.Reads as sight-of-reads
 
--- src/lib.rt:187:9
 sight-of-requires : tie.Need-sight-of-requires
 sight-of-requires c κs = search needs
 
--- src/lib.rt:188:9
 missing-before-requires : tie.Need-missing-before-requires
 missing-before-requires c κs = search needs
 
--- src/lib.rt:184:1
 returns : tie.Need-returns
-returns c = ?
+unfolding foundOf
+returns c =
+    let a = c .before .before .before .args in
+    let s = c .before .sight-of .ensures in
+    (rw (c .missing-before .ensures ∙ ap (missingFor (a .r)) (s .0) ∙ missing-found (a .r) (a .frame .now) _) (rw (s .0)), s .1)
 
 pub find-spec : {M : Type 1} → statement M
 find-spec = tie.close (tie.spec sight-of-requires missing-before-requires returns)

@@ -1,53 +1,49 @@
+-- `reader::pass` meets its contract: what was found is shown, and then it is taken, or left where the decision says so.
+use mathlib.Core.Path.{sym, _∙_}
+use Rattle.reader.proofs.Passing.{left-passes, taken-passes}
 use borrow.Author.Needs.{needs}
 use Rattle.reader.proofs.pass.Statement.{statement}
 use Rattle.reader.proofs.pass.Tie as tie
-use Rattle.reader.proofs.pass.Reads as reads
-use Rattle.reader.proofs.pass.Lts as lts
-use Rattle.reader.proofs.choices.left_out.Reads as left-out-reads
-use Rattle.reader.proofs.find.Reads as find-reads
-use Rattle.reader.proofs.passed_over.Reads as passed-over-reads
-use Rattle.reader.proofs.shown.Reads as shown-reads
-use Rattle.reader.proofs.take_found.Reads as take-found-reads
 
--- src/lib.rt:416:9
 find-requires : tie.Need-find-requires
 find-requires c κs = search needs
 
--- src/lib.rt:417:9
 shown-requires : tie.Need-shown-requires
 shown-requires c κs = search needs
 
--- src/lib.rt:419:9
 left-out-requires : tie.Need-left-out-requires
 left-out-requires c κs = search needs
 
--- src/lib.rt:421:13
 passed-over-requires : tie.Need-passed-over-requires
 passed-over-requires c κs = search needs
 
--- src/lib.rt:422:9
 returns : tie.Need-returns
-returns c = ?
+returns c =
+    let d = c .before .before .before .before .before in
+    let a = d .before .before .before .before .before .args in
+    left-passes (a .r) (a .frame .now) _ (d .find .ensures .0) _ (c .before .before .before .before .shown .ensures) (a .without) _
+    (c .before .before .left-out .ensures) (a .held .now) (a .units .now) (a .records .now) (c .before .if1 .taken) _ (c .passed-over .ensures)
 
--- src/lib.rt:428:9
 take-found-requires : tie.Need-take-found-requires
-take-found-requires c κs = search needs
+take-found-requires c κs = c .before .before .before .before .before .before .before .find .ensures
 
--- src/lib.rt:406:1
 same-length : tie.Need-same-length
 same-length c = search needs
 
--- src/lib.rt:406:1
 same-length-2 : tie.Need-same-length-2
 same-length-2 c = search needs
 
--- src/lib.rt:406:1
 same-length-3 : tie.Need-same-length-3
 same-length-3 c = search needs
 
--- src/lib.rt:406:1
 returns-2 : tie.Need-returns-2
-returns-2 c = ?
+returns-2 c =
+    let b = c .before .before .before .before .before .before in
+    let e = b .before .before .before .before in
+    let d = e .before .before .before .before in
+    let a = d .before .before .before .before .before .args in
+    taken-passes (a .r) (a .frame .now) _ (d .find .ensures .0) _ (e .before .before .before .shown .ensures) (a .without) _
+    (e .before .left-out .ensures) (a .held .now) (a .units .now) (a .records .now) (e .if1 .left) _ _ _ _ (b .take-found .ensures)
 
 pub pass-spec : {M : Type 1} → statement M
 pass-spec =

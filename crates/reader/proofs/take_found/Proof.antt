@@ -1,46 +1,50 @@
+-- `reader::take_found` meets its contract: with a short area it refuses by the rule's number, else what was found is what a read's checks say.
+use mathlib.Core.Path.{refl, sym, ap, _∙_}
+use Rattle.rules.specs.declared.Class.{Class}
+use Rattle.rules.specs.declared.Taken.{Taken}
+use Rattle.rules.specs.Calls.{bare, onVerdict}
+use Rattle.reader.proofs.Verdicts.{found-lent, found-short, areas-kept}
 use borrow.Author.Needs.{needs}
 use Rattle.reader.proofs.take_found.Statement.{statement}
 use Rattle.reader.proofs.take_found.Tie as tie
-use Rattle.reader.proofs.take_found.Reads as reads
-use Rattle.reader.proofs.take_found.Lts as lts
-use Rattle.reader.proofs.act_on.Reads as act-on-reads
-use Rattle.reader.proofs.areas_short.Reads as areas-short-reads
-use Rattle.reader.proofs.short_refusal.Reads as short-refusal-reads
-use Rattle.reader.proofs.untouched.Reads as untouched-reads
 
--- src/lib.rt:351:9
 areas-short-requires : tie.Need-areas-short-requires
 areas-short-requires c κs = search needs
 
--- src/lib.rt:353:13
 short-refusal-requires : tie.Need-short-refusal-requires
 short-refusal-requires c κs = search needs
 
--- src/lib.rt:355:9
 untouched-requires : tie.Need-untouched-requires
 untouched-requires c κs = search needs
 
--- src/lib.rt:355:9
 returns : tie.Need-returns
-returns c = ?
+unfolding onVerdict
+returns c =
+    let b = c .before .before .before .before .before .before .before .before in
+    let a = b .args in
+    let e = found-short (a .r) (a .f .now) (a .h .now) (a .u .now) (a .c .now) (sym (c .before .before .before .areas-short .ensures) ∙ c .before .before .if1 .taken) in
+    areas-kept (a .r) (a .f .now) (a .h .now) (a .u .now) (a .c .now) _ _ _ e
+    (c .untouched .ensures ∙ rw (c .before .short-refusal .ensures)) refl
 
--- src/lib.rt:357:5
 act-on-requires : tie.Need-act-on-requires
-act-on-requires c κs = ?
+act-on-requires c κs =
+    let b = c .before .before .before .before .before .before .before .before .before in
+    let a = b .args in
+    (
+      found-lent (a .r) (a .f .now) (a .h .now) (a .u .now) (a .c .now)
+      (sym (c .before .before .before .before .areas-short .ensures) ∙ c .before .before .before .if1 .left) (a .v) (b .pre .0),
+      b .pre .1,
+    )
 
--- src/lib.rt:347:1
 same-length : tie.Need-same-length
 same-length c = search needs
 
--- src/lib.rt:347:1
 same-length-2 : tie.Need-same-length-2
 same-length-2 c = search needs
 
--- src/lib.rt:347:1
 same-length-3 : tie.Need-same-length-3
 same-length-3 c = search needs
 
--- src/lib.rt:347:1
 returns-2 : tie.Need-returns-2
 returns-2 c = search needs
 
