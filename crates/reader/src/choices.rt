@@ -1,10 +1,13 @@
 // What an operator decides between a look and a take: by virtual channel.
 ghost use mathlib.Core.Path.{_≡_};
-ghost use mathlib.Core.Bool.{false};
+ghost use mathlib.Core.Bool.{false, not, _&&_};
+ghost use Prim.Native.Nat.{_≤_};
 ghost use lib.ListN.{getD};
 ghost use Rattle.rules.specs.Settings.{channel};
 ghost use Rattle.rules.specs.Promises.{placed};
-ghost use Rattle.rules.specs.Passes.{leftOut};
+ghost use Rattle.rules.specs.Tests.{none};
+ghost use Rattle.rules.specs.Refusals.{channelAt};
+ghost use Rattle.rules.specs.Passes.{leftOut, unlisted as unlistedIn};
 use rules::Looked;
 use rules::Place;
 use rules::Setting;
@@ -39,6 +42,53 @@ fn is_named(without: [bool; 63], v: usize) -> bool
         return without[v];
     }
     false
+}
+
+// Whether virtual channel v is listed, with either service.
+fn is_listed(s: Setting, v: u8) -> bool
+    requires { ⌜ s .listed ≤ 8 ⌝ }
+    ensures { λ b. ⌜ b ≡ not (none (channelAt s v 0) && none (channelAt s v 1)) ⌝ }
+{
+    let p = setting::channel_at(s, v, 0);
+    match p {
+        Place::At(_) => true,
+        Place::Nowhere => {
+            let q = setting::channel_at(s, v, 1);
+            match q {
+                Place::At(_) => true,
+                Place::Nowhere => false,
+            }
+        }
+    }
+}
+
+// Whether virtual channel v is to be left out and is not listed.
+fn is_stray(without: [bool; 63], s: Setting, v: u8) -> bool
+    requires { ⌜ s .listed ≤ 8 ⌝ }
+    ensures { λ b. ⌜ b ≡ (getD without v false && (none (channelAt s v 0) && none (channelAt s v 1))) ⌝ }
+{
+    let named = is_named(without, v as usize);
+    if named {
+        let listed = is_listed(s, v);
+        return !listed;
+    }
+    false
+}
+
+// The lowest virtual channel that is to be left out and is not listed, if there is one.
+pub fn unlisted(without: [bool; 63], s: Setting) -> Place
+    requires { ⌜ s .listed ≤ 8 ⌝ }
+    ensures { λ p. ⌜ p ≡ unlistedIn without s ⌝ }
+{
+    let mut v: u8 = 0;
+    while v < 63 {
+        let stray = is_stray(without, s, v);
+        if stray {
+            return Place::At(v as usize);
+        }
+        v += 1;
+    }
+    Place::Nowhere
 }
 
 // Whether a frame that a look says this of is to be left out.

@@ -1,6 +1,6 @@
 // The reader: set-up, and two calls a frame. One judgement of state and frame, `find`: `look` shows it, `take` acts on it, and `pass` does both, with an
 // operator's decision between them.
-mod choices;
+pub mod choices;
 
 ghost use mathlib.Core.Path.{_≡_};
 ghost use Prim.Native.Nat.{_≤_, _<_};

@@ -4,10 +4,13 @@ use Prim.Native.Nat.{ℕ, zero, suc}
 use mathlib.Core.Bool.{Bool, true, false, cond, not}
 use mathlib.Core.List.{List, [], _∷_}
 use lib.ListN.{getD, replicate}
+use native.Mathlib.Omega.{arith}
 use Rattle.rules.specs.declared.Setting.{Setting}
 use Rattle.rules.specs.declared.Reader.{Reader}
 use Rattle.rules.specs.declared.Class.{Class}
 use Rattle.rules.specs.declared.Looked.{Looked}
+use Rattle.rules.specs.declared.Passed.{Passed}
+use Rattle.rules.specs.declared.Taken.{Taken}
 use Rattle.rules.specs.declared.Place.{Place}
 use Rattle.rules.specs.declared.Place.the-variants.{At, Nowhere}
 use Rattle.rules.specs.declared.Verdict.{Verdict}
@@ -17,8 +20,9 @@ use Rattle.rules.specs.Frames.{countIn}
 use Rattle.rules.specs.Reading.{expected, gapBy, gap}
 use Rattle.rules.specs.Refusals.{refusals, judged, judge}
 use Rattle.rules.specs.Calls.{Got, areasShort, laidOut, readOn, onVerdict, verdict, read, lookRefusals, looked, missingAt, onLook, look}
-use Rattle.rules.specs.Passes.{whose, whoseOf, leftOut, passBy, pass, Step, takes, onlyTaken}
-use Rattle.rules.proofs.Calls.{verdict-cond, read-valid}
+use Rattle.rules.specs.Passes.{whose, whoseOf, leftOut, passBy, pass, PassGives, Step, takes, onlyTaken}
+use Rattle.rules.proofs.Calls.{verdict-cond, read-valid, Small, read-fits}
+use Rattle.rules.proofs.Promises.{look-once}
 
 -- ---- what a look finds
 
@@ -136,3 +140,30 @@ pass-valid w r f h u c ok = go (leftOut w (r .setting) (look r f))
     go : (b : Bool) → readerOk ((passBy b r f h u c) .taken .state) ≡ true
     go true = unfold passBy in ok
     go false = unfold passBy in read-valid r f h u c ok
+
+-- What is handed out fits.
+pub pass-fits : (w : List Bool) (r : Reader) (f h u c : List ℕ) → Small ((pass w r f h u c) .taken .answer)
+unfolding pass
+pass-fits w r f h u c = go (leftOut w (r .setting) (look r f))
+  where
+    go : (b : Bool) → Small ((passBy b r f h u c) .taken .answer)
+    go true = unfold passBy in record { octets = omega arith; records = omega arith }
+    go false = unfold passBy in read-fits r f h u c
+
+-- Outcomes allowed for one input are equal.
+pub pass-once : (w : List Bool) (r : Reader) (f h u c : List ℕ) (a b : Passed) (h₁ u₁ c₁ h₂ u₂ c₂ : List ℕ)
+    → PassGives w r f h u c a h₁ u₁ c₁ → PassGives w r f h u c b h₂ u₂ c₂
+    → (a ≡ b) × (h₁ ≡ h₂) × (u₁ ≡ u₂) × (c₁ ≡ c₂)
+pass-once w r f h u c a b h₁ u₁ c₁ h₂ u₂ c₂ p q =
+    let e = p .got ∙ sym (q .got) in
+    let t : a .taken ≡ b .taken = ap (λ (x : Got). x .taken) e in
+    let o : a .looked ≡ b .looked = look-once r f (a .looked) (b .looked) (p .looked) (q .looked) in
+    let l : a .left ≡ b .left = p .left ∙ sym (q .left) in
+    (
+      ap (λ (x : Taken). record { taken = x; looked = a .looked; left = a .left }) t
+      ∙ ap (λ (x : Looked). record { taken = b .taken; looked = x; left = a .left }) o
+      ∙ ap (λ (x : Bool). record { taken = b .taken; looked = b .looked; left = x }) l,
+      ap (λ (x : Got). x .heldArea) e,
+      ap (λ (x : Got). x .unitArea) e,
+      ap (λ (x : Got). x .recordArea) e,
+    )

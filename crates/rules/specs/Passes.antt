@@ -1,7 +1,7 @@
 -- "Operators decide after the checks whether a frame goes into this pass" (document 02, A7): what look and take make together.
 use mathlib.Core.Path.{_≡_}
 use Prim.Native.Nat.{ℕ}
-use mathlib.Core.Bool.{Bool, true, false, cond}
+use mathlib.Core.Bool.{Bool, true, false, cond, _&&_}
 use mathlib.Core.List.{List, [], _∷_}
 use lib.ListN.{getD}
 use Rattle.rules.specs.declared.Setting.{Setting}
@@ -12,8 +12,9 @@ use Rattle.rules.specs.declared.Looked.{Looked}
 use Rattle.rules.specs.declared.Passed.{Passed}
 use Rattle.rules.specs.declared.Place.{Place}
 use Rattle.rules.specs.declared.Verdict.{Verdict}
-use Rattle.rules.specs.Tests.{at}
+use Rattle.rules.specs.Tests.{first, none, at}
 use Rattle.rules.specs.Settings.{channel}
+use Rattle.rules.specs.Refusals.{channelAt}
 use Rattle.rules.specs.Calls.{Got, read, look}
 use Rattle.rules.specs.Promises.{placed, LookGives}
 
@@ -33,6 +34,10 @@ whose o = whoseOf (o .class) (o .channel) (o .lane)
 -- A decision says of each virtual channel whether its frames are left out. A frame that is refused or idle is of no listed channel.
 unfoldable pub leftOut : List Bool → Setting → Looked → Bool
 leftOut without s o = at (o .channel) (λ (c : ℕ). getD without ((channel s c) .vc) false)
+
+-- The lowest virtual channel that a decision leaves out and that is not listed, with either service.
+unfoldable pub unlisted : List Bool → Setting → Place
+unlisted without s = first 63 (λ (v : ℕ). getD without v false && (none (channelAt s v 0) && none (channelAt s v 1)))
 
 -- What the look said, and nothing else.
 abbrev pub seen : Looked → Answer
