@@ -5,16 +5,17 @@ use mathlib.Core.Bool.{Bool, true, false, cond, not}
 use mathlib.Core.List.{List, [], _∷_}
 use lib.ListN.{length, take, replicate}
 use Rattle.rules.specs.declared.Answer.{Answer}
+use Rattle.rules.specs.declared.Passed.{Passed}
 use Rattle.rules.specs.declared.Reader.{Reader}
 use Rattle.rules.specs.declared.Setting.{Setting}
 use Rattle.rules.specs.declared.Verdict.{Verdict}
 use Rattle.rules.specs.Tests.{_=?_}
 use Rattle.rules.specs.Settings.{readerOk}
-use Rattle.rules.specs.Calls.{setUpReader, Got, read, verdict}
+use Rattle.rules.specs.Calls.{setUpReader, Got, look}
+use Rattle.rules.specs.Passes.{whose, leftOut, pass}
 use Rattle.unpack_text.specs.Lines.{frameLine}
-use Rattle.reader.specs.declared.Whose.{Whose}
 use Rattle.refusals.specs.declared.Totals.{Totals}
-use Rattle.refusals.specs.Counts.{totalled, noTotals}
+use Rattle.refusals.specs.Counts.{totalled, passedOver, noTotals}
 use Rattle.unit_table.specs.declared.Origin.{Origin}
 use Rattle.unit_table.specs.Rows.{originOf}
 use Rattle.unpack.specs.declared.each_frame.Came.{Came}
@@ -24,8 +25,9 @@ use Rattle.unpack.specs.declared.each_frame.Step.{Step}
 use Rattle.unpack.specs.declared.each_frame.Turn.{Turn}
 use Rattle.rules.specs.Areas.{heldSize, recordSize, recordsSize, unitsSize}
 
--- The reader's state, the areas, and the totals.
+-- Which virtual channels are left out, the reader's state, the areas, and the totals.
 pub record Stage : Type 0 where
+  pub without : List Bool
   pub reader : Reader
   pub held : List ℕ
   pub units : List ℕ
@@ -33,23 +35,32 @@ pub record Stage : Type 0 where
   pub totals : Totals
 
 unfoldable pub got : Stage → List ℕ → Got
-got g f = read (g .reader) f (g .held) (g .units) (g .records)
+got g f = pass (g .without) (g .reader) f (g .held) (g .units) (g .records)
 
 unfoldable pub ruled : Stage → List ℕ → Verdict
-ruled g f = verdict (g .reader) f (g .held) (g .units) (g .records)
+ruled g f = whose (look (g .reader) f)
+
+unfoldable pub leaves : Stage → List ℕ → Bool
+leaves g f = leftOut (g .without) (g .reader .setting) (look (g .reader) f)
 
 unfoldable pub told : Stage → List ℕ → Answer
 told g f = (got g f) .taken .answer
 
--- After one frame more: what the rules' read leaves, and the totals with its answer.
+-- The totals with one frame more, which was left out or not.
+unfoldable pub totalsAfter : Bool → Setting → Totals → Verdict → Answer → List ℕ → Totals
+totalsAfter true s t v a f = passedOver t
+totalsAfter false s t v a f = totalled s t v a f
+
+-- After one frame more: what the rules' pass leaves, and the totals with its answer.
 unfoldable pub advanced : Stage → List ℕ → Stage
 advanced g f =
     record {
+      without = g .without;
       reader = (got g f) .taken .state;
       held = (got g f) .heldArea;
       units = (got g f) .unitArea;
       records = (got g f) .recordArea;
-      totals = totalled (g .reader .setting) (g .totals) (ruled g f) (told g f) f;
+      totals = totalsAfter (leaves g f) (g .reader .setting) (g .totals) (ruled g f) (told g f) f;
     }
 
 -- After these frames, in order.
@@ -58,9 +69,10 @@ through g [] = g
 through g (f ∷ fs) = through (advanced g f) fs
 
 -- Before the first.
-unfoldable pub begun : Setting → Stage
-begun s =
+unfoldable pub begun : List Bool → Setting → Stage
+begun w s =
     record {
+      without = w;
       reader = (setUpReader s) .state;
       held = replicate heldSize 0;
       units = replicate unitsSize 0;
@@ -75,15 +87,17 @@ pub record Reached (g₀ : Stage) (k : ℕ) (g : Stage) : Type 0 where
   pub stage : g ≡ through g₀ frames
   pub valid : readerOk (g .reader) ≡ true
 
--- Frame k, read from this state with this result: state and totals after it, whose it is, its answer, and where its units come from.
-unfoldable pub stepOf : ℕ → Reader → Totals → Whose → List ℕ → Step
+-- Frame k, of which this came from this state: state and totals after it, whose it is, its answer, where its units come from, and whether it was left
+-- out.
+unfoldable pub stepOf : ℕ → Reader → Totals → Passed → List ℕ → Step
 stepOf k r t w f =
     record {
       state = w .taken .state;
-      totals = totalled (r .setting) t (w .verdict) (w .taken .answer) f;
-      verdict = w .verdict;
+      totals = totalsAfter (w .left) (r .setting) t (whose (w .looked)) (w .taken .answer) f;
+      verdict = whose (w .looked);
       answer = w .taken .answer;
-      origin = originOf (r .setting) (t .tally) k (w .verdict);
+      origin = originOf (r .setting) (t .tally) k (whose (w .looked));
+      left = w .left;
     }
 
 -- Areas in which a turn has room, and a frame number that another one follows.
@@ -101,11 +115,12 @@ outputOf Verdict.Idle = 10
 outputOf (Verdict.Counted c) = 10
 outputOf (Verdict.Read l) = l
 
--- The unit and record areas as the rules' read of a frame, with this verdict and answer, leaves them, with room for what it gave; and where its
--- units come from.
-pub record Gave (o : Origin) (v : Verdict) (a : Answer) (u c : List ℕ) : Type 0 where
+-- The unit and record areas as the rules' pass of a frame, with this verdict and answer, left out or not, leaves them, with room for what it gave; and
+-- where its units come from.
+pub record Gave (o : Origin) (l : Bool) (v : Verdict) (a : Answer) (u c : List ℕ) : Type 0 where
   pub stage : Stage
   pub frame : List ℕ
+  pub left : l ≡ leaves stage frame
   pub whose : v ≡ ruled stage frame
   pub answer : a ≡ told stage frame
   pub origin : o ≡ originOf (stage .reader .setting) (stage .totals .tally) (o .frame) v
@@ -113,12 +128,12 @@ pub record Gave (o : Origin) (v : Verdict) (a : Answer) (u c : List ℕ) : Type 
   pub records : c ≡ (advanced stage frame) .records
   pub room : (a .octets ≤ length u) × (recordSize * a .units ≤ recordsSize) × (recordsSize ≤ length c)
 
--- The octets that are handed out for a frame: its line, and the front of the unit and record areas as the rules' read of a frame, with this
+-- The octets that are handed out for a frame: its line, and the front of the unit and record areas as the rules' pass of a frame, with this
 -- verdict and answer, leaves them; and where its units come from.
 pub record Handed (o : Origin) (v : Verdict) (a : Answer) (l u c : List ℕ) : Type 0 where
-  pub line : l ≡ frameLine (o .frame) v a
   pub stage : Stage
   pub frame : List ℕ
+  pub line : l ≡ frameLine (o .frame) (leaves stage frame) v a
   pub whose : v ≡ ruled stage frame
   pub answer : a ≡ told stage frame
   pub origin : o ≡ originOf (stage .reader .setting) (stage .totals .tally) (o .frame) v
@@ -170,8 +185,8 @@ firstTurn s =
     record { state = (setUpReader s) .state; totals = noTotals; count = 0; came = record { octets = 0; failed = false }; went = Well; more = true }
 
 -- State and totals after k frames from the beginning, with areas that are no longer lent.
-pub record Finished (s : Setting) (k : ℕ) (r : Reader) (t : Totals) : Type 0 where
+pub record Finished (w : List Bool) (s : Setting) (k : ℕ) (r : Reader) (t : Totals) : Type 0 where
   pub held : List ℕ
   pub units : List ℕ
   pub records : List ℕ
-  pub reached : Reached (begun s) k (record { reader = r; held = held; units = units; records = records; totals = t })
+  pub reached : Reached (begun w s) k (record { without = w; reader = r; held = held; units = units; records = records; totals = t })

@@ -1,9 +1,10 @@
-// The frames of a recording through one reader, for the program unpack: units by lane, records, a table of units, a line a frame and totals.
+// The frames of a recording through one reader, for the program unpack: each is looked at, and taken or left out by the operator's decision; units by
+// lane, records, a table of units, a line a frame and totals.
 //
 // What the system reads and answers stands in the contracts as what came (`Came`) and how the writes went (`Went`); all else is determined by
-// it. Proved: the frame of a turn is the octets that came, and state, areas and totals after it are those to which the rules' `read` comes
+// it. Proved: the frame of a turn is the octets that came, and state, areas and totals after it are those to which the rules' `pass` comes
 // (`turn_frame`); so they are over all frames (`take_all`). What is handed to the system is asked for where it is handed over: a
-// frame's line, of the rules' verdict and answer, as many unit and record octets as it gave (`put_out`), the lines of its units (`hand_rows`), the
+// frame's line, of what the rules' look and take say of it, as many unit and record octets as it gave (`put_out`), the lines of its units (`hand_rows`), the
 // titles, and the text of all totals (`hand_totals`). Shown by runs: what no contract can follow into the system.
 ghost use mathlib.Core.Path.{_≡_};
 ghost use mathlib.Core.Bool.{true};
@@ -13,10 +14,10 @@ ghost use Rattle.rules.specs.Settings.{settingOk, readerOk};
 ghost use Rattle.unpack_text.specs.Lines.{title};
 ghost use Rattle.refusals.specs.Words.{totalsText};
 ghost use Rattle.unit_table.specs.Rows.{tableTitle, rowsText};
-ghost use Rattle.unpack.specs.Stages.{stepOf, AreasFit, Gave, Handed, Handled, Turned, Finished, takenTurn, firstTurn, endingOf, haltedTurn, outputOf, wellGone, goesOn};
-use reader::Whose;
+ghost use Rattle.unpack.specs.Stages.{totalsAfter, stepOf, AreasFit, Gave, Handed, Handled, Turned, Finished, takenTurn, firstTurn, endingOf, haltedTurn, outputOf, wellGone, goesOn};
 use refusals::Totals;
 use rules::Answer;
+use rules::Passed;
 use rules::Reader;
 use rules::Setting;
 use rules::Verdict;
@@ -45,13 +46,14 @@ pub struct Sinks {
     pub table: bool,
 }
 
-// A frame taken: state and totals after it, whose it is, its answer, and where its units come from.
+// A frame taken or left out: state and totals after it, whose it is, its answer, where its units come from, and whether it was left out.
 struct Step {
     state: Reader,
     totals: Totals,
     verdict: Verdict,
     answer: Answer,
     origin: Origin,
+    left: bool,
 }
 
 // A turn: state and totals after it, how many frames there were, what came, how it went, and whether there may be more.
@@ -92,23 +94,35 @@ fn read_frame(fd: i32, frame: &mut [u8], size: usize) -> Came
     }
 }
 
-// Takes frame k, which was read from this state with this result, into the totals.
-fn take_frame(k: u64, r: Reader, t: Totals, w: Whose, frame: &[u8]) -> Step
+// The totals with one frame more, which was left out or not.
+fn totals_after(left: bool, s: Setting, t: Totals, v: Verdict, a: Answer, frame: &[u8]) -> Totals
+    ensures { λ r. ⌜ r ≡ totalsAfter left s t v a (now (frame .entry)) ⌝ }
+{
+    if left {
+        return refusals::pass_over(t);
+    }
+    refusals::count_frame(s, t, v, a, frame)
+}
+
+// Takes frame k, of which this came from this state, into the totals.
+fn take_frame(k: u64, r: Reader, t: Totals, w: Passed, frame: &[u8]) -> Step
     ensures { λ p. ⌜ p ≡ stepOf k r t w (now (frame .entry)) ⌝ }
 {
-    let v = w.verdict;
+    let o = w.looked;
+    let v = reader::whose(o);
     let a = w.taken.answer;
     let state = w.taken.state;
     let s = r.setting;
     let x = t.tally;
     let origin = unit_table::origin_of(s, x, k, v);
-    let totals = refusals::count_frame(s, t, v, a, frame);
+    let totals = totals_after(w.left, s, t, v, a, frame);
     Step {
         state: state,
         totals: totals,
         verdict: v,
         answer: a,
         origin: origin,
+        left: w.left,
     }
 }
 
@@ -238,15 +252,15 @@ fn put_out(
     went
 }
 
-// Puts a frame's line, and hands it out with what the frame gave, out of the areas as its read left them.
+// Puts a frame's line, and hands it out with what the frame gave, out of the areas as they were left.
 fn give_out(p: Step, o: Sinks, units: &[u8], records: &[u8]) -> Went
-    requires { ⌜ Gave (p .origin) (p .verdict) (p .answer) (now units) (now records) ⌝ }
+    requires { ⌜ Gave (p .origin) (p .left) (p .verdict) (p .answer) (now units) (now records) ⌝ }
 {
     let g = p.origin;
     let v = p.verdict;
     let a = p.answer;
     let mut area = [0u8; 176];
-    let end = unpack_text::put_line(&mut area, 0, g.frame, v, a);
+    let end = unpack_text::put_line(&mut area, 0, g.frame, p.left, v, a);
     let n = a.octets;
     let c = rules::RECORD_SIZE * a.units;
     put_out(g, v, a, o, &area[..end], &units[..n], &records[..c])
@@ -284,8 +298,9 @@ fn turn_after(u: Turn, came: Came, p: Step, went: Went) -> Turn
     }
 }
 
-// Takes the frame that came, prints its line, and writes what it gave.
+// Passes the frame that came, prints its line, and writes what it gave.
 fn handle(
+    without: [bool; 63],
     u: Turn,
     came: Came,
     o: Sinks,
@@ -295,11 +310,11 @@ fn handle(
     records: &mut [u8],
 ) -> Turn
     requires { ⌜ (readerOk (u .state) ≡ true) × AreasFit (u .count) (now units) (now records) ⌝ }
-    ensures { λ v. ⌜ Handled u came (record { reader = u .state; held = now (held .entry); units = now (units .entry); records = now (records .entry); totals = u .totals }) (now (frame .entry)) v (record { reader = v .state; held = now (held .exit); units = now (units .exit); records = now (records .exit); totals = v .totals }) ⌝ }
+    ensures { λ v. ⌜ Handled u came (record { without = without; reader = u .state; held = now (held .entry); units = now (units .entry); records = now (records .entry); totals = u .totals }) (now (frame .entry)) v (record { without = without; reader = v .state; held = now (held .exit); units = now (units .exit); records = now (records .exit); totals = v .totals }) ⌝ }
 {
     let r = u.state;
     let t = u.totals;
-    let w = reader::read_whose(r, frame, held, units, records);
+    let w = reader::pass(without, r, frame, held, units, records);
     let p = take_frame(u.count, r, t, w, frame);
     let went = give_out(p, o, units, records);
     let v = turn_after(u, came, p, went);
@@ -334,8 +349,9 @@ fn halted(u: Turn, came: Came) -> Turn
     }
 }
 
-// Takes, prints and writes the frame that came into the front of the frame area, if one came.
+// Passes, prints and writes the frame that came into the front of the frame area, if one came.
 fn turn_frame(
+    without: [bool; 63],
     u: Turn,
     came: Came,
     o: Sinks,
@@ -345,7 +361,7 @@ fn turn_frame(
     records: &mut [u8],
 ) -> Turn
     requires { ⌜ (readerOk (u .state) ≡ true) × AreasFit (u .count) (now units) (now records) × (came .octets ≤ length (now frame)) ⌝ }
-    ensures { λ v. ⌜ Turned u came (record { reader = u .state; held = now (held .entry); units = now (units .entry); records = now (records .entry); totals = u .totals }) (now (frame .entry)) v (record { reader = v .state; held = now (held .exit); units = now (units .exit); records = now (records .exit); totals = v .totals }) ⌝ }
+    ensures { λ v. ⌜ Turned u came (record { without = without; reader = u .state; held = now (held .entry); units = now (units .entry); records = now (records .entry); totals = u .totals }) (now (frame .entry)) v (record { without = without; reader = v .state; held = now (held .exit); units = now (units .exit); records = now (records .exit); totals = v .totals }) ⌝ }
 {
     if came.failed {
         return halted(u, came);
@@ -354,7 +370,7 @@ fn turn_frame(
     if m == 0 {
         return halted(u, came);
     }
-    handle(u, came, o, &frame[..m], held, units, records)
+    handle(without, u, came, o, &frame[..m], held, units, records)
 }
 
 // Before the first frame.
@@ -377,11 +393,11 @@ fn first_turn(s: Setting) -> Turn
     }
 }
 
-// Takes the recording's frames to its end, or to the first failure. A proved loop has to end: this one counts its frames, to a number that
+// Passes the recording's frames to its end, or to the first failure. A proved loop has to end: this one counts its frames, to a number that
 // no run reaches.
-pub fn take_all(s: Setting, fd: i32, o: Sinks) -> Turn
+pub fn take_all(without: [bool; 63], s: Setting, fd: i32, o: Sinks) -> Turn
     requires { ⌜ settingOk s ≡ true ⌝ }
-    ensures { λ u. ⌜ Finished s (u .count) (u .state) (u .totals) ⌝ }
+    ensures { λ u. ⌜ Finished without s (u .count) (u .state) (u .totals) ⌝ }
 {
     let mut held = [0u8; rules::HELD_SIZE];
     let mut units = [0u8; rules::UNITS_SIZE];
@@ -391,7 +407,16 @@ pub fn take_all(s: Setting, fd: i32, o: Sinks) -> Turn
     let mut k: u64 = 0;
     while k < 18446744073709551615 {
         let came = read_frame(fd, &mut frame, u.state.setting.length);
-        u = turn_frame(u, came, o, &frame, &mut held, &mut units, &mut records);
+        u = turn_frame(
+            without,
+            u,
+            came,
+            o,
+            &frame,
+            &mut held,
+            &mut units,
+            &mut records,
+        );
         k = u.count;
         if u.more {} else {
             break;
@@ -448,7 +473,7 @@ pub fn start_table(o: Sinks) -> Went {
 pub fn print_totals(r: Reader, t: Totals) -> bool
     requires { ⌜ readerOk r ≡ true ⌝ }
 {
-    let mut area = [0u8; 4342];
+    let mut area = [0u8; 4368];
     let end = refusals::put_totals(&mut area, 0, r, t);
     hand_totals(r, t, &area[..end])
 }

@@ -18,6 +18,7 @@ use outputs::Plan;
 use refusals::First;
 use refusals::Refusals;
 use refusals::Totals;
+use rules::Place;
 use rules::Reader;
 use rules::Setting;
 use setting_file::Loaded;
@@ -27,11 +28,13 @@ use words::Start;
 use words::unpack_start::Little;
 use words::unpack_start::Prefix;
 
-// What a run has: the plan of its outputs, where its octets go, and what no output may replace, as the system knows it.
+// What a run has: the plan of its outputs, where its octets go, what no output may replace, as the system knows it, and which virtual channels are left
+// out.
 struct Job {
     plan: Plan,
     sinks: Sinks,
     kept: Kept,
+    without: [bool; 63],
 }
 
 // Whether all went well to the end, and how many frames there were.
@@ -156,10 +159,10 @@ fn say_few(few: Little, recording: &[u8]) -> bool {
     }
 }
 
-// Says that little was read, and what to look at, where it is so.
+// Says that little was read, and what to look at, where it is so. A frame that was left out was the setting's: it counts as read here.
 fn say_little(recording: &[u8], t: Totals, own: u16) {
     let k = t.tally.classes;
-    let few = words::unpack_start::little_of(k.read, k.refused);
+    let few = words::unpack_start::little_of(unpack_text::add(k.read, k.left), k.refused);
     let little = say_few(few, recording);
     if little {
         let r = t.refusals;
@@ -196,7 +199,8 @@ fn take_and_conclude(s: Setting, fd: i32, recording: &[u8], job: Job, prefix: &[
     requires { ⌜ settingOk s ≡ true ⌝ }
 {
     let o = job.sinks;
-    let u = each_frame::take_all(s, fd, o);
+    let without = job.without;
+    let u = each_frame::take_all(without, s, fd, o);
     let went = u.went;
     let good = each_frame::well(went);
     if good {
@@ -293,10 +297,12 @@ fn with_plan(s: Setting, fd: i32, recording: &[u8], p: Plan, f: Kept, q: Asked, 
     if made.good {
         let b = f.recording;
         let sinks = sinks_of(s, b, q, fds);
+        let without = q.without;
         let job = Job {
             plan: p,
             sinks: sinks,
             kept: f,
+            without: without,
         };
         work(s, fd, recording, job, prefix);
     } else {
@@ -491,6 +497,36 @@ fn load_from(path: &[u8], area: &mut [u8]) -> Loaded
     setting_file::load(b"unpack", path, area)
 }
 
+// Whether the setting lists every virtual channel that is to be left out. Where it does not, says which.
+fn all_listed(s: Setting, without: [bool; 63]) -> bool
+    requires { ⌜ settingOk s ≡ true ⌝ }
+{
+    let p = reader::choices::unlisted(without, s);
+    match p {
+        Place::Nowhere => true,
+        Place::At(v) => {
+            console::say_count(
+                b"unpack",
+                b"--without=",
+                v as u64,
+                b": the setting lists no such virtual channel",
+            );
+            false
+        }
+    }
+}
+
+// Goes on with a setting that lists what is to be left out.
+fn with_choice(s: Setting, q: Asked, a: Known)
+    requires { ⌜ settingOk s ≡ true ⌝ }
+{
+    let without = q.without;
+    let listed = all_listed(s, without);
+    if listed {
+        with_setting(s, q, a);
+    }
+}
+
 // Reads the setting, and goes on.
 fn with_words(q: Asked) {
     let mut path = io::buffer();
@@ -504,7 +540,7 @@ fn with_words(q: Asked) {
     if l.judged.good {
         let s = l.judged.setting;
         let a = l.file;
-        with_setting(s, q, a);
+        with_choice(s, q, a);
     }
 }
 
@@ -516,14 +552,14 @@ fn say_unknown(i: usize) {
     let n = os::arg(i, &mut word);
     say(
         &word[..n],
-        b"is no option; expected --totals, --units, --help or --version",
+        b"is no option; expected --totals, --units, --without=V with V from 0 to 62, --help or --version",
     );
 }
 
 // Prints how the program is called.
 fn print_help() -> bool {
     each_frame::print(
-        b"unpack [--totals] [--units] SETTING RECORDING PREFIX\nReads the recording's frames and writes PREFIX.lane0 .., a lane's units each, and PREFIX.records. Prints a line a frame and totals.\n  --totals   prints the totals alone\n  --units    writes PREFIX.units.csv too, a table of the units\n  --help     prints this\n  --version  prints which program this is\nA SETTING or a RECORDING of - is standard input. docs/PROGRAMS.md has the formats.\n",
+        b"unpack [--totals] [--units] [--without=V] .. SETTING RECORDING PREFIX\nReads the recording's frames and writes PREFIX.lane0 .., a lane's units each, and PREFIX.records. Prints a line a frame and totals.\n  --totals     prints the totals alone\n  --units      writes PREFIX.units.csv too, a table of the units\n  --without=V  leaves the frames of virtual channel V out; it may stand several times\n  --help       prints this\n  --version    prints which program this is\nA SETTING or a RECORDING of - is standard input. docs/PROGRAMS.md has the formats.\n",
     )
 }
 
@@ -542,13 +578,13 @@ fn begin(start: Start, q: Asked) {
             say_printed(printed);
         }
         Start::Version => {
-            let printed = each_frame::print(b"unpack 0.2 (Khachmuren, CCSDS 732.1-B-3)\n");
+            let printed = each_frame::print(b"unpack 0.3 (Khachmuren, CCSDS 732.1-B-3)\n");
             say_printed(printed);
         }
         Start::Unknown(i) => say_unknown(i),
         Start::Usage => say(
             b"usage",
-            b"unpack [--totals] [--units] SETTING RECORDING PREFIX",
+            b"unpack [--totals] [--units] [--without=V] .. SETTING RECORDING PREFIX",
         ),
         Start::Work => with_words(q),
     }
