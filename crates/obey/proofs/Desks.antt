@@ -11,14 +11,15 @@ use Rattle.rules.specs.declared.Writer.{Writer}
 use Rattle.rules.specs.declared.Taken.{Taken}
 use Rattle.rules.specs.declared.Sender.{Sender}
 use Rattle.rules.specs.declared.Listener.{Listener}
+use Rattle.rules.specs.declared.Looked.{Looked}
 use borrow.Rule.Slice.PartMut.{putMid}
 use Rattle.rules.specs.Areas.{laid}
 use Rattle.octets.proofs.Turns.{lent as back, part-long}
-use Rattle.rules.specs.Calls.{refusalOf, Sent, write, Got}
+use Rattle.rules.specs.Calls.{refusalOf, Sent, write, Got, look}
 use Rattle.rows.specs.Rows.{word, spelled}
 use Rattle.rows.specs.States.{readerIn, writerIn, readerOctets, writerOctets}
-use Rattle.obey.specs.Requests.{cut, one, answered, sentOn, heardOn, answerRow, takenOn, asked, sent, written}
-use Rattle.obey.specs.Requests.{sizesIn, readIn, whole, frameIn, readOn, Left}
+use Rattle.obey.specs.Requests.{cut, behind, one, answered, sentOn, heardOn, answerRow, takenOn, asked, sent, written}
+use Rattle.obey.specs.Requests.{sizesIn, readIn, whole, frameIn, readOn, Left, lookRow, lookOn}
 use Rattle.obey.specs.declared.requests.Sizes.{Sizes}
 
 -- ---- parts
@@ -100,3 +101,10 @@ read-on q f desk held units records desk′ held′ units′ records′ z r t e 
       units = ap (λ (x : Got). x .unitArea) g;
       records = ap (λ (x : Got). x .recordArea) g;
     }
+
+-- ---- a look
+
+pub look-on : (q f desk desk′ row : List ℕ) (r : Reader) (o : Looked) → r ≡ readerIn desk 18 → f ≡ behind q → o ≡ look r f → row ≡ lookRow o
+    → desk′ ≡ laid desk 0 (spelled row) → desk′ ≡ lookOn q desk
+unfolding lookOn answered
+look-on q f desk desk′ row r o here frame done shown p = cc

@@ -8,7 +8,7 @@ use Rattle.rules.specs.Octets.{checkOf}
 use Rattle.rules.specs.Calls.{setUpWriter, setUpReader}
 use Rattle.rows.specs.Rows.{word}
 use Rattle.rows.specs.States.{settingIn}
-use Rattle.obey.specs.Requests.{cut, behind, laidIn, one, answered, sentOn, heardOn, sent, written, frameIn, readOn, Left}
+use Rattle.obey.specs.Requests.{cut, behind, laidIn, one, answered, sentOn, heardOn, sent, written, frameIn, readOn, Left, lookOn}
 use Rattle.obey.specs.Requests.{Areas, afterRead, blank, deskAfter, obeyed}
 
 -- ---- the frame to be read
@@ -44,10 +44,15 @@ module _ (q desk desk′ : List ℕ) where
   unfolding deskAfter
   checks e p = rw e p
 
-  pub nothing : (word q 0 ≡ 4 → ⊥) → (word q 0 ≡ 5 → ⊥) → (word q 0 ≡ 6 → ⊥) → (word q 0 ≡ 7 → ⊥) → (word q 0 ≡ 8 → ⊥) → desk′ ≡ desk
-      → desk′ ≡ deskAfter q desk
+  pub looks : word q 0 ≡ 9 → desk′ ≡ lookOn q desk → desk′ ≡ deskAfter q desk
   unfolding deskAfter
-  nothing h₄ h₅ h₆ h₇ h₈ p = rw (ne-eqb _ _ h₄, ne-eqb _ _ h₅, ne-eqb _ _ h₆, ne-eqb _ _ h₇, ne-eqb _ _ h₈) p
+  looks e p = rw e p
+
+  pub nothing : (word q 0 ≡ 4 → ⊥) → (word q 0 ≡ 5 → ⊥) → (word q 0 ≡ 6 → ⊥) → (word q 0 ≡ 7 → ⊥) → (word q 0 ≡ 8 → ⊥)
+      → (word q 0 ≡ 9 → ⊥) → desk′ ≡ desk → desk′ ≡ deskAfter q desk
+  unfolding deskAfter
+  nothing h₄ h₅ h₆ h₇ h₈ h₉ p =
+      rw (ne-eqb _ _ h₄, ne-eqb _ _ h₅, ne-eqb _ _ h₆, ne-eqb _ _ h₇, ne-eqb _ _ h₈, ne-eqb _ _ h₉) p
 
 -- ---- all areas
 

@@ -11,10 +11,13 @@ use Rattle.rules.specs.declared.Answer.{Answer}
 use Rattle.rules.specs.declared.Taken.{Taken}
 use Rattle.rules.specs.declared.Sender.{Sender}
 use Rattle.rules.specs.declared.Listener.{Listener}
+use Rattle.rules.specs.declared.Looked.{Looked}
+use Rattle.rules.specs.declared.Place.{Place}
+use Rattle.rules.specs.declared.Place.the-variants.{At, Nowhere}
 use Rattle.rules.specs.Tests.{_=?_, _<?_, _≤?_}
 use Rattle.rules.specs.Octets.{checkOf}
 use Rattle.rules.specs.Areas.{laid}
-use Rattle.rules.specs.Calls.{refusalOf, classRefusal, setUpWriter, setUpReader, Sent, write, Got, read}
+use Rattle.rules.specs.Calls.{refusalOf, classRefusal, setUpWriter, setUpReader, Sent, write, Got, read, look}
 use Rattle.obey.specs.declared.requests.Sizes.{Sizes}
 use Rattle.rows.specs.Rows.{word, spelled}
 use Rattle.rows.specs.States.{settingIn, readerIn, writerIn, readerOctets, writerOctets}
@@ -113,6 +116,22 @@ pub record Left (g : Got) (before after heldArea unitArea recordArea : List ℕ)
   pub units : unitArea ≡ g .unitArea
   pub records : recordArea ≡ g .recordArea
 
+-- ---- a look
+
+-- The place of a channel or a lane and one; 0 for none. There are eight of each at most, so no look names a place past 7 (proofs/Places): the
+-- number of such a one is 0 here.
+unfoldable pub placeNumber : Place → ℕ
+placeNumber (At i) = cond (i <? 8) (i + 1) 0
+placeNumber Nowhere = 0
+
+unfoldable pub lookRow : Looked → List ℕ
+lookRow o =
+    classNumber (o .class) ∷ classRefusal (o .class) ∷ placeNumber (o .channel) ∷ placeNumber (o .lane) ∷ o .missing ∷ 0 ∷ 0 ∷ 0 ∷ []
+
+-- At the octets behind the row, by the reader on the desk: the answer is laid, and all else stays as it is.
+unfoldable pub lookOn : List ℕ → List ℕ → List ℕ
+lookOn q desk = answered desk (lookRow (look (readerIn desk 18) (behind q)))
+
 -- ---- requests
 
 -- The areas on which requests work.
@@ -135,13 +154,15 @@ blank m =
       records = replicate (length (m .records)) 0x55;
     }
 
--- 4 lays octets on the desk, 5 and 6 are the set-ups with the setting of the state that they replace, 7 is a write, 8 a frame check.
+-- 4 lays octets on the desk, 5 and 6 are the set-ups with the setting of the state that they replace, 7 is a write, 8 a frame check,
+-- 9 a look.
 unfoldable pub deskAfter : List ℕ → List ℕ → List ℕ
 deskAfter q desk =
     cond (word q 0 =? 4) (laidIn desk (word q 2) (behind q))
     (cond (word q 0 =? 5) (sentOn desk (setUpWriter (settingIn desk 1)))
     (cond (word q 0 =? 6) (heardOn desk (setUpReader (settingIn desk 18)))
-    (cond (word q 0 =? 7) (written (sent q desk) desk) (cond (word q 0 =? 8) (answered desk (one (checkOf (behind q)))) desk))))
+    (cond (word q 0 =? 7) (written (sent q desk) desk)
+    (cond (word q 0 =? 8) (answered desk (one (checkOf (behind q)))) (cond (word q 0 =? 9) (lookOn q desk) desk)))))
 
 -- 0 and 1 are reads, 2 lays octets into the held area, 3 makes the reader's areas blank; the others leave these as they are.
 unfoldable pub obeyed : List ℕ → Areas → Areas

@@ -7,7 +7,8 @@ ghost use Rattle.rules.specs.Calls.{refusalOf, classRefusal, setUpWriter, setUp
 ghost use Rattle.rows.specs.Rows.{word};
 ghost use Rattle.rows.specs.States.{settingIn};
 ghost use Rattle.obey.specs.Requests.{cut, behind, laidIn, one, answered, sentOn, heardOn, classNumber, answerRow, takenOn};
-ghost use Rattle.obey.specs.Requests.{asked, sent, written, sizesIn, readIn, whole, frameIn, readOn, Left, deskAfter, obeyed};
+ghost use Rattle.obey.specs.Requests.{asked, sent, written, sizesIn, readIn, whole, frameIn, readOn, Left, placeNumber, lookRow, lookOn};
+ghost use Rattle.obey.specs.Requests.{deskAfter, obeyed};
 use rows::put_reader;
 use rows::put_row;
 use rows::put_writer;
@@ -18,7 +19,9 @@ use rows::writer_in;
 use rules::Answer;
 use rules::Class;
 use rules::Listener;
+use rules::Looked;
 use rules::Outcome;
+use rules::Place;
 use rules::Reader;
 use rules::Sender;
 use rules::Taken;
@@ -137,6 +140,35 @@ fn answer_row(a: Answer) -> [u64; 8]
     ]
 }
 
+// The number of a place of a channel or a lane: the place and one, or 0 for none. A place past 7 is in no list, and is 0 too.
+fn place_number(p: Place) -> u64
+    ensures { λ r. ⌜ r ≡ placeNumber p ⌝ }
+{
+    match p {
+        Place::Nowhere => 0,
+        Place::At(i) => {
+            if i < 8 {
+                return i as u64 + 1;
+            }
+            0
+        }
+    }
+}
+
+// The row of a look's answer.
+fn look_row(o: Looked) -> [u64; 8]
+    ensures { λ r. ⌜ r ≡ lookRow o ⌝ }
+{
+    let k = o.class;
+    let class = class_number(k);
+    let refusal = class_refusal(k);
+    let c = o.channel;
+    let channel = place_number(c);
+    let l = o.lane;
+    let lane = place_number(l);
+    [class, refusal, channel, lane, o.missing, 0, 0, 0]
+}
+
 // Puts what a set-up of the writer, or a write, answers on the desk.
 fn put_sent(desk: &mut [u8], t: Sender)
     requires { ⌜ length (now desk) ≡ 6440 ⌝ }
@@ -229,6 +261,18 @@ fn check(q: &[u8], desk: &mut [u8])
     put_row(desk, 0, row);
 }
 
+// A look at the octets behind the row, by the reader on the desk.
+fn look(q: &[u8], desk: &mut [u8])
+    requires { ⌜ (64 ≤ length (now q)) × (length (now desk) ≡ 6440) ⌝ }
+    ensures { λ _. ⌜ now (desk .exit) ≡ lookOn (now (q .entry)) (now (desk .entry)) ⌝ }
+{
+    let r = reader_in(desk, 18);
+    let frame = rest(q);
+    let o = reader::look(r, frame);
+    let row = look_row(o);
+    put_row(desk, 0, row);
+}
+
 // How much of areas that are so long a read is lent.
 fn sizes_in(q: &[u8], held: usize, units: usize, records: usize) -> Sizes
     requires { ⌜ 64 ≤ length (now q) ⌝ }
@@ -268,7 +312,7 @@ fn read_in(
     let h = z.held;
     let u = z.units;
     let c = z.records;
-    reader::read(r, frame, &mut held[..h], &mut units[..u], &mut records[..c])
+    reader::take(r, frame, &mut held[..h], &mut units[..u], &mut records[..c])
 }
 
 // A read by the reader on the desk.
@@ -318,6 +362,10 @@ fn on_desk(q: &[u8], desk: &mut [u8])
     }
     if what == 8 {
         check(q, desk);
+        return;
+    }
+    if what == 9 {
+        look(q, desk);
     }
 }
 

@@ -1,6 +1,6 @@
 -- `obey::requests::on_desk` meets its contract. Each number has its case.
 use mathlib.Core.Path.{refl, sym, _∙_}
-use Rattle.obey.proofs.Obeyed.{lays, sets-writer, sets-reader, writes, checks, nothing}
+use Rattle.obey.proofs.Obeyed.{lays, sets-writer, sets-reader, writes, checks, looks, nothing}
 use borrow.Author.Needs.{needs}
 use Rattle.obey.proofs.requests.on_desk.Statement.{statement}
 use Rattle.obey.proofs.requests.on_desk.Tie as tie
@@ -71,13 +71,26 @@ returns-5 c =
     checks _ (c₁₀ .before .before .args .desk .now) _
     (sym (c₅ .before .before .before .before .word-in .ensures) ∙ c .before .before .before .before .if5 .taken) (c .before .before .check .ensures)
 
+look-requires : tie.Need-look-requires
+look-requires c κs = search needs
+
+same-length-6 : tie.Need-same-length-6
+same-length-6 c = search needs
+
 returns-6 : tie.Need-returns-6
 returns-6 c =
     let c₅ = c .before .before .before .before .before in
-    let w = c₅ .word-in .ensures in
-    nothing _ (c₅ .before .before .before .args .desk .now) _ (λ e. c .before .before .before .before .if1 .left (w ∙ e))
-    (λ e. c .before .before .before .if2 .left (w ∙ e)) (λ e. c .before .before .if3 .left (w ∙ e)) (λ e. c .before .if4 .left (w ∙ e))
-    (λ e. c .if5 .left (w ∙ e)) refl
+    let c₁₀ = c₅ .before .before .before .before .before in
+    looks _ (c₁₀ .before .before .before .args .desk .now) _ (sym (c₁₀ .word-in .ensures) ∙ c .before .before .before .before .if6 .taken)
+    (c .before .before .look .ensures)
+
+returns-7 : tie.Need-returns-7
+returns-7 c =
+    let c₅ = c .before .before .before .before .before in
+    let w = c₅ .before .word-in .ensures in
+    nothing _ (c₅ .before .before .before .before .args .desk .now) _ (λ e. c₅ .if1 .left (w ∙ e))
+    (λ e. c .before .before .before .before .if2 .left (w ∙ e)) (λ e. c .before .before .before .if3 .left (w ∙ e))
+    (λ e. c .before .before .if4 .left (w ∙ e)) (λ e. c .before .if5 .left (w ∙ e)) (λ e. c .if6 .left (w ∙ e)) refl
 
 pub on-desk-spec : {M : Type 1} → statement M
 on-desk-spec =
@@ -99,4 +112,7 @@ on-desk-spec =
     check-requires
     same-length-5
     returns-5
-    returns-6)
+    look-requires
+    same-length-6
+    returns-6
+    returns-7)

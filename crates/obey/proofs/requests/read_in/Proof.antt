@@ -8,28 +8,28 @@ use borrow.Author.Needs.{needs}
 use Rattle.obey.proofs.requests.read_in.Statement.{statement}
 use Rattle.obey.proofs.requests.read_in.Tie as tie
 
-slice-relend-prefix-read : tie.Need-slice-relend-prefix-read
-slice-relend-prefix-read c = search needs
+slice-relend-prefix-take : tie.Need-slice-relend-prefix-take
+slice-relend-prefix-take c = search needs
 
-slice-aggregate-read : tie.Need-slice-aggregate-read
-slice-aggregate-read c = sym (length-take-le _ _ (c .before .before .before .before .before .pre .0))
+slice-aggregate-take : tie.Need-slice-aggregate-take
+slice-aggregate-take c = sym (length-take-le _ _ (c .before .before .before .before .before .pre .0))
 
-slice-relend-prefix-read-2 : tie.Need-slice-relend-prefix-read-2
-slice-relend-prefix-read-2 c = search needs
+slice-relend-prefix-take-2 : tie.Need-slice-relend-prefix-take-2
+slice-relend-prefix-take-2 c = search needs
 
-slice-aggregate-read-2 : tie.Need-slice-aggregate-read-2
-slice-aggregate-read-2 c = sym (length-take-le _ _ (c .before .before .before .before .before .before .pre .1))
+slice-aggregate-take-2 : tie.Need-slice-aggregate-take-2
+slice-aggregate-take-2 c = sym (length-take-le _ _ (c .before .before .before .before .before .before .pre .1))
 
-slice-relend-prefix-read-3 : tie.Need-slice-relend-prefix-read-3
-slice-relend-prefix-read-3 c = search needs
+slice-relend-prefix-take-3 : tie.Need-slice-relend-prefix-take-3
+slice-relend-prefix-take-3 c = search needs
 
-slice-aggregate-read-3 : tie.Need-slice-aggregate-read-3
-slice-aggregate-read-3 c =
+slice-aggregate-take-3 : tie.Need-slice-aggregate-take-3
+slice-aggregate-take-3 c =
     let c₅ = c .before .before .before .before .before in
     sym (length-take-le _ _ (c₅ .before .before .pre .2))
 
-read-requires : tie.Need-read-requires
-read-requires c κs = search needs
+take-requires : tie.Need-take-requires
+take-requires c κs = search needs
 
 same-length : tie.Need-same-length
 same-length c = search needs
@@ -46,19 +46,19 @@ returns c =
     let c₅ = c .before .before .before .before .before in
     let c₁₀ = c₅ .before .before .before .before .before in
     let a = c₁₀ .before .before .before .before .args in
-    ap (λ (g : Got). whole (a .z) g (a .held .now) (a .units .now) (a .records .now)) (read-is _ _ _ _ _ _ (c₅ .before .read .ensures))
+    ap (λ (g : Got). whole (a .z) g (a .held .now) (a .units .now) (a .records .now)) (read-is _ _ _ _ _ _ (c₅ .before .take .ensures))
 
 pub read-in-spec : {M : Type 1} → statement M
 read-in-spec =
     tie.close
     (tie.spec
-    slice-relend-prefix-read
-    slice-aggregate-read
-    slice-relend-prefix-read-2
-    slice-aggregate-read-2
-    slice-relend-prefix-read-3
-    slice-aggregate-read-3
-    read-requires
+    slice-relend-prefix-take
+    slice-aggregate-take
+    slice-relend-prefix-take-2
+    slice-aggregate-take-2
+    slice-relend-prefix-take-3
+    slice-aggregate-take-3
+    take-requires
     same-length
     same-length-2
     same-length-3
