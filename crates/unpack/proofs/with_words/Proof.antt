@@ -34,8 +34,8 @@ slice-aggregate-load-from-2 c = search needs
 load-from-requires : tie.Need-load-from-requires
 load-from-requires c κs = search needs
 
-with-setting-requires : tie.Need-with-setting-requires
-with-setting-requires c κs = let l = c .before .before .before .before .load-from in
+with-choice-requires : tie.Need-with-choice-requires
+with-choice-requires c κs = let l = c .before .before .before .before .load-from in
     let e = l .ensures in
     ap (λ (j : Judged). settingOk (j .setting)) e
     ∙ judged-good (l .result .filled) _ (ap (λ (j : Judged). j .good) (sym e) ∙ c .before .before .if2 .taken)
@@ -59,6 +59,6 @@ with-words-spec =
     slice-aggregate-load-from
     slice-aggregate-load-from-2
     load-from-requires
-    with-setting-requires
+    with-choice-requires
     returns-2
     returns-3)

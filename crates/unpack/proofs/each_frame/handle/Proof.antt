@@ -1,12 +1,11 @@
--- A frame is read, taken and handed out.
-use Rattle.rules.proofs.Promises.{read-is}
+-- A frame is passed, taken into the totals and handed out.
 use Rattle.unpack.proofs.Carried.{gives, handles}
 use borrow.Author.Needs.{needs}
 use Rattle.unpack.proofs.each_frame.handle.Statement.{statement}
 use Rattle.unpack.proofs.each_frame.handle.Tie as tie
 
-read-whose-requires : tie.Need-read-whose-requires
-read-whose-requires c κs = search needs
+pass-requires : tie.Need-pass-requires
+pass-requires c κs = search needs
 
 take-frame-requires : tie.Need-take-frame-requires
 take-frame-requires c κs = search needs
@@ -16,9 +15,9 @@ give-out-requires c κs =
     let c₈ = c .before .before .before .before .before .before .before .before in
     let c₁₆ = c₈ .before .before .before .before .before .before .before .before in
     let a = c₁₆ .before .before .before .args in
-    let w = c₈ .before .read-whose in
-    gives (a .u) (a .frame .now) (a .held .now) (a .units .now) (a .records .now) (w .result) _ _ _ _
-    (read-is _ _ _ _ _ _ (w .ensures .0)) (w .ensures .1) (c .before .before .take-frame .ensures)
+    let w = c₈ .before .pass in
+    gives (a .without) (a .u) (a .frame .now) (a .held .now) (a .units .now) (a .records .now) (w .result) _ _ _ _
+    (w .ensures) (c .before .before .take-frame .ensures)
     (c₁₆ .before .before .before .pre .1) (c .before .before .before .before .before .before .units .given) (c .before .before .before .before .records .given)
 
 turn-after-requires : tie.Need-turn-after-requires
@@ -46,16 +45,16 @@ returns c =
     let c₈ = c .before .before .before .before .before .before .before .before in
     let c₁₆ = c₈ .before .before .before .before .before .before .before .before in
     let a = c₁₆ .before .before .before .before .before .before .args in
-    let w = c₈ .before .before .before .before .read-whose in
-    handles (a .u) (a .frame .now) (a .held .now) (a .units .now) (a .records .now) (w .result) _ _ _ _
-    (read-is _ _ _ _ _ _ (w .ensures .0)) (w .ensures .1) (c .before .before .before .before .before .take-frame .ensures)
+    let w = c₈ .before .before .before .before .pass in
+    handles (a .without) (a .u) (a .frame .now) (a .held .now) (a .units .now) (a .records .now) (w .result) _ _ _ _
+    (w .ensures) (c .before .before .before .before .before .take-frame .ensures)
     _ _ _ (c .before .turn-after .ensures)
 
 pub handle-spec : {M : Type 1} → statement M
 handle-spec =
     tie.close
     (tie.spec
-    read-whose-requires
+    pass-requires
     take-frame-requires
     give-out-requires
     turn-after-requires

@@ -12,21 +12,21 @@ use Rattle.unpack.proofs.each_frame.take_all.Statement.{statement}
 use Rattle.unpack.proofs.each_frame.take_all.Tie as tie
 
 abbrev Inv-loop : tie.InvT-loop
-Inv-loop fd fds held₀ units₀ records₀ frame₀ u₀ k₀ held units records frame u k = (length held ≡ heldSize) × (length units ≡ unitsSize) ×
+Inv-loop without fd o held₀ units₀ records₀ frame₀ u₀ k₀ held units records frame u k = (length held ≡ heldSize) × (length units ≡ unitsSize) ×
     (length records ≡ recordsSize) ×
     (length frame ≡ 4096) × (u .count ≡ k)
-    × Reached (record { reader = u₀ .state; held = held₀; units = units₀; records = records₀; totals = u₀ .totals }) (u .count)
-    (record { reader = u .state; held = held; units = units; records = records; totals = u .totals })
+    × Reached (record { without = without; reader = u₀ .state; held = held₀; units = units₀; records = records₀; totals = u₀ .totals }) (u .count)
+    (record { without = without; reader = u .state; held = held; units = units; records = records; totals = u .totals })
 
 abbrev μ-loop : tie.MeasureT-loop
-μ-loop fd fds held₀ units₀ records₀ frame₀ u₀ k₀ held units records frame u k = 18446744073709551615 - k
+μ-loop without fd o held₀ units₀ records₀ frame₀ u₀ k₀ held units records frame u k = 18446744073709551615 - k
 
 first-turn-requires : tie.Need-first-turn-requires Inv-loop μ-loop
 first-turn-requires c κs = search needs
 
 loop-holds : tie.Need-loop-holds Inv-loop μ-loop
 loop-holds c =
-    let b = begins _ _ (c .before .pre) (c .first-turn .ensures) in
+    let b = begins _ _ _ (c .before .pre) (c .first-turn .ensures) in
     (length-replicate heldSize zero, length-replicate unitsSize zero, length-replicate recordsSize zero, length-replicate 4096 zero, b .0, b .1)
 
 slice-aggregate-read-frame : tie.Need-slice-aggregate-read-frame Inv-loop μ-loop
@@ -80,13 +80,13 @@ loop-again c =
     )
 
 returns : tie.Need-returns Inv-loop μ-loop
-returns c = finished _ _ (c .before .before .first-turn .ensures) (c .before .loop .inv .5)
+returns c = finished _ _ _ (c .before .before .first-turn .ensures) (c .before .loop .inv .5)
 
 returns-2 : tie.Need-returns-2 Inv-loop μ-loop
 returns-2 c =
     let c₈ = c .before .before .before .before .before .before .before .before in
     let l = c₈ .before .before .before .before .before in
-    finished _ _ (l .before .first-turn .ensures) (turned-on (l .loop .inv .5) (c .before .before .before .before .turn-frame .ensures) .0)
+    finished _ _ _ (l .before .first-turn .ensures) (turned-on (l .loop .inv .5) (c .before .before .before .before .turn-frame .ensures) .0)
 
 pub take-all-spec : {M : Type 1} → statement M
 take-all-spec =

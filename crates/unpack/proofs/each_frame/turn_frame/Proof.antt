@@ -11,7 +11,7 @@ halted-requires c κs = search needs
 
 returns : tie.Need-returns
 returns c =
-    let a = c .before .before .before .before .before .before .args in halts (a .u) (a .came) _ _ _ _ (taken-failed (a .came) (c .before .if1 .taken))
+    let a = c .before .before .before .before .before .before .args in halts (a .without) (a .u) (a .came) _ _ _ _ (taken-failed (a .came) (c .before .if1 .taken))
     (c .halted .ensures)
 
 halted-requires-2 : tie.Need-halted-requires-2
@@ -19,7 +19,7 @@ halted-requires-2 c κs = search needs
 
 returns-2 : tie.Need-returns-2
 returns-2 c =
-    let a = c .before .before .before .before .before .before .before .args in halts (a .u) (a .came) _ _ _ _ (taken-none (a .came)
+    let a = c .before .before .before .before .before .before .before .args in halts (a .without) (a .u) (a .came) _ _ _ _ (taken-none (a .came)
     (c .before .before .if1 .left) (c .before .if2 .taken)) (c .halted2 .ensures)
 
 slice-aggregate-handle : tie.Need-slice-aggregate-handle
@@ -42,7 +42,7 @@ returns-3 c =
     let c₈ = c .before .before .before .before .before .before .before .before in
     let c₁₆ = c₈ .before .before .before .before .before .before .before .before in
     let a = c₁₆ .before .args
-    in takes (a .u) (a .came) _ _ (taken-some (a .came) (c₈ .before .before .before .before
+    in takes (a .without) (a .u) (a .came) _ _ (taken-some (a .came) (c₈ .before .before .before .before
     .if1 .left) (c₈ .before .before .before .if2 .left))
     (c .before .before .before .before .before .before .handle .ensures)
 
