@@ -83,7 +83,7 @@ fn put_opening(area: &mut [u8], k: u64) -> usize
     0
 }
 
-// Reads frame k, and puts what is printed for it into `area`. An empty input has no frame.
+// Looks at frame k and takes it, with no virtual channel left out, and puts what is printed for it into `area`. An empty input has no frame.
 fn list_frame(
     k: u64,
     r: Reader,
@@ -96,7 +96,9 @@ fn list_frame(
     requires { ⌜ (1 ≤ length (now frame)) × (98 ≤ length (now area)) ⌝ }
     ensures { λ p. ⌜ Listed k (read r (now (frame .entry)) (now (held .entry)) (now (units .entry)) (now (records .entry))) (now (area .entry)) (p .answer) (p .state) (now (held .exit)) (now (units .exit)) (now (records .exit)) (now (area .exit)) (p .end) ⌝ }
 {
-    let t = reader::read(r, frame, held, units, records);
+    let every = [false; 63];
+    let p = reader::pass(every, r, frame, held, units, records);
+    let t = p.taken;
     let a = t.answer;
     let s = t.state;
     let at = put_opening(area, k);

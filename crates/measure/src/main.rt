@@ -1,4 +1,4 @@
-// Work to be measured: the frame check, headers, reads or writes of frames that come from standard input, and no other work for them to be held
+// Work to be measured: the frame check, headers, looks, takes or writes of frames that come from standard input, and no other work for them to be held
 // against. Its two arguments are the work's word and a file with the setting, which has one packet lane, an OCF and no insert zone; it prints
 // how many frames there were and a sum over what came out.
 ghost use mathlib.Core.Path.{_≡_};
@@ -8,7 +8,10 @@ ghost use lib.ListN.{getD};
 use header::Data;
 use header::Head;
 use rules::Answer;
+use rules::Looked;
 use rules::Outcome;
+use rules::Place;
+use rules::Reader;
 use rules::Setting;
 use rules::Writer;
 
@@ -151,8 +154,27 @@ fn worth(a: Answer, units: &[u8]) -> u64 {
     plus(plus(out, not), plus(a.missing, octet))
 }
 
-// A read of each frame.
-fn read(s: Setting, area: &mut [u8]) {
+// What is summed of a look: what is missing, and the lane's number and one.
+fn glance(o: Looked) -> u64 {
+    let lane = o.lane;
+    let n = match lane {
+        Place::At(l) => plus(l as u64, 1),
+        Place::Nowhere => 0,
+    };
+    plus(o.missing, n)
+}
+
+// What is summed of a look at a frame, where the work asks for looks.
+fn look_first(looks: bool, r: Reader, area: &[u8]) -> u64 {
+    if looks {
+        let o = reader::look(r, area);
+        return glance(o);
+    }
+    0
+}
+
+// A take of each frame, after a look where the work asks for one.
+fn take(looks: bool, s: Setting, area: &mut [u8]) {
     let mut held = [0u8; rules::HELD_SIZE];
     let mut units = [0u8; rules::UNITS_SIZE];
     let mut records = [0u8; rules::RECORDS_SIZE];
@@ -165,12 +187,32 @@ fn read(s: Setting, area: &mut [u8]) {
         if !more {
             break;
         }
-        let t = reader::read(state, area, &mut held, &mut units, &mut records);
+        let x = look_first(looks, state, area);
+        let t = reader::take(state, area, &mut held, &mut units, &mut records);
         let a = t.answer;
         let after = t.state;
         state = after;
         let w = worth(a, &units);
-        sum = plus(sum, w);
+        sum = plus(sum, plus(w, x));
+        k += 1;
+    }
+    tell(k, sum);
+}
+
+// A look at each frame, by a reader that takes none.
+fn look(s: Setting, area: &mut [u8]) {
+    let l = reader::set_up(s);
+    let state = l.state;
+    let mut k: u64 = 0;
+    let mut sum: u64 = 0;
+    while k < 18446744073709551615 {
+        let more = next(area);
+        if !more {
+            break;
+        }
+        let o = reader::look(state, area);
+        let x = glance(o);
+        sum = plus(sum, x);
         k += 1;
     }
     tell(k, sum);
@@ -265,15 +307,23 @@ fn pass_batches(s: Setting) {
 
 // ---- the program
 
-// The work that a word's first letter says: batches (pass by batches), read, write; else pass, check, heads (they are read) or fields (they are
+// The work that a word's first letter says: batches (pass by batches), look, read (a take), twice (a look, then a take), write; else pass, check, heads (they are read) or fields (they are
 // written), which is a value of each frame.
 fn work(letter: u8, s: Setting, area: &mut [u8]) {
     if letter == b'b' {
         pass_batches(s);
         return;
     }
+    if letter == b'l' {
+        look(s, area);
+        return;
+    }
     if letter == b'r' {
-        read(s, area);
+        take(false, s, area);
+        return;
+    }
+    if letter == b't' {
+        take(true, s, area);
         return;
     }
     if letter == b'w' {

@@ -158,11 +158,10 @@ pass-once w r f h u c a b h₁ u₁ c₁ h₂ u₂ c₂ p q =
     let e = p .got ∙ sym (q .got) in
     let t : a .taken ≡ b .taken = ap (λ (x : Got). x .taken) e in
     let o : a .looked ≡ b .looked = look-once r f (a .looked) (b .looked) (p .looked) (q .looked) in
-    let l : a .left ≡ b .left = p .left ∙ sym (q .left) in
-    (
+    let l : a .left ≡ b .left = p .left ∙ sym (q .left) in (
       ap (λ (x : Taken). record { taken = x; looked = a .looked; left = a .left }) t
-      ∙ ap (λ (x : Looked). record { taken = b .taken; looked = x; left = a .left }) o
-      ∙ ap (λ (x : Bool). record { taken = b .taken; looked = b .looked; left = x }) l,
+          ∙ ap (λ (x : Looked). record { taken = b .taken; looked = x; left = a .left }) o
+          ∙ ap (λ (x : Bool). record { taken = b .taken; looked = b .looked; left = x }) l,
       ap (λ (x : Got). x .heldArea) e,
       ap (λ (x : Got). x .unitArea) e,
       ap (λ (x : Got). x .recordArea) e,

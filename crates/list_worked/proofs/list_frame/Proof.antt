@@ -1,13 +1,14 @@
--- The read, the opening and the line, one after another.
+-- The frame is looked at and taken, which is the read, for no virtual channel is left out; then the opening and the line, one after another.
+use mathlib.Core.Path.{_∙_}
 use native.Mathlib.Omega.{arith}
-use Rattle.rules.proofs.Promises.{read-is}
+use Rattle.rules.proofs.Looks.{pass-all}
 use Rattle.list_worked.proofs.Texts.{length-opening, listed}
 use borrow.Author.Needs.{needs}
 use Rattle.list_worked.proofs.list_frame.Statement.{statement}
 use Rattle.list_worked.proofs.list_frame.Tie as tie
 
-read-requires : tie.Need-read-requires
-read-requires c κs = search needs
+pass-requires : tie.Need-pass-requires
+pass-requires c κs = search needs
 
 put-opening-requires : tie.Need-put-opening-requires
 put-opening-requires c κs = search needs
@@ -16,12 +17,8 @@ put-line-requires : tie.Need-put-line-requires
 put-line-requires c κs =
     let c₈ = c .before .before .before .before .before .before .before .before in
     let c₁₆ = c₈ .before .before .before .before .before .before .before .before in
-    omega (
-      arith,
-      length-opening (c₁₆ .before .before .before .before .before .before .args .k),
-      c .before .before .before .put-opening .ensures .ends,
-      c₁₆ .before .before .before .before .before .before .pre .1,
-    )
+    let b = c₁₆ .before .before .before .before .before .before .before in
+    omega (arith, length-opening (b .args .k), c .before .before .before .put-opening .ensures .ends, b .pre .1)
 
 same-length : tie.Need-same-length
 same-length c = search needs
@@ -40,16 +37,18 @@ returns c =
     let c₈ = c .before .before .before .before .before .before .before .before in
     let c₁₆ = c₈ .before .before .before .before .before .before .before .before in
     let c₂₄ = c₁₆ .before .before .before .before .before .before .before .before in
-    let a = c₂₄ .before .args in
-    listed (a .k) _ (c₈ .before .before .before .before .before .before .before .before .read .result) _ _ _ (a .area .now) _ _ _ _ (c₂₄ .before .pre .1)
-    (read-is _ _ _ _ _ _ (c₈ .before .before .before .before .before .before .before .before .read .ensures))
+    let b = c₂₄ .before .before in
+    let a = b .args in
+    let p = c₁₆ .before .pass in
+    listed (a .k) _ (p .result .taken) _ _ _ (a .area .now) _ _ _ _ (b .pre .1)
+    (p .ensures .got ∙ pass-all 63 (a .r) (a .frame .now) (a .held .now) (a .units .now) (a .records .now))
     (c .before .before .before .before .before .before .put-opening .ensures) (c .before .before .put-line .ensures)
 
 pub list-frame-spec : {M : Type 1} → statement M
 list-frame-spec =
     tie.close
     (tie.spec
-    read-requires
+    pass-requires
     put-opening-requires
     put-line-requires
     same-length

@@ -21,8 +21,7 @@ judge-frame-requires c κs = good-reader _ (sym (c .before .before .reader-ok .e
 returns : tie.Need-returns
 returns c =
     let a = c .before .before .before .before .before .args in
-    let ok : readerOk (a .r) ≡ true = sym (c .before .before .before .reader-ok .ensures) ∙ c .before .before .if1 .taken in
-    (
+    let ok : readerOk (a .r) ≡ true = sym (c .before .before .before .reader-ok .ensures) ∙ c .before .before .if1 .taken in (
       c .judge-frame .ensures .0 ∙ ap (sightOf (a .r .setting) (a .frame .now)) (sym (looked-cond (a .r) (a .frame .now) ∙ rw ok)),
       sound (a .r) (a .frame .now) ok _ (c .judge-frame .ensures .0) (c .judge-frame .ensures .1),
     )

@@ -29,10 +29,9 @@ returns c =
 act-on-requires : tie.Need-act-on-requires
 act-on-requires c κs =
     let b = c .before .before .before .before .before .before .before .before .before in
-    let a = b .args in
-    (
+    let a = b .args in (
       found-lent (a .r) (a .f .now) (a .h .now) (a .u .now) (a .c .now)
-      (sym (c .before .before .before .before .areas-short .ensures) ∙ c .before .before .before .if1 .left) (a .v) (b .pre .0),
+          (sym (c .before .before .before .before .areas-short .ensures) ∙ c .before .before .before .if1 .left) (a .v) (b .pre .0),
       b .pre .1,
     )
 
