@@ -199,25 +199,6 @@ fn take(looks: bool, s: Setting, area: &mut [u8]) {
     tell(k, sum);
 }
 
-// A look at each frame, by a reader that takes none.
-fn look(s: Setting, area: &mut [u8]) {
-    let l = reader::set_up(s);
-    let state = l.state;
-    let mut k: u64 = 0;
-    let mut sum: u64 = 0;
-    while k < 18446744073709551615 {
-        let more = next(area);
-        if !more {
-            break;
-        }
-        let o = reader::look(state, area);
-        let x = glance(o);
-        sum = plus(sum, x);
-        k += 1;
-    }
-    tell(k, sum);
-}
-
 // What goes from frame to frame while batches are written.
 struct Course {
     state: Writer,
@@ -307,15 +288,11 @@ fn pass_batches(s: Setting) {
 
 // ---- the program
 
-// The work that a word's first letter says: batches (pass by batches), look, read (a take), twice (a look, then a take), write; else pass, check, heads (they are read) or fields (they are
+// The work that a word's first letter says: batches (pass by batches), read (a take), twice (a look, then a take), write; else pass, check, heads (they are read) or fields (they are
 // written), which is a value of each frame.
 fn work(letter: u8, s: Setting, area: &mut [u8]) {
     if letter == b'b' {
         pass_batches(s);
-        return;
-    }
-    if letter == b'l' {
-        look(s, area);
         return;
     }
     if letter == b'r' {
