@@ -1,4 +1,4 @@
-//! A second program, from document 01 alone, to be compared octet for octet with the archive's.
+//! A second program, from documents 01 and 02 alone, to be compared octet for octet with the archive's.
 
 mod calls;
 mod demand3;

@@ -6,7 +6,7 @@ use mathlib.Core.List.{List}
 use Rattle.rules.specs.declared.Looked.{Looked}
 use Rattle.rules.specs.declared.Reader.{Reader}
 use Rattle.rules.specs.declared.Taken.{Taken}
-use Rattle.rules.specs.Calls.{Got, looked, look}
+use Rattle.rules.specs.Calls.{looked, look}
 use Rattle.rules.specs.Promises.{ReadGives}
 use Rattle.rules.specs.Passes.{leftOut, seen, passBy, pass, PassGives}
 use Rattle.rules.proofs.Promises.{look-by, read-is}
@@ -28,7 +28,8 @@ module _ (r : Reader) (f : List ℕ) (v : Found) (e : v ≡ foundOf r f (looked 
     unfolding pass
     by-pass k p = ap (λ (x : Bool). passBy x r f h u c) (sym p ∙ decided)
 
-    pub left-passes : b ≡ true → (t : Taken) → t ≡ record { answer = seen o; state = r } → PassGives w r f h u c (record { taken = t; looked = o; left = true }) h u c
+    pub left-passes : b ≡ true → (t : Taken) → t ≡ record { answer = seen o; state = r }
+        → PassGives w r f h u c (record { taken = t; looked = o; left = true }) h u c
     unfolding passBy
     left-passes p t a =
         record {

@@ -29,7 +29,6 @@ use Rattle.judge.specs.declared.Sighting.{Sighting}
 use Rattle.judge.specs.declared.Sighting.the-variants.{Seen}
 use Rattle.judge.specs.Sights.{readSight, sightOf, Fitting}
 use Rattle.judge.proofs.Sights.{counted-sight, read-sight}
-use Rattle.rules.specs.declared.Place.{Place}
 use Rattle.rules.specs.declared.Place.the-variants.{At, Nowhere}
 use Rattle.reader.specs.Reads.{shortOf, shortRefusal, countedOf, OnLane, SeenOn}
 use Rattle.reader.specs.declared.Found.{Found}

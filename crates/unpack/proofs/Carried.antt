@@ -13,9 +13,8 @@ use Rattle.rules.specs.declared.Setting.{Setting}
 use Rattle.rules.specs.declared.Verdict.{Verdict}
 use Rattle.rules.specs.Settings.{settingOk, readerOk}
 use Rattle.rules.specs.declared.Passed.{Passed}
-use Rattle.rules.specs.declared.Looked.{Looked}
-use Rattle.rules.specs.Calls.{Got, look}
-use Rattle.rules.specs.Passes.{whose, leftOut, pass, PassGives}
+use Rattle.rules.specs.Calls.{Got}
+use Rattle.rules.specs.Passes.{whose, pass, PassGives}
 use Rattle.rules.proofs.Promises.{look-is}
 use Rattle.rules.proofs.Calls.{setup-accepted, Small}
 use Rattle.rules.proofs.Looks.{pass-valid, pass-fits}
@@ -46,7 +45,15 @@ advanced-valid g f ok = pass-valid (g .without) (g .reader) f (g .held) (g .unit
 
 -- The stage of a turn before which nothing was read.
 abbrev first : List Bool → Turn → Stage
-first w u = record { without = w; reader = u .state; held = replicate heldSize 0; units = replicate unitsSize 0; records = replicate recordsSize 0; totals = u .totals }
+first w u =
+    record {
+      without = w;
+      reader = u .state;
+      held = replicate heldSize 0;
+      units = replicate unitsSize 0;
+      records = replicate recordsSize 0;
+      totals = u .totals;
+    }
 
 pub begins : (w : List Bool) (s : Setting) (u : Turn) → settingOk s ≡ true → u ≡ firstTurn s → (u .count ≡ 0) × Reached (first w u) (u .count) (first w u)
 unfolding firstTurn through

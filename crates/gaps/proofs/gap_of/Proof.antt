@@ -54,9 +54,10 @@ gap-by-requires c κs =
 returns : tie.Need-returns
 unfolding gap expected missingAt
 returns c =
-    let a = c .before .before .before .before .before .before .before .before .before in
+    let d = c .before .before in
+    let a = d .before .before .before .before .before .before .before in
     let t = takes (a .args .r) (a .args .c) (a .pre .0) (a .pre .1) in
-    rw (c .before .with-expect .ensures, a .pre .3, modulus-is _ _ (t .seven) (c .before .before .modulus .ensures)) at (c .gap-by .ensures)
+    rw (c .before .with-expect .ensures, a .pre .3, modulus-is _ _ (t .seven) (d .modulus .ensures)) at (c .gap-by .ensures)
 
 pub gap-of-spec : {M : Type 1} → statement M
 gap-of-spec =

@@ -24,9 +24,10 @@ enum-known-said-2 c = search needs
 
 take-seen-requires : tie.Need-take-seen-requires
 take-seen-requires c κs =
-    let b = c .before .before .before .before .before .before .before .before .before .before in
+    let d = c .before .before .before .before in
+    let b = d .before .before .before .before .before .before in
     let a = b .args in
-    let e = c .before .before .before .before .said2 .given .1 in
+    let e = d .said2 .given .1 in
     record {
       found = sym e ∙ said (a .r) (a .f .now) _ (a .v) (b .pre .0);
       missing = gone (a .r) (a .f .now) _ (a .v) (b .pre .0) _ e;

@@ -1,6 +1,5 @@
 -- `reader::find` meets its contract: what the checks say, and what is missing before a frame that they say this of.
 use mathlib.Core.Path.{ap, _∙_}
-use Rattle.judge.specs.declared.Sighting.{Sighting}
 use Rattle.reader.specs.Finds.{missingFor, foundOf}
 use Rattle.reader.proofs.Verdicts.{missing-found}
 use borrow.Author.Needs.{needs}

@@ -1,6 +1,6 @@
 -- `reader::missing_before` meets its contract: of a frame that was seen, the channel's missing.
 use mathlib.Core.Path.{sym, ap, _∙_}
-use Rattle.reader.specs.Finds.{Sound, missingFor}
+use Rattle.reader.specs.Finds.{missingFor}
 use borrow.Author.Needs.{needs}
 use Rattle.reader.proofs.missing_before.Statement.{statement}
 use Rattle.reader.proofs.missing_before.Tie as tie

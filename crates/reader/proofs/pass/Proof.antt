@@ -1,5 +1,4 @@
 -- `reader::pass` meets its contract: what was found is shown, and then it is taken, or left where the decision says so.
-use mathlib.Core.Path.{sym, _∙_}
 use Rattle.reader.proofs.Passing.{left-passes, taken-passes}
 use borrow.Author.Needs.{needs}
 use Rattle.reader.proofs.pass.Statement.{statement}

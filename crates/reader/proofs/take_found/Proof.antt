@@ -1,8 +1,6 @@
 -- `reader::take_found` meets its contract: with a short area it refuses by the rule's number, else what was found is what a read's checks say.
-use mathlib.Core.Path.{refl, sym, ap, _∙_}
-use Rattle.rules.specs.declared.Class.{Class}
-use Rattle.rules.specs.declared.Taken.{Taken}
-use Rattle.rules.specs.Calls.{bare, onVerdict}
+use mathlib.Core.Path.{refl, sym, _∙_}
+use Rattle.rules.specs.Calls.{onVerdict}
 use Rattle.reader.proofs.Verdicts.{found-lent, found-short, areas-kept}
 use borrow.Author.Needs.{needs}
 use Rattle.reader.proofs.take_found.Statement.{statement}
@@ -22,16 +20,18 @@ unfolding onVerdict
 returns c =
     let b = c .before .before .before .before .before .before .before .before in
     let a = b .args in
-    let e = found-short (a .r) (a .f .now) (a .h .now) (a .u .now) (a .c .now) (sym (c .before .before .before .areas-short .ensures) ∙ c .before .before .if1 .taken) in
+    let q = sym (c .before .before .before .areas-short .ensures) ∙ c .before .before .if1 .taken in
+    let e = found-short (a .r) (a .f .now) (a .h .now) (a .u .now) (a .c .now) q in
     areas-kept (a .r) (a .f .now) (a .h .now) (a .u .now) (a .c .now) _ _ _ e
     (c .untouched .ensures ∙ rw (c .before .short-refusal .ensures)) refl
 
 act-on-requires : tie.Need-act-on-requires
 act-on-requires c κs =
-    let b = c .before .before .before .before .before .before .before .before .before in
+    let d = c .before .before .before .before in
+    let b = d .before .before .before .before .before in
     let a = b .args in (
       found-lent (a .r) (a .f .now) (a .h .now) (a .u .now) (a .c .now)
-          (sym (c .before .before .before .before .areas-short .ensures) ∙ c .before .before .before .if1 .left) (a .v) (b .pre .0),
+          (sym (d .areas-short .ensures) ∙ c .before .before .before .if1 .left) (a .v) (b .pre .0),
       b .pre .1,
     )
 

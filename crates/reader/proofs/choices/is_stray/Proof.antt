@@ -1,6 +1,6 @@
 -- `reader::choices::is_stray` meets its contract: of a channel that is to be left out, whether it is listed.
 use mathlib.Core.Path.{_≡_, refl, sym, ap, _∙_}
-use mathlib.Core.Bool.{Bool, true, false, not, _&&_}
+use mathlib.Core.Bool.{Bool, true, false, not}
 use borrow.Author.Needs.{needs}
 use Rattle.reader.proofs.choices.is_stray.Statement.{statement}
 use Rattle.reader.proofs.choices.is_stray.Tie as tie

@@ -1,5 +1,4 @@
 -- `unpack::each_frame::totals_after` meets its contract: passed over where it is left out, counted otherwise.
-use mathlib.Core.Path.{sym, _∙_}
 use Rattle.unpack.specs.Stages.{totalsAfter}
 use borrow.Author.Needs.{needs}
 use Rattle.unpack.proofs.each_frame.totals_after.Statement.{statement}

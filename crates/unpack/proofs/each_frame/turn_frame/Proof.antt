@@ -11,8 +11,8 @@ halted-requires c κs = search needs
 
 returns : tie.Need-returns
 returns c =
-    let a = c .before .before .before .before .before .before .args in halts (a .without) (a .u) (a .came) _ _ _ _ (taken-failed (a .came) (c .before .if1 .taken))
-    (c .halted .ensures)
+    let a = c .before .before .before .before .before .before .args in
+    halts (a .without) (a .u) (a .came) _ _ _ _ (taken-failed (a .came) (c .before .if1 .taken)) (c .halted .ensures)
 
 halted-requires-2 : tie.Need-halted-requires-2
 halted-requires-2 c κs = search needs
