@@ -1,5 +1,6 @@
 -- Look beside take: where no area is short their answers are the same; looks change no later answer; and what a pass leaves as it was.
 use mathlib.Core.Path.{_≡_, refl, sym, ap, _∙_}
+use mathlib.Core.Logic.{_⊎_, inl, inr}
 use Prim.Native.Nat.{ℕ, zero, suc}
 use mathlib.Core.Bool.{Bool, true, false, cond, not}
 use mathlib.Core.List.{List, [], _∷_}
@@ -19,7 +20,7 @@ use Rattle.rules.specs.Frames.{countIn}
 use Rattle.rules.specs.Reading.{expected, gapBy, gap}
 use Rattle.rules.specs.Refusals.{refusals, judged, judge}
 use Rattle.rules.specs.Calls.{Got, areasShort, laidOut, readOn, onVerdict, verdict, read, lookRefusals, looked, missingAt, onLook, look}
-use Rattle.rules.specs.Passes.{whose, whoseOf, leftOut, passBy, pass, PassGives, Step, takes, onlyTaken}
+use Rattle.rules.specs.Passes.{whose, whoseOf, leftOut, passBy, pass, PassGives, Step, answers, ofTakes, onlyTaken}
 use Rattle.rules.proofs.Calls.{verdict-cond, read-valid, Small, read-fits}
 use Rattle.rules.proofs.Promises.{look-once}
 
@@ -97,22 +98,23 @@ module _ (r : Reader) (f h u c : List ℕ) where
 
 -- ---- looking any number of times changes no later answer
 
-pub looks-change-nothing : (xs : List Step) (r : Reader) (h u c : List ℕ) → takes r h u c xs ≡ takes r h u c (onlyTaken xs)
-unfolding takes onlyTaken
+pub looks-change-nothing : (xs : List Step) (r : Reader) (h u c : List ℕ) → ofTakes (answers r h u c xs) ≡ answers r h u c (onlyTaken xs)
+unfolding answers ofTakes onlyTaken
 looks-change-nothing [] r h u c = refl
 looks-change-nothing (x ∷ xs) r h u c =
     let after : Got = read r (x .frame) h u c in
     go (x .taken) refl (looks-change-nothing xs (after .taken .state) (after .heldArea) (after .unitArea) (after .recordArea))
     (looks-change-nothing xs r h u c)
   where
-    then : Got → List Step → List Got
-    then o ys = takes (o .taken .state) (o .heldArea) (o .unitArea) (o .recordArea) ys
+    then : Got → List Step → List (Looked ⊎ Got)
+    then o ys = answers (o .taken .state) (o .heldArea) (o .unitArea) (o .recordArea) ys
 
-    go : (t : Bool) → x .taken ≡ t → then (read r (x .frame) h u c) xs ≡ then (read r (x .frame) h u c) (onlyTaken xs)
-        → takes r h u c xs ≡ takes r h u c (onlyTaken xs)
-        → cond t (read r (x .frame) h u c ∷ then (read r (x .frame) h u c) xs) (takes r h u c xs)
-        ≡ takes r h u c (cond t (x ∷ onlyTaken xs) (onlyTaken xs))
-    go true e taken looked = rw e (ap (_∷_ (read r (x .frame) h u c)) taken)
+    go : (t : Bool) → x .taken ≡ t
+        → ofTakes (then (read r (x .frame) h u c) xs) ≡ then (read r (x .frame) h u c) (onlyTaken xs)
+        → ofTakes (answers r h u c xs) ≡ answers r h u c (onlyTaken xs)
+        → ofTakes (cond t (inr (read r (x .frame) h u c) ∷ then (read r (x .frame) h u c) xs) (inl (look r (x .frame)) ∷ answers r h u c xs))
+        ≡ answers r h u c (cond t (x ∷ onlyTaken xs) (onlyTaken xs))
+    go true e taken looked = rw e (ap (_∷_ (inr (read r (x .frame) h u c))) taken)
     go false e taken looked = looked
 
 -- ---- a pass

@@ -1,5 +1,6 @@
 -- "Operators decide after the checks whether a frame goes into this pass" (document 02, A7): what look and take make together.
 use mathlib.Core.Path.{_≡_}
+use mathlib.Core.Logic.{_⊎_, inl, inr}
 use Prim.Native.Nat.{ℕ}
 use mathlib.Core.Bool.{Bool, true, false, cond, _&&_}
 use mathlib.Core.List.{List, [], _∷_}
@@ -64,14 +65,20 @@ pub record Step : Type 0 where
   pub frame : List ℕ
   pub taken : Bool
 
--- What the takes give.
-unfoldable pub takes : Reader → List ℕ → List ℕ → List ℕ → List Step → List Got
-takes r h u c [] = []
-takes r h u c (x ∷ xs) =
+-- What each answers: a look its answer, a take everything that comes back.
+unfoldable pub answers : Reader → List ℕ → List ℕ → List ℕ → List Step → List (Looked ⊎ Got)
+answers r h u c [] = []
+answers r h u c (x ∷ xs) =
     let o : Got = read r (x .frame) h u c in
-    cond (x .taken) (o ∷ takes (o .taken .state) (o .heldArea) (o .unitArea) (o .recordArea) xs) (takes r h u c xs)
+    cond (x .taken) (inr o ∷ answers (o .taken .state) (o .heldArea) (o .unitArea) (o .recordArea) xs)
+    (inl (look r (x .frame)) ∷ answers r h u c xs)
 
--- The same steps without the looks.
+-- The answers of the takes alone, and the steps that are takes.
+unfoldable pub ofTakes : List (Looked ⊎ Got) → List (Looked ⊎ Got)
+ofTakes [] = []
+ofTakes (inl o ∷ xs) = ofTakes xs
+ofTakes (inr o ∷ xs) = inr o ∷ ofTakes xs
+
 unfoldable pub onlyTaken : List Step → List Step
 onlyTaken [] = []
 onlyTaken (x ∷ xs) = cond (x .taken) (x ∷ onlyTaken xs) (onlyTaken xs)
