@@ -1,6 +1,6 @@
 // What an operator decides between a look and a take: by virtual channel.
 ghost use mathlib.Core.Path.{_≡_};
-ghost use mathlib.Core.Bool.{false, not, _&&_};
+ghost use mathlib.Core.Bool.{false, _&&_};
 ghost use Prim.Native.Nat.{_≤_};
 ghost use lib.ListN.{getD};
 ghost use Rattle.rules.specs.Settings.{channel};
@@ -44,19 +44,19 @@ fn is_named(without: [bool; 63], v: usize) -> bool
     false
 }
 
-// Whether virtual channel v is listed, with either service.
-fn is_listed(s: Setting, v: u8) -> bool
+// Whether virtual channel v is listed with neither service.
+fn is_unlisted(s: Setting, v: u8) -> bool
     requires { ⌜ s .listed ≤ 8 ⌝ }
-    ensures { λ b. ⌜ b ≡ not (none (channelAt s v 0) && none (channelAt s v 1)) ⌝ }
+    ensures { λ b. ⌜ b ≡ (none (channelAt s v 0) && none (channelAt s v 1)) ⌝ }
 {
     let p = setting::channel_at(s, v, 0);
     match p {
-        Place::At(_) => true,
+        Place::At(_) => false,
         Place::Nowhere => {
             let q = setting::channel_at(s, v, 1);
             match q {
-                Place::At(_) => true,
-                Place::Nowhere => false,
+                Place::At(_) => false,
+                Place::Nowhere => true,
             }
         }
     }
@@ -69,8 +69,7 @@ fn is_stray(without: [bool; 63], s: Setting, v: u8) -> bool
 {
     let named = is_named(without, v as usize);
     if named {
-        let listed = is_listed(s, v);
-        return !listed;
+        return is_unlisted(s, v);
     }
     false
 }

@@ -21,6 +21,7 @@ use Rattle.rules.specs.Reading.{expected, gapBy, gap}
 use Rattle.rules.specs.Refusals.{refusals, judged, judge}
 use Rattle.rules.specs.Calls.{Got, areasShort, laidOut, readOn, onVerdict, verdict, read, lookRefusals, looked, missingAt, onLook, look}
 use Rattle.rules.specs.Passes.{whose, whoseOf, leftOut, passBy, pass, PassGives, Step, answers, ofTakes, onlyTaken}
+use Rattle.rules.proofs.Tests.{getD-alike}
 use Rattle.rules.proofs.Calls.{verdict-cond, read-valid, Small, read-fits}
 use Rattle.rules.proofs.Promises.{look-once}
 
@@ -124,13 +125,8 @@ pub pass-all : (n : ℕ) (r : Reader) (f h u c : List ℕ) → pass (replicate n
 unfolding pass leftOut passBy
 pass-all n r f h u c = ap (λ (b : Bool). passBy b r f h u c) (go ((look r f) .channel))
   where
-    none-so : (n i : ℕ) → getD (replicate n false) i false ≡ false
-    none-so zero i = refl
-    none-so (suc n) zero = refl
-    none-so (suc n) (suc i) = none-so n i
-
     go : (p : Place) → at p (λ (k : ℕ). getD (replicate n false) ((channel (r .setting) k) .vc) false) ≡ false
-    go (At k) = none-so n ((channel (r .setting) k) .vc)
+    go (At k) = getD-alike n ((channel (r .setting) k) .vc) false
     go Nowhere = refl
 
 -- A valid state stays valid.

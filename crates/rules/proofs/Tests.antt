@@ -6,7 +6,7 @@ use native.Mathlib.Decide.{decLe}
 use native.Mathlib.Omega.{arith}
 use mathlib.Core.Bool.{Bool, true, false, cond, _&&_, _||_, and-eq-true-iff, true≢false}
 use mathlib.Core.List.{List, [], _∷_}
-use lib.ListN.{getD}
+use lib.ListN.{getD, replicate}
 use Rattle.rules.specs.declared.Place.{Place}
 use Rattle.rules.specs.declared.Place.the-variants.{At, Nowhere}
 use Rattle.rules.specs.Tests.{all, every, before, first, Refusal, given}
@@ -37,6 +37,12 @@ or-none false b e = (refl, e)
 pub none-or : (a b : Bool) → a ≡ false → b ≡ false → (a || b) ≡ false
 none-or true b p q = absurd (true≢false p)
 none-or false b p q = q
+
+-- A list of one value has it at each place, and past its end where it is what stands for none.
+pub getD-alike : {A : Type 0} (n i : ℕ) (a : A) → getD (replicate n a) i a ≡ a
+getD-alike zero i a = refl
+getD-alike (suc n) zero a = refl
+getD-alike (suc n) (suc i) a = getD-alike n i a
 
 -- ---- all, every
 

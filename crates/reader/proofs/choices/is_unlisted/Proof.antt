@@ -1,8 +1,8 @@
--- `reader::choices::is_listed` meets its contract: it is listed where one of the services finds it.
+-- `reader::choices::is_unlisted` meets its contract: it is listed where one of the services finds it.
 use mathlib.Core.Path.{sym, _∙_}
 use borrow.Author.Needs.{needs}
-use Rattle.reader.proofs.choices.is_listed.Statement.{statement}
-use Rattle.reader.proofs.choices.is_listed.Tie as tie
+use Rattle.reader.proofs.choices.is_unlisted.Statement.{statement}
+use Rattle.reader.proofs.choices.is_unlisted.Tie as tie
 
 channel-at-requires : tie.Need-channel-at-requires
 channel-at-requires c κs = search needs
@@ -35,8 +35,8 @@ returns-3 c =
     let b = c .before .before .before in
     rw (sym (b .before .before .channel-at .ensures) ∙ b .enum-told2 .given .1, sym (c .before .before .channel-at2 .ensures) ∙ c .enum-told4 .given .1)
 
-pub is-listed-spec : {M : Type 1} → statement M
-is-listed-spec =
+pub is-unlisted-spec : {M : Type 1} → statement M
+is-unlisted-spec =
     tie.close
     (tie.spec
     channel-at-requires
