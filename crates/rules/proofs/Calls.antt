@@ -24,7 +24,7 @@ use Rattle.rules.specs.Frames.{countIn, ruleIn, pointerIn, zoneIn, point
 use Rattle.rules.specs.Writing.{batchOk, frames}
 use Rattle.rules.specs.Reading.{gap, octetsOf, Made}
 use Rattle.rules.specs.Refusals.{refusals, judged, judge}
-use Rattle.rules.specs.Calls.{setUpReader, setUpWriter, writeRefusals, written, write, areasShort, bare, laidOut, madeBy, readOn, onVerdict, readRefusals, verdict, read}
+use Rattle.rules.specs.Calls.{setUpReader, setUpWriter, writeRefusals, written, write, areasShort, bare, laidOut, madeBy, readOn, repeatsAt, again, onVerdict, readRefusals, verdict, read}
 use Rattle.rules.proofs.Tests.{or-none, given-zero}
 use Rattle.rules.specs.Valid.{GoodKind, GoodReader, GoodWriter}
 use Rattle.rules.proofs.Valid.{good-reader, good-writer, good-channelOf}
@@ -126,6 +126,7 @@ Ruled r f h u c (Verdict.Refused n) = Unit {0}
 Ruled r f h u c Verdict.Idle = Ordered r f h u c Verdict.Idle
 Ruled r f h u c (Verdict.Counted k) = Ordered r f h u c (Verdict.Counted k)
 Ruled r f h u c (Verdict.Read l) = Ordered r f h u c (Verdict.Read l)
+Ruled r f h u c (Verdict.Repeat k) = Ordered r f h u c (Verdict.Repeat k)
 
 module _ (r : Reader) (f h u c : List ℕ) where
   ruled : (v : Verdict) → Ordered r f h u c v → Ruled r f h u c v
@@ -133,14 +134,32 @@ module _ (r : Reader) (f h u c : List ℕ) where
   ruled Verdict.Idle o = o
   ruled (Verdict.Counted k) o = o
   ruled (Verdict.Read l) o = o
+  ruled (Verdict.Repeat k) o = o
+
+  -- What the checks say of a repeat holds of it.
+  again-judged : GoodReader r → (v : Verdict) → Judged (r .setting) f v → Judged (r .setting) f (again r f v)
+  unfolding again
+  again-judged g (Verdict.Refused n) j = j
+  again-judged g Verdict.Idle j = j
+  again-judged g (Verdict.Counted k) j = go (repeatsAt r k (countIn (channel (r .setting) k) f))
+    where
+      go : (t : Bool) → Judged (r .setting) f (cond t (Verdict.Repeat k) (Verdict.Counted k))
+      go true = j
+      go false = j
+  again-judged g (Verdict.Read l) j = go (repeatsAt r ((lane (r .setting) l) .channel) (countIn (channelOf (r .setting) l) f))
+    where
+      go : (t : Bool) → Judged (r .setting) f (cond t (Verdict.Repeat ((lane (r .setting) l) .channel)) (Verdict.Read l))
+      go true = (g .setting .lanes l (j .numbered) .channel, j .whole)
+      go false = j
+  again-judged g (Verdict.Repeat k) j = j
 
   -- The table's first two rows come before the frame's own.
-  pub verdict-cond : verdict r f h u c ≡ cond (not (readerOk r)) (Verdict.Refused 1) (cond (areasShort h u c) (Verdict.Refused 2) (judge (r .setting) f))
-  unfolding verdict readRefusals given judged judge
+  pub verdict-cond : verdict r f h u c ≡ cond (not (readerOk r)) (Verdict.Refused 1) (cond (areasShort h u c) (Verdict.Refused 2) (again r f (judge (r .setting) f)))
+  unfolding verdict readRefusals given judged judge again
   verdict-cond = go (readerOk r) (areasShort h u c)
     where
-      go : (a b : Bool) → judged (r .setting) f (cond (not a) 1 (cond b 2 (given (refusals (r .setting) f))))
-          ≡ cond (not a) (Verdict.Refused 1) (cond b (Verdict.Refused 2) (judge (r .setting) f))
+      go : (a b : Bool) → again r f (judged (r .setting) f (cond (not a) 1 (cond b 2 (given (refusals (r .setting) f)))))
+          ≡ cond (not a) (Verdict.Refused 1) (cond b (Verdict.Refused 2) (again r f (judge (r .setting) f)))
       go true true = refl
       go true false = refl
       go false b = refl
@@ -149,9 +168,12 @@ module _ (r : Reader) (f h u c : List ℕ) where
   verdict-facts = rw verdict-cond (go (readerOk r) refl (areasShort h u c) refl)
     where
       go : (a : Bool) → readerOk r ≡ a → (b : Bool) → areasShort h u c ≡ b
-          → Ruled r f h u c (cond (not a) (Verdict.Refused 1) (cond b (Verdict.Refused 2) (judge (r .setting) f)))
+          → Ruled r f h u c (cond (not a) (Verdict.Refused 1) (cond b (Verdict.Refused 2) (again r f (judge (r .setting) f))))
       go true e true q = tt
-      go true e false q = ruled (judge (r .setting) f) (record { good = good-reader r e; areas = q; judged = judge-facts (r .setting) f })
+      go true e false q =
+          let g : GoodReader r = good-reader r e in
+          ruled (again r f (judge (r .setting) f))
+          (record { good = g; areas = q; judged = again-judged g (judge (r .setting) f) (judge-facts (r .setting) f) })
       go false e b q = tt
 
   -- A refusal changes no octet and no state, and all its counts are 0.
@@ -167,6 +189,7 @@ module _ (r : Reader) (f h u c : List ℕ) where
       go Verdict.Idle q = unfold onVerdict in let z : _≡_ {A = ℕ} 0 1 = cc in absurd (omega arith)
       go (Verdict.Counted k) q = unfold onVerdict in let z : _≡_ {A = ℕ} 0 1 = cc in absurd (omega arith)
       go (Verdict.Read l) q = unfold onVerdict readOn laidOut in let z : _≡_ {A = ℕ} 0 1 = cc in absurd (omega arith)
+      go (Verdict.Repeat k) q = unfold onVerdict in let z : _≡_ {A = ℕ} 0 1 = cc in absurd (omega arith)
 
 -- ---- what a lane that reads makes
 
@@ -238,6 +261,7 @@ read-valid r f h u c ok = go (verdict r f h u c) (verdict-facts r f h u c)
         let k : ℕ = countIn (channelOf (r .setting) l) f in
         reader-ok _ (good-slot _ (good-gap r (o .good) ((lane (r .setting) l) .channel) k) l _
         (made-below r f h l (o .good) (o .judged .numbered) k (channelOf (r .setting) l)))
+    go (Verdict.Repeat k) o = unfold onVerdict in ok
 
 -- Units and records of any frame fit 12,288 and 9,600 octets.
 pub record Small (a : Answer) : Type 0 where
@@ -256,3 +280,4 @@ read-fits r f h u c = go (verdict r f h u c) (verdict-facts r f h u c)
         unfold onVerdict readOn laidOut in
         let m = made-fits r f h l (o .good) (o .judged .numbered) (countIn (channelOf (r .setting) l) f) (o .judged .whole) (channelOf (r .setting) l) in
         record { octets = m .octets; records = m .records }
+    go (Verdict.Repeat k) o = unfold onVerdict in record { octets = omega arith; records = omega arith }

@@ -11,7 +11,7 @@ use Rattle.rules.specs.declared.Setting.{Setting}
 use Rattle.rules.specs.declared.Place.{Place}
 use Rattle.rules.specs.declared.Place.the-variants.{At, Nowhere}
 use Rattle.rules.specs.declared.Verdict.{Verdict}
-use Rattle.rules.specs.declared.Verdict.the-variants.{Refused, Idle, Counted, Read}
+use Rattle.rules.specs.declared.Verdict.the-variants.{Refused, Idle, Counted, Read, Repeat}
 use Rattle.rules.specs.Tests.{_<?_, _=?_, _≠?_, none, at, given}
 use Rattle.rules.specs.Octets.{num, bits, flag}
 use Rattle.rules.specs.Settings.{channel, lane, zone}
@@ -74,6 +74,7 @@ Judged s f (Refused n) = Unit {0}
 Judged s f Idle = Unit {0}
 Judged s f (Counted c) = (c < s .listed) × (length f ≡ s .length)
 Judged s f (Read l) = Reads s f l
+Judged s f (Repeat c) = (c < s .listed) × (length f ≡ s .length)
 
 points : (p z : ℕ) → (p <? z || p =? 0xFFFF) ≡ true → Inside z (pointsTo p)
 unfolding pointsTo

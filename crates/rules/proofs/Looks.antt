@@ -19,7 +19,7 @@ use Rattle.rules.specs.Settings.{channel, lane, channelOf, readerOk, wit
 use Rattle.rules.specs.Frames.{countIn}
 use Rattle.rules.specs.Reading.{expected, gapBy, gap}
 use Rattle.rules.specs.Refusals.{refusals, judged, judge}
-use Rattle.rules.specs.Calls.{Got, areasShort, laidOut, readOn, onVerdict, verdict, read, lookRefusals, looked, missingAt, onLook, look}
+use Rattle.rules.specs.Calls.{Got, areasShort, laidOut, readOn, again, onVerdict, verdict, read, lookRefusals, looked, missingAt, onLook, look}
 use Rattle.rules.specs.Passes.{whose, whoseOf, leftOut, passBy, pass, PassGives, Step, answers, ofTakes, onlyTaken}
 use Rattle.rules.proofs.Tests.{getD-alike}
 use Rattle.rules.proofs.Calls.{verdict-cond, read-valid, Small, read-fits}
@@ -29,12 +29,12 @@ use Rattle.rules.proofs.Promises.{look-once}
 
 module _ (r : Reader) (f : List ℕ) where
   -- The table's first row comes before the frame's own.
-  pub looked-cond : looked r f ≡ cond (not (readerOk r)) (Verdict.Refused 1) (judge (r .setting) f)
-  unfolding looked lookRefusals given judged judge
+  pub looked-cond : looked r f ≡ cond (not (readerOk r)) (Verdict.Refused 1) (again r f (judge (r .setting) f))
+  unfolding looked lookRefusals given judged judge again
   looked-cond = go (readerOk r)
     where
-      go : (a : Bool) → judged (r .setting) f (cond (not a) 1 (given (refusals (r .setting) f)))
-          ≡ cond (not a) (Verdict.Refused 1) (judge (r .setting) f)
+      go : (a : Bool) → again r f (judged (r .setting) f (cond (not a) 1 (given (refusals (r .setting) f))))
+          ≡ cond (not a) (Verdict.Refused 1) (again r f (judge (r .setting) f))
       go true = refl
       go false = refl
 
@@ -48,6 +48,7 @@ module _ (r : Reader) (f : List ℕ) where
       go Verdict.Idle = unfold onLook whoseOf in refl
       go (Verdict.Counted c) = unfold onLook whoseOf in refl
       go (Verdict.Read l) = unfold onLook whoseOf in refl
+      go (Verdict.Repeat c) = unfold onLook whoseOf in refl
 
 -- A gap has as many missing as a look says.
 pub gap-missing : (r : Reader) (c k : ℕ) → (gap r c k) .missing ≡ missingAt r c k
@@ -82,6 +83,7 @@ module _ (r : Reader) (f h u c : List ℕ) where
       classes Verdict.Idle = unfold onLook onVerdict in refl
       classes (Verdict.Counted k) = unfold onLook onVerdict in refl
       classes (Verdict.Read l) = unfold onLook onVerdict readOn laidOut in refl
+      classes (Verdict.Repeat k) = unfold onLook onVerdict in refl
 
       missings : (v : Verdict) → (onLook v r f) .missing ≡ (onVerdict v r f h u c) .taken .answer .missing
       missings (Verdict.Refused n) = unfold onLook onVerdict in refl
@@ -89,6 +91,7 @@ module _ (r : Reader) (f h u c : List ℕ) where
       missings (Verdict.Counted k) = unfold onLook onVerdict in sym (gap-missing r k (countIn (channel (r .setting) k) f))
       missings (Verdict.Read l) =
           unfold onLook onVerdict readOn laidOut in sym (gap-missing r ((lane (r .setting) l) .channel) (countIn (channelOf (r .setting) l) f))
+      missings (Verdict.Repeat k) = unfold onLook onVerdict in refl
 
   -- With a short area a take gives 2, whatever the look said of the frame.
   pub short-gives-two : readerOk r ≡ true → areasShort h u c ≡ true → (read r f h u c) .taken .answer .class ≡ Class.Refused 2

@@ -26,7 +26,7 @@ use Rattle.rules.specs.Tests.{_=?_, none, Refusal, given}
 use Rattle.rules.specs.Settings.{channel, lane, settingOk, freshReader, freshWriter, noReader, noWriter}
 use Rattle.rules.specs.Frames.{vc, map, bypass, command, countIn}
 use Rattle.rules.specs.Refusals.{channelAt, laneAt, refusalsAt, refusals, onChannel, passed, judged}
-use Rattle.rules.specs.Calls.{refusalOf, classRefusal, setUpReader, setUpWriter, Sent, writeRefusals, written, write, Got, laidOut, readOn, onVerdict, readRefusals, verdict, read, lookRefusals, looked, onLook, look}
+use Rattle.rules.specs.Calls.{refusalOf, classRefusal, setUpReader, setUpWriter, Sent, writeRefusals, written, write, Got, laidOut, readOn, repeatsAt, again, onVerdict, readRefusals, verdict, read, lookRefusals, looked, onLook, look}
 use Rattle.rules.specs.Promises.{readerNumbers, writerNumbers, setUpNumbers, lookNumbers, among, Told, outcomeLeaves, setUpRefusals, ReaderStarts, WriterStarts, WriteGives, placed, channelIn, laneIn, classIn, countOf, gapIn, madeIn, Values, valuesIn, classValues, classState, classArea, ReadGives, missingIn, classMissing, classChannel, classLane, LookGives}
 use Rattle.rules.proofs.Tests.{and-left, given-zero, first-found, Found}
 use Rattle.rules.specs.Valid.{Good}
@@ -80,9 +80,11 @@ unfolding classRefusal
 class-once k Class.Idle b n p d q e = d (sym p) ∙ sym (e (sym p))
 class-once k Class.Counted b n p d q e = d (sym p) ∙ sym (e (sym p))
 class-once k Class.Read b n p d q e = d (sym p) ∙ sym (e (sym p))
+class-once k Class.Repeat b n p d q e = d (sym p) ∙ sym (e (sym p))
 class-once k (Class.Refused x) Class.Idle n p d q e = d (sym q) ∙ sym (e (sym q))
 class-once k (Class.Refused x) Class.Counted n p d q e = d (sym q) ∙ sym (e (sym q))
 class-once k (Class.Refused x) Class.Read n p d q e = d (sym q) ∙ sym (e (sym q))
+class-once k (Class.Refused x) Class.Repeat n p d q e = d (sym q) ∙ sym (e (sym q))
 class-once k (Class.Refused x) (Class.Refused y) n p d q e = ap Class.Refused (p ∙ sym q)
 
 -- ---- set-up
@@ -197,41 +199,52 @@ got-same a b t x y z =
 -- ---- a frame that passes the checks
 
 -- Its class, channel and lane are those of the verdict.
-abbrev Passes : Setting → List ℕ → Verdict → Type 0
-Passes s f (Verdict.Refused n) = ⊥
-Passes s f Verdict.Idle = classIn s f ≡ Class.Idle
-Passes s f (Verdict.Counted k) = (channelIn s f ≡ k) × (classIn s f ≡ Class.Counted)
-Passes s f (Verdict.Read l) = (channelIn s f ≡ (lane s l) .channel) × (laneIn s f ≡ l) × (classIn s f ≡ Class.Read)
+abbrev Passes : Reader → List ℕ → Verdict → Type 0
+Passes r f (Verdict.Refused n) = ⊥
+Passes r f Verdict.Idle = classIn r f ≡ Class.Idle
+Passes r f (Verdict.Counted k) = (channelIn (r .setting) f ≡ k) × (classIn r f ≡ Class.Counted)
+Passes r f (Verdict.Read l) = (channelIn (r .setting) f ≡ (lane (r .setting) l) .channel) × (laneIn (r .setting) f ≡ l) × (classIn r f ≡ Class.Read)
+Passes r f (Verdict.Repeat k) = (channelIn (r .setting) f ≡ k) × (classIn r f ≡ Class.Repeat)
 
-module _ (s : Setting) (f : List ℕ) where
+module _ (r : Reader) (f : List ℕ) where
+  abbrev s : Setting
+  s = r .setting
+
+  -- Of a frame of channel k: whether it is a repeat, and else whether it is a command or its map in no lane.
   class-other : vc f =? 63 ≡ false → (k : ℕ) → channelIn s f ≡ k → (p : Place) → laneAt s k (map f) ≡ p → (t : Bool) → command f =? 1 ≡ t
-      → classIn s f ≡ cond (t || none p) Class.Counted Class.Read
-  unfolding classIn
-  class-other e k q p o t a = rw (e, q, o, a)
+      → (b : Bool) → repeatsAt r k (countIn (channel s k) f) ≡ b → classIn r f ≡ cond b Class.Repeat (cond (t || none p) Class.Counted Class.Read)
+  unfolding classIn countOf
+  class-other e k q p o t a b z = rw (e, q, o, a, z)
 
   lane-passes : vc f =? 63 ≡ false → (k : ℕ) → channelIn s f ≡ k → (p : Place) → laneAt s k (map f) ≡ p
-      → Found (λ (l : ℕ). (lane s l) .channel =? k && (lane s l) .map =? map f) (s .numbered) p → Passes s f (onChannel f k p)
-  unfolding onChannel laneIn
-  lane-passes e k q Nowhere o i = go (command f =? 1) refl
+      → Found (λ (l : ℕ). (lane s l) .channel =? k && (lane s l) .map =? map f) (s .numbered) p → Passes r f (again r f (onChannel f k p))
+  unfolding again onChannel laneIn
+  lane-passes e k q Nowhere o i = go (command f =? 1) refl (repeatsAt r k (countIn (channel s k) f)) refl
     where
-      go : (t : Bool) → command f =? 1 ≡ t → Passes s f (Verdict.Counted k)
-      go true a = (q, class-other e k q Nowhere o true a)
-      go false a = (q, class-other e k q Nowhere o false a)
-  lane-passes e k q (At l) o i = go (command f =? 1) refl
+      go : (t : Bool) → command f =? 1 ≡ t → (b : Bool) → repeatsAt r k (countIn (channel s k) f) ≡ b
+          → Passes r f (cond b (Verdict.Repeat k) (Verdict.Counted k))
+      go t a true z = (q, class-other e k q Nowhere o t a true z)
+      go true a false z = (q, class-other e k q Nowhere o true a false z)
+      go false a false z = (q, class-other e k q Nowhere o false a false z)
+  lane-passes e k q (At l) o i = go (command f =? 1) refl (repeatsAt r k (countIn (channel s k) f)) refl
     where
       on : (lane s l) .channel ≡ k
       on = eqb-true _ _ (and-left _ _ (i .1))
 
-      go : (t : Bool) → command f =? 1 ≡ t → Passes s f (cond t (Verdict.Counted k) (Verdict.Read l))
-      go true a = (q, class-other e k q (At l) o true a)
-      go false a = (q ∙ sym on, rw q (ap placed o), class-other e k q (At l) o false a)
+      go : (t : Bool) → command f =? 1 ≡ t → (b : Bool) → repeatsAt r k (countIn (channel s k) f) ≡ b
+          → Passes r f (again r f (cond t (Verdict.Counted k) (Verdict.Read l)))
+      go true a true z = rw z (q, class-other e k q (At l) o true a true z)
+      go true a false z = rw z (q, class-other e k q (At l) o true a false z)
+      go false a true z = rw (on, z) (q, class-other e k q (At l) o false a true z)
+      go false a false z = rw (on, z) (q ∙ sym on, rw q (ap placed o), class-other e k q (At l) o false a false z)
 
   channel-passes : Good s → (p : Place) → channelAt s (vc f) (bypass f) ≡ p
-      → Found (λ (k : ℕ). (channel s k) .vc =? vc f && (channel s k) .service =? bypass f) (s .listed) p → Clear s f p → Passes s f (passed s f p)
-  unfolding passed channelIn laneAt
+      → Found (λ (k : ℕ). (channel s k) .vc =? vc f && (channel s k) .service =? bypass f) (s .listed) p → Clear s f p
+      → Passes r f (again r f (passed s f p))
+  unfolding passed channelIn laneAt again
   channel-passes g Nowhere q i k = go (vc f =? 63) refl (k .row₉)
     where
-      go : (t : Bool) → vc f =? 63 ≡ t → (not t && true) ≡ false → classIn s f ≡ Class.Idle
+      go : (t : Bool) → vc f =? 63 ≡ t → (not t && true) ≡ false → classIn r f ≡ Class.Idle
       go true e z = unfold classIn in rw e
       go false e z = absurd (true≢false z)
   channel-passes g (At j) q i k =
@@ -239,38 +252,37 @@ module _ (s : Setting) (f : List ℕ) where
       lane-passes (ne-eqb (vc f) 63 (λ (e : vc f ≡ 63). omega (arith, v, e, g .channels j (i .0) .vc))) j (ap placed q) (laneAt s j (map f)) refl
       (first-found _ (s .numbered))
 
-  passes : Good s → given (refusals s f) ≡ 0 → Passes s f (passed s f (channelAt s (vc f) (bypass f)))
+  passes : Good s → given (refusals s f) ≡ 0 → Passes r f (again r f (passed s f (channelAt s (vc f) (bypass f))))
   unfolding refusals channelAt
   passes g e = channel-passes g (channelAt s (vc f) (bypass f)) refl (first-found _ (s .listed)) (clear e)
 
   -- No frame that passes is refused.
-  class-given : (n : ℕ) → classIn s f ≡ Class.Refused n → ⊥
+  class-given : (n : ℕ) → classIn r f ≡ Class.Refused n → ⊥
   unfolding classIn
-  class-given n e = never (vc f =? 63) (command f =? 1 || none (laneAt s (channelIn s f) (map f))) e
+  class-given n e =
+      never (vc f =? 63) (repeatsAt r (channelIn s f) (countOf s f)) (command f =? 1 || none (laneAt s (channelIn s f) (map f))) e
     where
-      never : (t t′ : Bool) → cond t Class.Idle (cond t′ Class.Counted Class.Read) ≡ Class.Refused n → ⊥
-      never true t′ q = let z : _≡_ {A = ℕ} 0 1 = cc in omega (arith, z)
-      never false true q = let z : _≡_ {A = ℕ} 0 1 = cc in omega (arith, z)
-      never false false q = let z : _≡_ {A = ℕ} 0 1 = cc in omega (arith, z)
+      never : (t b t′ : Bool) → cond t Class.Idle (cond b Class.Repeat (cond t′ Class.Counted Class.Read)) ≡ Class.Refused n → ⊥
+      never true b t′ q = let z : _≡_ {A = ℕ} 0 1 = cc in omega (arith, z)
+      never false true t′ q = let z : _≡_ {A = ℕ} 0 1 = cc in omega (arith, z)
+      never false false true q = let z : _≡_ {A = ℕ} 0 1 = cc in omega (arith, z)
+      never false false false q = let z : _≡_ {A = ℕ} 0 1 = cc in omega (arith, z)
 
   -- A refusal by a class has a number of its table.
-  class-among : (rs : List Refusal) (k : Class) → classRefusal k ≡ given rs → (given rs ≡ 0 → k ≡ classIn s f) → (n : ℕ) → k ≡ Class.Refused n
+  class-among : (rs : List Refusal) (k : Class) → classRefusal k ≡ given rs → (given rs ≡ 0 → k ≡ classIn r f) → (n : ℕ) → k ≡ Class.Refused n
       → among n (numbers rs) ≡ true
   unfolding classRefusal
-  class-among rs k r d n e = go (given-among rs)
+  class-among rs k e d n q = go (given-among rs)
     where
       go : (given rs ≡ 0) ⊎ (among (given rs) (numbers rs) ≡ true) → among n (numbers rs) ≡ true
-      go (inl z) = absurd (class-given n (sym (d z) ∙ e))
-      go (inr q) = rw (ap classRefusal (sym e) ∙ r) q
+      go (inl z) = absurd (class-given n (sym (d z) ∙ q))
+      go (inr z) = rw (ap classRefusal (sym q) ∙ e) z
 
 -- ---- read
 
 module _ (r : Reader) (f h u c : List ℕ) where
   abbrev pub Keeps : Got → Type 0
   Keeps o = ReadGives r f h u c (o .taken) (o .heldArea) (o .unitArea) (o .recordArea)
-
-  abbrev s : Setting
-  s = r .setting
 
   -- A refusal, or none.
   refused-gives : (n : ℕ) → given (readRefusals r f h u c) ≡ suc n → Keeps (onVerdict (Verdict.Refused (suc n)) r f h u c)
@@ -286,7 +298,7 @@ module _ (r : Reader) (f h u c : List ℕ) where
         records = refl;
       }
 
-  passed-gives : given (readRefusals r f h u c) ≡ 0 → (v : Verdict) → Passes s f v → Keeps (onVerdict v r f h u c)
+  passed-gives : given (readRefusals r f h u c) ≡ 0 → (v : Verdict) → Passes r f v → Keeps (onVerdict v r f h u c)
   unfolding onVerdict readOn laidOut classRefusal valuesIn classValues classState classArea gapIn madeIn countOf
   passed-gives z (Verdict.Refused n) p = absurd p
   passed-gives z Verdict.Idle e =
@@ -301,21 +313,24 @@ module _ (r : Reader) (f h u c : List ℕ) where
         state = rw (p .0, p .1);
         held = rw (p .0, p .1);
         units = rw (p .0, p .1);
-        records = rw (p .0, p .1, gap-setting r ((lane s l) .channel) (countIn (channel (r .setting) ((lane s l) .channel)) f));
+        records = rw (p .0, p .1, gap-setting r ((lane (r .setting) l) .channel) (countIn (channel (r .setting) ((lane (r .setting) l) .channel)) f));
       }
+  passed-gives z (Verdict.Repeat k) p =
+      record { refusal = sym z; class = λ i. sym (p .1); values = refl; state = refl; held = refl; units = refl; records = refl }
 
   -- The rule of a read keeps the promise.
   pub read-gives : Keeps (read r f h u c)
   unfolding read verdict readRefusals
   read-gives = go (given (readRefusals r f h u c)) refl
     where
-      go : (n : ℕ) → given (readRefusals r f h u c) ≡ n → Keeps (onVerdict (judged s f n) r f h u c)
+      go : (n : ℕ) → given (readRefusals r f h u c) ≡ n → Keeps (onVerdict (again r f (judged (r .setting) f n)) r f h u c)
       go zero e =
           unfold judged in
           let r₁ = given-zero _ _ (zero-lt-suc 0) e in
           let r₂ = given-zero _ _ (zero-lt-suc 1) (r₁ .1) in
-          passed-gives e (passed s f (channelAt s (vc f) (bypass f))) (passes s f (good-reader r (not-false _ (r₁ .0)) .setting) (r₂ .1))
-      go (suc n) e = unfold judged in refused-gives n e
+          passed-gives e (again r f (passed (r .setting) f (channelAt (r .setting) (vc f) (bypass f))))
+          (passes r f (good-reader r (not-false _ (r₁ .0)) .setting) (r₂ .1))
+      go (suc n) e = unfold judged again in refused-gives n e
 
   -- Outcomes allowed for one input are equal.
   pub read-once : (a b : Got) → Keeps a → Keeps b → a ≡ b
@@ -335,7 +350,7 @@ module _ (r : Reader) (f h u c : List ℕ) where
   -- "Reader 1 to 12."
   pub read-number : (a : Got) → Keeps a → (n : ℕ) → a .taken .answer .class ≡ Class.Refused n → among n readerNumbers ≡ true
   unfolding readRefusals refusals refusalsAt numbers
-  read-number a p n e = class-among s f (readRefusals r f h u c) _ (p .refusal) (p .class) n e
+  read-number a p n e = class-among r f (readRefusals r f h u c) _ (p .refusal) (p .class) n e
 
 -- ---- look
 
@@ -345,7 +360,7 @@ module _ (r : Reader) (f : List ℕ) where
   refused-looks n e =
       record { refusal = sym e; class = λ z. absurd (omega (arith, sym e ∙ z)); missing = refl; channel = refl; lane = refl }
 
-  passed-looks : given (lookRefusals r f) ≡ 0 → (v : Verdict) → Passes (r .setting) f v → LookGives r f (onLook v r f)
+  passed-looks : given (lookRefusals r f) ≡ 0 → (v : Verdict) → Passes r f v → LookGives r f (onLook v r f)
   unfolding onLook classRefusal classMissing classChannel classLane missingIn countOf
   passed-looks z (Verdict.Refused n) p = absurd p
   passed-looks z Verdict.Idle e = record { refusal = sym z; class = λ i. sym e; missing = refl; channel = refl; lane = refl }
@@ -353,19 +368,20 @@ module _ (r : Reader) (f : List ℕ) where
       record { refusal = sym z; class = λ i. sym (p .1); missing = rw (p .0); channel = rw (p .0); lane = refl }
   passed-looks z (Verdict.Read l) p =
       record { refusal = sym z; class = λ i. sym (p .2); missing = rw (p .0); channel = rw (p .0); lane = rw (p .1) }
+  passed-looks z (Verdict.Repeat k) p = record { refusal = sym z; class = λ i. sym (p .1); missing = refl; channel = rw (p .0); lane = refl }
 
   -- The rule of a look keeps the promise.
   pub look-gives : LookGives r f (look r f)
   unfolding look looked lookRefusals
   look-gives = go (given (lookRefusals r f)) refl
     where
-      go : (n : ℕ) → given (lookRefusals r f) ≡ n → LookGives r f (onLook (judged (r .setting) f n) r f)
+      go : (n : ℕ) → given (lookRefusals r f) ≡ n → LookGives r f (onLook (again r f (judged (r .setting) f n)) r f)
       go zero e =
           unfold judged in
           let r₁ = given-zero _ _ (zero-lt-suc 0) e in
-          passed-looks e (passed (r .setting) f (channelAt (r .setting) (vc f) (bypass f)))
-          (passes (r .setting) f (good-reader r (not-false _ (r₁ .0)) .setting) (r₁ .1))
-      go (suc n) e = unfold judged in refused-looks n e
+          passed-looks e (again r f (passed (r .setting) f (channelAt (r .setting) (vc f) (bypass f))))
+          (passes r f (good-reader r (not-false _ (r₁ .0)) .setting) (r₁ .1))
+      go (suc n) e = unfold judged again in refused-looks n e
 
   -- Answers allowed for one state and frame are equal.
   pub look-once : (a b : Looked) → LookGives r f a → LookGives r f b → a ≡ b
@@ -386,7 +402,7 @@ module _ (r : Reader) (f : List ℕ) where
   -- 1 and 3 to 12: "never gives 2".
   pub look-number : (a : Looked) → LookGives r f a → (n : ℕ) → a .class ≡ Class.Refused n → among n lookNumbers ≡ true
   unfolding lookRefusals refusals refusalsAt numbers
-  look-number a p n e = class-among (r .setting) f (lookRefusals r f) _ (p .refusal) (p .class) n e
+  look-number a p n e = class-among r f (lookRefusals r f) _ (p .refusal) (p .class) n e
 
 pub two-in-none : among 2 lookNumbers ≡ false
 unfolding among

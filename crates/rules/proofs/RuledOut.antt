@@ -63,8 +63,8 @@ accepted : given (readRefusals fresh frame₀ held₀ units₀ records₀) ≡ 0
 unfolding rules fresh held₀ units₀ records₀
 accepted = refl
 
-class-read : classIn (fresh .setting) frame₀ ≡ Class.Read
-unfolding rules fresh classIn channelIn
+class-read : classIn fresh frame₀ ≡ Class.Read
+unfolding rules fresh classIn channelIn countOf
 class-read = refl
 
 refused-3 : given (readRefusals fresh [] held₀ units₀ records₀) ≡ 3
@@ -91,8 +91,8 @@ gone-accepted : given (lookRefusals (after .taken .state) gone) ≡ 0
 unfolding rules fresh held₀ units₀ records₀ after gone
 gone-accepted = refl
 
-gone-class : classIn (after .taken .state .setting) gone ≡ Class.Read
-unfolding rules fresh held₀ units₀ records₀ after gone classIn channelIn
+gone-class : classIn (after .taken .state) gone ≡ Class.Read
+unfolding rules fresh held₀ units₀ records₀ after gone classIn channelIn countOf
 gone-class = refl
 
 none-gone : missingIn fresh frame₀ ≡ 0
@@ -114,8 +114,8 @@ second-accepted : given (readRefusals (after .taken .state) frame₁ (after .hel
 unfolding rules fresh held₀ units₀ records₀ after
 second-accepted = refl
 
-second-read : classIn (after .taken .state .setting) frame₁ ≡ Class.Read
-unfolding rules fresh held₀ units₀ records₀ after classIn channelIn
+second-read : classIn (after .taken .state) frame₁ ≡ Class.Read
+unfolding rules fresh held₀ units₀ records₀ after classIn channelIn countOf
 second-read = refl
 
 second-octet : getD (laid units₀ 0 (joined (octetsOf ((madeIn (after .taken .state) frame₁ (after .heldArea)) .units)))) 0 0 ≡ 0
@@ -254,7 +254,7 @@ first-look = refl
 
 -- A number of missing frames that is allowed is the one of the frame.
 gone-missing : (other : ℕ → ℕ) → LookerAllowed (lookerMissing other) → (r : Reader) (f : List ℕ) → given (lookRefusals r f) ≡ 0
-    → classIn (r .setting) f ≡ Class.Read → other ((look r f) .missing) ≡ missingIn r f
+    → classIn r f ≡ Class.Read → other ((look r f) .missing) ≡ missingIn r f
 unfolding lookerMissing classMissing
 gone-missing other ok r f a k =
     let o = ok r f in

@@ -24,7 +24,7 @@ use Rattle.rules.specs.Areas.{laid, joined, part, heldSize, partSize, re
 use Rattle.rules.specs.Settings.{channel, lane, channelOf, expect, heldBy, withSlot, count, number, zone, ocfOctets, settingOk, readerOk, writerOk, freshReader, freshWriter, noReader, noWriter}
 use Rattle.rules.specs.Frames.{countIn, ruleIn, pointerIn, zoneIn, pointsTo}
 use Rattle.rules.specs.Writing.{batchOk, frames, frameOf, writerAfter}
-use Rattle.rules.specs.Reading.{missing, gap, octetsOf, Made, keeps, laneStep, recordsFrom, infoOf}
+use Rattle.rules.specs.Reading.{missing, repeats, gap, octetsOf, Made, keeps, laneStep, recordsFrom, infoOf}
 use Rattle.rules.specs.Refusals.{refusals, judged}
 
 -- ---- the paper's number for each case of an answer; 0 where none is refused
@@ -37,6 +37,7 @@ unfoldable pub classRefusal : Class → ℕ
 classRefusal Class.Idle = 0
 classRefusal Class.Counted = 0
 classRefusal Class.Read = 0
+classRefusal Class.Repeat = 0
 classRefusal (Class.Refused n) = n
 
 -- ---- set-up: "A refused set-up returns a state of zeros."
@@ -138,7 +139,22 @@ madeBy g l ch f h =
 unfoldable pub readOn : Gap → ℕ → Channel → List ℕ → List ℕ → List ℕ → List ℕ → Got
 readOn g l ch f h u c = laidOut g l (countIn ch f) (madeBy g l ch f h) h u c
 
--- "Each returns its number and zero counts; states and areas stay unchanged." "Idle: ...; the state stays and all counts are 0."
+-- "A frame whose count equals the last one taken on its channel", at the reader: on channel c, with count k.
+unfoldable pub repeatsAt : Reader → ℕ → ℕ → Bool
+repeatsAt r c k = repeats ((channel (r .setting) c) .octets) (expect r c) k
+
+-- "... gets the class repeat, after the checks." What the checks say of a frame, and then whether it is one: refused and idle frames are none.
+unfoldable pub again : Reader → List ℕ → Verdict → Verdict
+again r f (Verdict.Refused n) = Verdict.Refused n
+again r f Verdict.Idle = Verdict.Idle
+again r f (Verdict.Counted ch) = cond (repeatsAt r ch (countIn (channel (r .setting) ch) f)) (Verdict.Repeat ch) (Verdict.Counted ch)
+again r f (Verdict.Read l) =
+    cond (repeatsAt r ((lane (r .setting) l) .channel) (countIn (channelOf (r .setting) l) f)) (Verdict.Repeat ((lane (r .setting) l) .channel))
+    (Verdict.Read l)
+again r f (Verdict.Repeat ch) = Verdict.Repeat ch
+
+-- "Each returns its number and zero counts; states and areas stay unchanged." "Idle: ...; the state stays and all counts are 0." Repeat: "with all
+-- counts 0 and the state unchanged."
 unfoldable pub onVerdict : Verdict → Reader → List ℕ → List ℕ → List ℕ → List ℕ → Got
 onVerdict (Verdict.Refused n) r f h u c =
     record { taken = record { answer = bare (Class.Refused n); state = r }; heldArea = h; unitArea = u; recordArea = c }
@@ -154,6 +170,8 @@ onVerdict (Verdict.Counted ch) r f h u c =
     }
 onVerdict (Verdict.Read l) r f h u c =
     readOn (gap r ((lane (r .setting) l) .channel) (countIn (channelOf (r .setting) l) f)) l (channelOf (r .setting) l) f h u c
+onVerdict (Verdict.Repeat ch) r f h u c =
+    record { taken = record { answer = bare Class.Repeat; state = r }; heldArea = h; unitArea = u; recordArea = c }
 
 -- "Reader 1 to 12."
 unfoldable pub readRefusals : Reader → List ℕ → List ℕ → List ℕ → List ℕ → List Refusal
@@ -165,9 +183,9 @@ readRefusals r f h u c =
     -- the frame's own, 3 to 12
     ∷ refusals (r .setting) f
 
--- What the checks say of a read.
+-- What a read's frame is.
 unfoldable pub verdict : Reader → List ℕ → List ℕ → List ℕ → List ℕ → Verdict
-verdict r f h u c = judged (r .setting) f (given (readRefusals r f h u c))
+verdict r f h u c = again r f (judged (r .setting) f (given (readRefusals r f h u c)))
 
 unfoldable pub read : Reader → List ℕ → List ℕ → List ℕ → List ℕ → Got
 read r f h u c = onVerdict (verdict r f h u c) r f h u c
@@ -183,9 +201,9 @@ lookRefusals r f =
     -- the frame's own, 3 to 12
     ∷ refusals (r .setting) f
 
--- What the checks say of a look.
+-- What a look's frame is.
 unfoldable pub looked : Reader → List ℕ → Verdict
-looked r f = judged (r .setting) f (given (lookRefusals r f))
+looked r f = again r f (judged (r .setting) f (given (lookRefusals r f)))
 
 -- How many frames of channel c are missing before one with count k.
 unfoldable pub missingAt : Reader → ℕ → ℕ → ℕ
@@ -208,6 +226,7 @@ onLook (Verdict.Read l) r f =
       channel = At ((lane (r .setting) l) .channel);
       lane = At l;
     }
+onLook (Verdict.Repeat c) r f = record { class = Class.Repeat; missing = 0; channel = At c; lane = Nowhere }
 
 unfoldable pub look : Reader → List ℕ → Looked
 look r f = onLook (looked r f) r f

@@ -8,7 +8,6 @@ use Rattle.rules.specs.declared.Kind.the-variants.{Packets, Access}
 use Rattle.rules.specs.declared.Setting.{Setting}
 use Rattle.rules.specs.declared.Reader.{Reader}
 use Rattle.rules.specs.declared.Writer.{Writer}
-use Rattle.rules.specs.declared.Class.{Class}
 use Rattle.rules.specs.declared.Looked.{Looked}
 use Rattle.rules.specs.declared.Place.{Place}
 use Rattle.rules.specs.declared.Place.the-variants.{At, Nowhere}
@@ -18,7 +17,7 @@ use Rattle.rules.specs.Settings.{noChannel, noLane, noReader, noWriter, 
 use Rattle.rules.specs.Reading.{DataUnit, octetsOf, Made, laneStep}
 use Rattle.rules.specs.Refusals.{refusals}
 use Rattle.rules.specs.Calls.{refusalOf, classRefusal, Sent, write, Got, read, look}
-use Rattle.rules.specs.Worked.{small, worked, packetLane, Case, case, each, numbers, packet₀, packet₁, frame₀, frame₁, recounted, packetOf, reads}
+use Rattle.rules.specs.Worked.{small, worked, packetLane, Case, case, each, classShown, answer, packet₀, packet₁, frame₀, frame₁, recounted, packetOf, reads}
 
 -- ---- a setting of two channels and three lanes, all zones of 21 octets
 
@@ -56,18 +55,11 @@ fill21 = replicate 21 0xE0
 abbrev pub data21 : List ℕ
 data21 = replicate 21 0x77
 
+-- A command frame of service 1 with this count.
+abbrev pub commandFrame : ℕ → List ℕ
+commandFrame k = forged (6 ∷ []) (0xC1 ∷ []) (accessFrame k 2 20 data21)
+
 -- ---- what a row shows
-
--- A class by a number: a refusal's own, and one of three above them.
-abbrev pub classShown : Class → ℕ
-classShown Class.Idle = 101
-classShown Class.Counted = 102
-classShown Class.Read = 103
-classShown (Class.Refused n) = n
-
--- Class, units, unit octets, missing, idle, fill and dropped of a read.
-abbrev pub answer : Got → List ℕ
-answer o = classShown (o .taken .answer .class) ∷ numbers o
 
 -- The units that a lane hands out, what it then holds, and the idle, fill and dropped octets.
 unfoldable pub shown : Made → List (List ℕ)
@@ -139,7 +131,7 @@ edges =
     ∷ case 10 (ofUnits 0b010 [] (At 4) data21 ++ (ofUnits 0b001 data21 (At 20) data21 ++ (ofUnits 0b010 data21 (At 20) data21 ++ (ofUnits 0b010 data21 Nowhere data21 ++ ofUnits 0b010 (0x77 ∷ data21) (At 20) data21))))
     ([] ∷ (0 ∷ 16 ∷ 5 ∷ []) ∷ data21 ∷ [] ∷ (0 ∷ 0 ∷ 21 ∷ []) ∷ replicate 42 0x77 ∷ [] ∷ (0 ∷ 0 ∷ 0 ∷ []) ∷ [] ∷ (0 ∷ 0 ∷ 42 ∷ []) ∷ [] ∷ (0 ∷ 0 ∷ 43 ∷ []) ∷ [])
     -- A command frame after a gap is counted, and its channel's lane drops what it holds; an idle frame changes nothing.
-    ∷ case 11 (each answer (reads paired (accessFrame 0 1 0xFFFF data21 ∷ forged (2 ∷ 3 ∷ []) (0xA7 ∷ 0xE0 ∷ []) frame₀ ∷ forged (6 ∷ []) (0xC1 ∷ []) (accessFrame 3 2 20 data21) ∷ [])))
+    ∷ case 11 (each answer (reads paired (accessFrame 0 1 0xFFFF data21 ∷ forged (2 ∷ 3 ∷ []) (0xA7 ∷ 0xE0 ∷ []) frame₀ ∷ commandFrame 3 ∷ [])))
     ((103 ∷ 0 ∷ 0 ∷ 0 ∷ 0 ∷ 0 ∷ 0 ∷ []) ∷ (101 ∷ 0 ∷ 0 ∷ 0 ∷ 0 ∷ 0 ∷ 0 ∷ []) ∷ (102 ∷ 0 ∷ 0 ∷ 2 ∷ 0 ∷ 0 ∷ 21 ∷ []) ∷ [])
     -- Each refusal beside the next: frames with both faults, 3 and 4, 4 and 5, then 5 and 6 on to 11 and 12 (9 with another count length).
     ∷ case 12
@@ -169,6 +161,32 @@ edges =
     ∷ begunBefore (laneStep Access 42 0b010 data21 (At 20) data21)
     ∷ [])
     ((1 ∷ 0 ∷ []) ∷ (0 ∷ []) ∷ (1 ∷ []) ∷ []) ∷ []
+
+-- ---- frames sent twice (document 02, A3)
+
+unfoldable pub copies : List Case
+copies =
+    -- Frame 0 three times: the copies change nothing, and frame 1 finishes the packet that frame 0 has begun.
+    case 1 (each answer (reads paired (frame₀ ∷ frame₀ ∷ frame₀ ∷ frame₁ ∷ [])))
+    ((103 ∷ 1 ∷ 10 ∷ 0 ∷ 0 ∷ 0 ∷ 0 ∷ []) ∷ (104 ∷ 0 ∷ 0 ∷ 0 ∷ 0 ∷ 0 ∷ 0 ∷ []) ∷ (104 ∷ 0 ∷ 0 ∷ 0 ∷ 0 ∷ 0 ∷ 0 ∷ []) ∷ (103 ∷ 1 ∷ 18 ∷ 0 ∷ 14 ∷ 0 ∷ 0 ∷ []) ∷ [])
+    -- A fresh reader's first frame is no repeat, whatever its count; the count before 0 is 255.
+    ∷ case 2 (each answer (reads paired (recounted 255 frame₀ ∷ recounted 255 frame₀ ∷ recounted 0 frame₁ ∷ [])))
+    ((103 ∷ 1 ∷ 10 ∷ 0 ∷ 0 ∷ 0 ∷ 0 ∷ []) ∷ (104 ∷ 0 ∷ 0 ∷ 0 ∷ 0 ∷ 0 ∷ 0 ∷ []) ∷ (103 ∷ 1 ∷ 18 ∷ 0 ∷ 14 ∷ 0 ∷ 0 ∷ []) ∷ [])
+    -- Counts alone are compared: a frame of the neighbor's map, and of a map in no lane. Refusal 12 comes before: pointer 21.
+    ∷ case 3 (each answer (reads paired (frame₀ ∷ packetFrame 6 0 0 fill21 ∷ packetFrame 7 0 0 fill21 ∷ packetFrame 5 0 21 fill21 ∷ frame₁ ∷ [])))
+    ((103 ∷ 1 ∷ 10 ∷ 0 ∷ 0 ∷ 0 ∷ 0 ∷ []) ∷ (104 ∷ 0 ∷ 0 ∷ 0 ∷ 0 ∷ 0 ∷ 0 ∷ []) ∷ (104 ∷ 0 ∷ 0 ∷ 0 ∷ 0 ∷ 0 ∷ 0 ∷ []) ∷ (12 ∷ 0 ∷ 0 ∷ 0 ∷ 0 ∷ 0 ∷ 0 ∷ [])
+    ∷ (103 ∷ 1 ∷ 18 ∷ 0 ∷ 14 ∷ 0 ∷ 0 ∷ []) ∷ [])
+    -- Each service has its own: count 0 on the other one is taken. A command frame's count is taken too, so that its copy is a repeat.
+    ∷ case 4 (each answer (reads paired (frame₀ ∷ accessFrame 0 1 20 data21 ∷ commandFrame 1 ∷ commandFrame 1 ∷ accessFrame 2 1 20 data21 ∷ frame₀ ∷ [])))
+    ((103 ∷ 1 ∷ 10 ∷ 0 ∷ 0 ∷ 0 ∷ 0 ∷ []) ∷ (103 ∷ 1 ∷ 21 ∷ 0 ∷ 0 ∷ 0 ∷ 0 ∷ []) ∷ (102 ∷ 0 ∷ 0 ∷ 0 ∷ 0 ∷ 0 ∷ 0 ∷ []) ∷ (104 ∷ 0 ∷ 0 ∷ 0 ∷ 0 ∷ 0 ∷ 0 ∷ [])
+    ∷ (103 ∷ 1 ∷ 21 ∷ 0 ∷ 0 ∷ 0 ∷ 0 ∷ []) ∷ (104 ∷ 0 ∷ 0 ∷ 0 ∷ 0 ∷ 0 ∷ 0 ∷ []) ∷ [])
+    -- 254 frames gone are seen; of 255 the next one is called a repeat, and the one after it is joined to octets of another packet.
+    ∷ case 5 (each answer (reads paired (frame₀ ∷ recounted 255 frame₁ ∷ [])) ++ each answer (reads paired (frame₀ ∷ recounted 0 frame₀ ∷ recounted 1 frame₁ ∷ [])))
+    ((103 ∷ 1 ∷ 10 ∷ 0 ∷ 0 ∷ 0 ∷ 0 ∷ []) ∷ (103 ∷ 0 ∷ 0 ∷ 254 ∷ 14 ∷ 0 ∷ 18 ∷ []) ∷ (103 ∷ 1 ∷ 10 ∷ 0 ∷ 0 ∷ 0 ∷ 0 ∷ []) ∷ (104 ∷ 0 ∷ 0 ∷ 0 ∷ 0 ∷ 0 ∷ 0 ∷ [])
+    ∷ (103 ∷ 1 ∷ 18 ∷ 0 ∷ 14 ∷ 0 ∷ 0 ∷ []) ∷ [])
+    -- A block of two frames that is sent twice: frame 0 comes again with 254 missing, and all units come a second time.
+    ∷ case 6 (each answer (reads paired (frame₀ ∷ frame₁ ∷ frame₀ ∷ frame₁ ∷ [])))
+    ((103 ∷ 1 ∷ 10 ∷ 0 ∷ 0 ∷ 0 ∷ 0 ∷ []) ∷ (103 ∷ 1 ∷ 18 ∷ 0 ∷ 14 ∷ 0 ∷ 0 ∷ []) ∷ (103 ∷ 1 ∷ 10 ∷ 254 ∷ 0 ∷ 0 ∷ 0 ∷ []) ∷ (103 ∷ 1 ∷ 18 ∷ 0 ∷ 14 ∷ 0 ∷ 0 ∷ []) ∷ []) ∷ []
 
 -- ---- edges of the frame and of the calls
 
@@ -276,12 +294,13 @@ wholes =
     ∷ case 6 (each areas (reads (worked packetLane) (frame₀ ∷ recounted 5 frame₁ ∷ [])))
     ((take 11 packet₁ ++ (0x55 ∷ []) ++ packet₀ ++ (0x55 ∷ [])) ∷ (take 11 packet₁ ++ (0x55 ∷ []) ++ packet₀ ++ (0x55 ∷ [])) ∷ [])
     -- Looks where count 1 is expected: frame 1 with one gone before it, twice; a map of no lane with two gone; the other service, on which none was expected;
-    -- an idle frame; frame 0 less an octet.
+    -- an idle frame; frame 0 less an octet; a repeat of frame 0, and of its count on a map of no lane.
     ∷ case 7
     (looksAfter
     (recounted 2 frame₁ ∷ recounted 2 frame₁ ∷ packetFrame 7 3 0 fill21 ∷ accessFrame 9 1 20 data21 ∷ forged (2 ∷ 3 ∷ []) (0xA7 ∷ 0xE0 ∷ []) frame₀
-    ∷ take 31 frame₀ ∷ []))
-    ((103 ∷ 1 ∷ 1 ∷ 1 ∷ []) ∷ (103 ∷ 1 ∷ 1 ∷ 1 ∷ []) ∷ (102 ∷ 2 ∷ 1 ∷ 0 ∷ []) ∷ (103 ∷ 0 ∷ 2 ∷ 3 ∷ []) ∷ (101 ∷ 0 ∷ 0 ∷ 0 ∷ []) ∷ (3 ∷ 0 ∷ 0 ∷ 0 ∷ []) ∷ [])
+    ∷ take 31 frame₀ ∷ frame₀ ∷ packetFrame 7 0 0 fill21 ∷ []))
+    ((103 ∷ 1 ∷ 1 ∷ 1 ∷ []) ∷ (103 ∷ 1 ∷ 1 ∷ 1 ∷ []) ∷ (102 ∷ 2 ∷ 1 ∷ 0 ∷ []) ∷ (103 ∷ 0 ∷ 2 ∷ 3 ∷ []) ∷ (101 ∷ 0 ∷ 0 ∷ 0 ∷ []) ∷ (3 ∷ 0 ∷ 0 ∷ 0 ∷ [])
+    ∷ (104 ∷ 0 ∷ 1 ∷ 0 ∷ []) ∷ (104 ∷ 0 ∷ 1 ∷ 0 ∷ []) ∷ [])
     -- A bad frame with a short area: a look says what the frame is refused by, a read says 2. A state of zeros: both say 1.
     ∷ case 8
     ((classRefusal ((look (freshReader (worked packetLane)) (take 31 frame₀)) .class) ∷ readRefusal (freshReader (worked packetLane)) 65535 12288 9600

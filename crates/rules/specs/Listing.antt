@@ -7,7 +7,7 @@ use mathlib.Core.List.{List, [], _∷_, _++_}
 use lib.ListN.{length, take, drop, replicate}
 use Rattle.rules.specs.declared.Reader.{Reader}
 use Rattle.rules.specs.declared.Class.{Class}
-use Rattle.rules.specs.declared.Class.the-variants.{Idle, Counted, Read, Refused}
+use Rattle.rules.specs.declared.Class.the-variants.{Idle, Counted, Read, Repeat, Refused}
 use Rattle.rules.specs.declared.Answer.{Answer}
 use Rattle.rules.specs.Tests.{_<?_, _=?_}
 use Rattle.rules.specs.Calls.{setUpReader, Got, read}
@@ -30,12 +30,14 @@ digits (suc n) v = cond (v <? 10) ((48 + v) ∷ []) (digits n (v / 10) ++ (48 + 
 unfoldable pub decimal : ℕ → List ℕ
 decimal v = digits 20 v
 
--- ---- "Fields: frame number; idle, counted, read or refused; units (the refusal number if refused); missing (0 if refused)."
+-- ---- "Fields: frame number; idle, counted, read or refused; units (the refusal number if refused); missing (0 if refused)." And repeat
+-- (document 02, A3).
 
 unfoldable pub word : Class → List ℕ
 word Idle = text "idle"
 word Counted = text "counted"
 word Read = text "read"
+word Repeat = text "repeat"
 word (Refused n) = text "refused"
 
 -- Units, or the refusal number.
@@ -43,6 +45,7 @@ unfoldable pub amount : Class → ℕ → ℕ
 amount Idle units = units
 amount Counted units = units
 amount Read units = units
+amount Repeat units = units
 amount (Refused n) units = n
 
 unfoldable pub line : ℕ → Answer → List ℕ

@@ -25,6 +25,7 @@ unfoldable pub whoseOf : Class → Place → Place → Verdict
 whoseOf Class.Idle c l = Verdict.Idle
 whoseOf Class.Counted c l = Verdict.Counted (placed c)
 whoseOf Class.Read c l = Verdict.Read (placed l)
+whoseOf Class.Repeat c l = Verdict.Repeat (placed c)
 whoseOf (Class.Refused n) c l = Verdict.Refused n
 
 unfoldable pub whose : Looked → Verdict

@@ -27,7 +27,7 @@ use Rattle.rules.specs.Frames.{vc, map, bypass, command, countIn}
 use Rattle.rules.specs.Writing.{frameOf, writerAfter}
 use Rattle.rules.specs.Reading.{gap, octetsOf, Made, keeps, recordsFrom, infoOf}
 use Rattle.rules.specs.Refusals.{channelAt, laneAt}
-use Rattle.rules.specs.Calls.{refusalOf, classRefusal, writeRefusals, readRefusals, madeBy, lookRefusals, missingAt}
+use Rattle.rules.specs.Calls.{refusalOf, classRefusal, writeRefusals, readRefusals, madeBy, lookRefusals, missingAt, repeatsAt}
 
 -- ---- "Reader 1 to 12; writer 1, 2, 13 to 16; set-up 1."
 
@@ -101,16 +101,19 @@ channelIn s f = placed (channelAt s (vc f) (bypass f))
 unfoldable pub laneIn : Setting → List ℕ → ℕ
 laneIn s f = placed (laneAt s (channelIn s f) (map f))
 
--- "Idle: virtual channel 63; ... Counted: control command set, or the map is in no lane of that channel; ... Read: all else."
-unfoldable pub classIn : Setting → List ℕ → Class
-classIn s f =
-    cond (vc f =? 63) Class.Idle
-    (cond (command f =? 1 || none (laneAt s (channelIn s f) (map f))) Class.Counted Class.Read)
-
--- The frame's count taken, and what its lane then makes of its zone.
+-- The frame's count.
 unfoldable pub countOf : Setting → List ℕ → ℕ
 countOf s f = countIn (channel s (channelIn s f)) f
 
+-- "Idle: virtual channel 63; ... Counted: control command set, or the map is in no lane of that channel; ... Read: all else." But "a frame whose
+-- count equals the last one taken on its channel gets the class repeat" (document 02, A3), be it a Counted one or a Read one.
+unfoldable pub classIn : Reader → List ℕ → Class
+classIn r f =
+    cond (vc f =? 63) Class.Idle
+    (cond (repeatsAt r (channelIn (r .setting) f) (countOf (r .setting) f)) Class.Repeat
+    (cond (command f =? 1 || none (laneAt (r .setting) (channelIn (r .setting) f) (map f))) Class.Counted Class.Read))
+
+-- The frame's count taken, and what its lane then makes of its zone.
 unfoldable pub gapIn : Reader → List ℕ → Gap
 gapIn r f = gap r (channelIn (r .setting) f) (countOf (r .setting) f)
 
@@ -135,7 +138,8 @@ valuesIn a =
 abbrev pub zeroCounts : Values
 zeroCounts = record { units = 0; octets = 0; missing = 0; idle = 0; fill = 0; dropped = 0 }
 
--- Idle: "all counts are 0." Counted: "its count is taken and its data field is not read." Refused: "its number and zero counts."
+-- Idle: "all counts are 0." Counted: "its count is taken and its data field is not read." Repeat: "with all counts 0." Refused: "its number and zero
+-- counts."
 unfoldable pub classValues : Class → Gap → Made → Values
 classValues Class.Idle g m = zeroCounts
 classValues Class.Counted g m = record { units = 0; octets = 0; missing = g .missing; idle = 0; fill = 0; dropped = g .dropped }
@@ -148,13 +152,15 @@ classValues Class.Read g m =
       fill = m .fill;
       dropped = g .dropped + m .dropped;
     }
+classValues Class.Repeat g m = zeroCounts
 classValues (Class.Refused n) g m = zeroCounts
 
--- Idle: "the state stays." Counted: "its count is taken." Refused: "states and areas stay unchanged."
+-- Idle: "the state stays." Counted: "its count is taken." Repeat: "the state unchanged." Refused: "states and areas stay unchanged."
 unfoldable pub classState : Class → Reader → Gap → ℕ → Made → Reader
 classState Class.Idle r g l m = r
 classState Class.Counted r g l m = g .state
 classState Class.Read r g l m = withSlot (g .state) l (keeps m)
+classState Class.Repeat r g l m = r
 classState (Class.Refused n) r g l m = r
 
 -- An area that only a frame that is Read changes.
@@ -162,13 +168,14 @@ unfoldable pub classArea : Class → List ℕ → List ℕ → List ℕ
 classArea Class.Idle before after = before
 classArea Class.Counted before after = before
 classArea Class.Read before after = after
+classArea Class.Repeat before after = before
 classArea (Class.Refused n) before after = before
 
 pub record ReadGives (r : Reader) (f h u c : List ℕ) (o : Taken) (h′ u′ c′ : List ℕ) : Type 0 where
   -- "The first that applies is given, and none otherwise."
   pub refusal : classRefusal (o .answer .class) ≡ given (readRefusals r f h u c)
-  -- "A frame that passes the checks is one of three."
-  pub class : given (readRefusals r f h u c) ≡ 0 → o .answer .class ≡ classIn (r .setting) f
+  -- "A frame that passes the checks is one of three", or a repeat.
+  pub class : given (readRefusals r f h u c) ≡ 0 → o .answer .class ≡ classIn r f
   pub values : valuesIn (o .answer) ≡ classValues (o .answer .class) (gapIn r f) (madeIn r f h)
   pub state : o .state ≡ classState (o .answer .class) r (gapIn r f) (laneIn (r .setting) f) (madeIn r f h)
   -- "In the held area only the octets that the Read lane holds after the call may change."
@@ -186,31 +193,34 @@ pub record ReadGives (r : Reader) (f h u c : List ℕ) (o : Taken) (h′ u′ c�
 unfoldable pub missingIn : Reader → List ℕ → ℕ
 missingIn r f = missingAt r (channelIn (r .setting) f) (countOf (r .setting) f)
 
--- "For Counted and Read."
+-- "For Counted and Read"; a repeat has "all counts 0".
 unfoldable pub classMissing : Class → ℕ → ℕ
 classMissing Class.Idle m = 0
 classMissing Class.Counted m = m
 classMissing Class.Read m = m
+classMissing Class.Repeat m = 0
 classMissing (Class.Refused n) m = 0
 
--- The channel is that of a frame that is Counted or Read, the lane that of one that is Read.
+-- The channel is that of a frame that is Counted, Read or a repeat, the lane that of one that is Read.
 unfoldable pub classChannel : Class → ℕ → Place
 classChannel Class.Idle c = Nowhere
 classChannel Class.Counted c = At c
 classChannel Class.Read c = At c
+classChannel Class.Repeat c = At c
 classChannel (Class.Refused n) c = Nowhere
 
 unfoldable pub classLane : Class → ℕ → Place
 classLane Class.Idle l = Nowhere
 classLane Class.Counted l = Nowhere
 classLane Class.Read l = At l
+classLane Class.Repeat l = Nowhere
 classLane (Class.Refused n) l = Nowhere
 
 pub record LookGives (r : Reader) (f : List ℕ) (o : Looked) : Type 0 where
   -- "The first that applies is given, and none otherwise."
   pub refusal : classRefusal (o .class) ≡ given (lookRefusals r f)
-  -- "A frame that passes the checks is one of three."
-  pub class : given (lookRefusals r f) ≡ 0 → o .class ≡ classIn (r .setting) f
+  -- "A frame that passes the checks is one of three", or a repeat.
+  pub class : given (lookRefusals r f) ≡ 0 → o .class ≡ classIn r f
   pub missing : o .missing ≡ classMissing (o .class) (missingIn r f)
   pub channel : o .channel ≡ classChannel (o .class) (channelIn (r .setting) f)
   pub lane : o .lane ≡ classLane (o .class) (laneIn (r .setting) f)

@@ -1,6 +1,6 @@
 -- "Reading": counts, then what a lane makes of a zone, then the records.
 use Prim.Native.Nat.{ℕ, zero, suc, _+_, _-_, _%_, _^_}
-use mathlib.Core.Bool.{Bool, true, false, cond}
+use mathlib.Core.Bool.{Bool, true, false, cond, _&&_}
 use mathlib.Core.List.{List, [], _∷_, _++_, map}
 use lib.ListN.{length, take, drop}
 use Rattle.rules.specs.declared.Kind.{Kind}
@@ -34,6 +34,16 @@ missing n e k = cond (e .known) ((k + 256 ^ n - e .count) % 256 ^ n) 0
 -- "Expected becomes count + 1 modulo 256^n."
 unfoldable pub expected : ℕ → ℕ → Expect
 expected n k = record { known = true; count = (k + 1) % 256 ^ n }
+
+-- ---- repeats: "Frames sent twice" (document 02, A3)
+
+-- The last count taken, where one is expected: expected less one, modulo 256^n.
+unfoldable pub lastTaken : ℕ → Expect → ℕ
+lastTaken n e = (e .count + 256 ^ n - 1) % 256 ^ n
+
+-- "A frame whose count equals the last one taken on its channel." Where none is expected, none was taken.
+unfoldable pub repeats : ℕ → Expect → ℕ → Bool
+repeats n e k = e .known && k =? lastTaken n e
 
 -- ---- a gap
 

@@ -9,6 +9,7 @@ use Rattle.rules.specs.declared.Lane.{Lane}
 use Rattle.rules.specs.declared.Setting.{Setting}
 use Rattle.rules.specs.declared.Reader.{Reader}
 use Rattle.rules.specs.declared.Writer.{Writer}
+use Rattle.rules.specs.declared.Class.{Class}
 use Rattle.rules.specs.declared.Answer.{Answer}
 use Rattle.rules.specs.Settings.{noChannel, noLane}
 use Rattle.rules.specs.Calls.{setUpReader, setUpWriter, Sent, write, Got, read}
@@ -72,6 +73,18 @@ abbrev pub numbers : Got → List ℕ
 numbers o =
     let a : Answer = o .taken .answer in
     a .units ∷ a .octets ∷ a .missing ∷ a .idle ∷ a .fill ∷ a .dropped ∷ []
+
+-- A class by a number: a refusal's own, and one of four above them.
+abbrev pub classShown : Class → ℕ
+classShown Class.Idle = 101
+classShown Class.Counted = 102
+classShown Class.Read = 103
+classShown Class.Repeat = 104
+classShown (Class.Refused n) = n
+
+-- Class, and all these numbers.
+abbrev pub answer : Got → List ℕ
+answer o = classShown (o .taken .answer .class) ∷ numbers o
 
 abbrev pub missingOf : Got → ℕ
 missingOf o = o .taken .answer .missing
@@ -153,5 +166,7 @@ cases =
     (each missingOf (packetReads (recounted 254 frame₀ ∷ recounted 255 frame₀ ∷ recounted 0 frame₀ ∷ []))
     ∷ each missingOf (packetReads (recounted 255 frame₀ ∷ recounted 2 frame₀ ∷ [])) ∷ [])
     ((0 ∷ 0 ∷ 0 ∷ []) ∷ (0 ∷ 2 ∷ []) ∷ [])
-    ∷ case 10 (each missingOf (packetReads (recounted 5 frame₀ ∷ recounted 5 frame₀ ∷ [])) ∷ []) ((0 ∷ 255 ∷ []) ∷ [])
+    -- "Case 10 gives repeat" (document 02, A3).
+    ∷ case 10 (each answer (packetReads (recounted 5 frame₀ ∷ recounted 5 frame₀ ∷ [])))
+    ((103 ∷ 1 ∷ 10 ∷ 0 ∷ 0 ∷ 0 ∷ 0 ∷ []) ∷ (104 ∷ 0 ∷ 0 ∷ 0 ∷ 0 ∷ 0 ∷ 0 ∷ []) ∷ [])
     ∷ []

@@ -106,6 +106,7 @@ pub enum Class {
     Idle,
     Counted,
     Read,
+    Repeat,
     Refused(u8),
 }
 
@@ -132,7 +133,7 @@ pub enum Place {
     Nowhere,
 }
 
-// What a look answers: class, missing frames, the place of the frame's channel if it is Counted or Read, and its lane if it is Read.
+// What a look answers: class, missing frames, the place of the frame's channel if it is Counted, Read or a repeat, and its lane if it is Read.
 pub struct Looked {
     pub missing: u64,
     pub channel: Place,
@@ -172,12 +173,13 @@ pub enum Fate {
     Drop,
 }
 
-// What the checks say of a frame: refused, idle, counted on a channel, or read by a lane.
+// What a frame is: refused, idle, counted on a channel, read by a lane, or a repeat on a channel.
 pub enum Verdict {
     Refused(u8),
     Idle,
     Counted(usize),
     Read(usize),
+    Repeat(usize),
 }
 
 // After a frame's count was taken: the state, how many frames are missing, how many held octets that dropped.
