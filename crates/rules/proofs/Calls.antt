@@ -1,5 +1,5 @@
 -- The calls: a refusal changes nothing; a valid state stays valid; units and records of any frame fit their areas.
-use mathlib.Core.Path.{_≡_, refl, ap}
+use mathlib.Core.Path.{_≡_, refl, ap, _∙_}
 use Prim.Native.Nat.{ℕ, zero, suc, _*_, _≤_, _<_}
 use native.Mathlib.Nat.{zero-lt-suc, le-trans}
 use native.Mathlib.Omega.{arith}
@@ -18,7 +18,7 @@ use Rattle.rules.specs.declared.Answer.{Answer}
 use Rattle.rules.specs.declared.Verdict.{Verdict}
 use Rattle.rules.specs.declared.Gap.{Gap}
 use Rattle.rules.specs.Tests.{given}
-use Rattle.rules.specs.Areas.{joined, part, recordSize, recordsSize, unitsSize}
+use Rattle.rules.specs.Areas.{joined, part, heldSize, partSize, recordSize, recordsSize, unitsSize}
 use Rattle.rules.specs.Settings.{channel, lane, channelOf, heldBy, number, zoneAt, zoneFor, zone, ocfOctets, settingOk, readerOk, writerOk, freshReader, freshWriter, noReader, noWriter}
 use Rattle.rules.specs.Frames.{countIn, ruleIn, pointerIn, zoneIn, pointsTo}
 use Rattle.rules.specs.Writing.{batchOk, frames}
@@ -26,6 +26,7 @@ use Rattle.rules.specs.Reading.{gap, octetsOf, Made}
 use Rattle.rules.specs.Refusals.{refusals, judged, judge}
 use Rattle.rules.specs.Calls.{setUpReader, setUpWriter, writeRefusals, written, write, areasShort, bare, laidOut, madeBy, readOn, repeatsAt, again, onVerdict, readRefusals, verdict, read}
 use Rattle.rules.proofs.Tests.{or-none, given-zero}
+use Rattle.rules.proofs.Areas.{length-laid}
 use Rattle.rules.specs.Valid.{GoodKind, GoodReader, GoodWriter}
 use Rattle.rules.proofs.Valid.{good-reader, good-writer, good-channelOf}
 use Rattle.rules.proofs.Lanes.{total, lane-total, lane-below, lane-few}
@@ -128,16 +129,9 @@ Ruled r f h u c (Verdict.Counted k) = Ordered r f h u c (Verdict.Counted k)
 Ruled r f h u c (Verdict.Read l) = Ordered r f h u c (Verdict.Read l)
 Ruled r f h u c (Verdict.Repeat k) = Ordered r f h u c (Verdict.Repeat k)
 
-module _ (r : Reader) (f h u c : List ℕ) where
-  ruled : (v : Verdict) → Ordered r f h u c v → Ruled r f h u c v
-  ruled (Verdict.Refused n) o = tt
-  ruled Verdict.Idle o = o
-  ruled (Verdict.Counted k) o = o
-  ruled (Verdict.Read l) o = o
-  ruled (Verdict.Repeat k) o = o
-
+module _ (r : Reader) (f : List ℕ) where
   -- What the checks say of a repeat holds of it.
-  again-judged : GoodReader r → (v : Verdict) → Judged (r .setting) f v → Judged (r .setting) f (again r f v)
+  pub again-judged : GoodReader r → (v : Verdict) → Judged (r .setting) f v → Judged (r .setting) f (again r f v)
   unfolding again
   again-judged g (Verdict.Refused n) j = j
   again-judged g Verdict.Idle j = j
@@ -152,6 +146,14 @@ module _ (r : Reader) (f h u c : List ℕ) where
       go true = (g .setting .lanes l (j .numbered) .channel, j .whole)
       go false = j
   again-judged g (Verdict.Repeat k) j = j
+
+module _ (r : Reader) (f h u c : List ℕ) where
+  ruled : (v : Verdict) → Ordered r f h u c v → Ruled r f h u c v
+  ruled (Verdict.Refused n) o = tt
+  ruled Verdict.Idle o = o
+  ruled (Verdict.Counted k) o = o
+  ruled (Verdict.Read l) o = o
+  ruled (Verdict.Repeat k) o = o
 
   -- The table's first two rows come before the frame's own.
   pub verdict-cond : verdict r f h u c ≡ cond (not (readerOk r)) (Verdict.Refused 1) (cond (areasShort h u c) (Verdict.Refused 2) (again r f (judge (r .setting) f)))
@@ -173,7 +175,7 @@ module _ (r : Reader) (f h u c : List ℕ) where
       go true e false q =
           let g : GoodReader r = good-reader r e in
           ruled (again r f (judge (r .setting) f))
-          (record { good = g; areas = q; judged = again-judged g (judge (r .setting) f) (judge-facts (r .setting) f) })
+          (record { good = g; areas = q; judged = again-judged r f g (judge (r .setting) f) (judge-facts (r .setting) f) })
       go false e b q = tt
 
   -- A refusal changes no octet and no state, and all its counts are 0.
@@ -262,6 +264,35 @@ read-valid r f h u c ok = go (verdict r f h u c) (verdict-facts r f h u c)
         reader-ok _ (good-slot _ (good-gap r (o .good) ((lane (r .setting) l) .channel) k) l _
         (made-below r f h l (o .good) (o .judged .numbered) k (channelOf (r .setting) l)))
     go (Verdict.Repeat k) o = unfold onVerdict in ok
+
+-- A read leaves the setting, and the held area's length.
+pub read-setting : (r : Reader) (f h u c : List ℕ) → (read r f h u c) .taken .state .setting ≡ r .setting
+unfolding read
+read-setting r f h u c = go (verdict r f h u c)
+  where
+    go : (v : Verdict) → (onVerdict v r f h u c) .taken .state .setting ≡ r .setting
+    go (Verdict.Refused n) = unfold onVerdict in refl
+    go Verdict.Idle = unfold onVerdict in refl
+    go (Verdict.Counted k) = unfold onVerdict in gap-setting r k _
+    go (Verdict.Read l) = unfold onVerdict readOn laidOut in gap-setting r _ _
+    go (Verdict.Repeat k) = unfold onVerdict in refl
+
+pub read-held : (r : Reader) (f h u c : List ℕ) → length h ≡ heldSize → length ((read r f h u c) .heldArea) ≡ heldSize
+unfolding read
+read-held r f h u c full = go (verdict r f h u c) (verdict-facts r f h u c)
+  where
+    go : (v : Verdict) → Ruled r f h u c v → length ((onVerdict v r f h u c) .heldArea) ≡ heldSize
+    go (Verdict.Refused n) o = unfold onVerdict in full
+    go Verdict.Idle o = unfold onVerdict in full
+    go (Verdict.Counted k) o = unfold onVerdict in full
+    go (Verdict.Read l) o =
+        unfold onVerdict readOn laidOut in
+        let k : ℕ = countIn (channelOf (r .setting) l) f in
+        let few = made-below r f h l (o .good) (o .judged .numbered) k (channelOf (r .setting) l) in
+        let most = o .good .setting .lanes l (o .judged .numbered) .kind .most in
+        let same = ap (λ (y : Setting). (lane y l) .longest) (gap-setting r ((lane (r .setting) l) .channel) k) in
+        length-laid h (partSize * l) _ (omega (arith, few, most, same, o .judged .numbered, o .good .setting .numbered)) ∙ full
+    go (Verdict.Repeat k) o = unfold onVerdict in full
 
 -- Units and records of any frame fit 12,288 and 9,600 octets.
 pub record Small (a : Answer) : Type 0 where

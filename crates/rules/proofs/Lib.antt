@@ -11,6 +11,7 @@ pub mod States
 pub mod Calls
 pub mod Promises
 pub mod Looks
+pub mod Repeats
 pub mod Written
 pub mod Worked
 pub mod RuledOut

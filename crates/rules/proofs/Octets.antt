@@ -1,11 +1,11 @@
 -- Numbers and octets, once over n; fields, once over their place and width; the frame check has sixteen bits.
 use mathlib.Core.Path.{_≡_, refl, sym, ap, ap₂, _∙_}
 use Prim.Native.Nat.{ℕ, zero, suc, _+_, _-_, _*_, _/_, _%_, _^_, _≤_, _<_}
-use native.Mathlib.Nat.{zero-lt-suc, one-le-pow, pow-zero, pow-succ', mod-one, mod-lt, mod-eq-of-lt, mul-add-div-right, mul-add-mod-self-right, mul-assoc, add-assoc, zero-add}
+use native.Mathlib.Nat.{zero-lt-suc, one-le-pow, pow-le-pow-right, pow-zero, pow-succ', mod-one, mod-lt, mod-eq-of-lt, mul-add-div-right, mul-add-mod-self-right, mul-assoc, add-assoc, zero-add}
 use native.Mathlib.Omega.{arith}
 use mathlib.Core.Bool.{Bool, true, false}
 use mathlib.Core.List.{List, [], _∷_, _++_}
-use lib.ListN.{length, getD, take, drop}
+use lib.ListN.{length, getD, take, drop, length-take}
 use lib.Seq.{take-at, split-at, drop-cons}
 use lib.Pow.{pow-add, high, low}
 use lib.Arith.{mod-mul, digits-lt}
@@ -68,6 +68,14 @@ pub num-below : (xs : List ℕ) → Octets xs → num xs < 256 ^ length xs
 unfolding num
 num-below [] o = rw pow-zero (zero-lt-suc 0)
 num-below (x ∷ xs) o = rw (pow-succ' 256 (length xs)) (digits-lt (o .0) (num-below xs (o .1)))
+
+-- What n octets at most spell is below 256^n.
+pub num-part : (n : ℕ) (xs : List ℕ) → Octets xs → num (take n xs) < 256 ^ n
+num-part n xs o =
+    let b = num-below (take n xs) (octets-take n xs o) in
+    let k = length-take n xs in
+    let h : 256 ^ length (take n xs) ≤ 256 ^ n = pow-le-pow-right (zero-lt-suc 255) (omega arith) in
+    omega arith
 
 -- Back and there: the octets.
 pub be-num : (xs : List ℕ) → Octets xs → be (length xs) (num xs) ≡ xs

@@ -141,6 +141,15 @@ module _ (r : Reader) where
       go zero = unfold gapBy in refl
       go (suc m) = unfold gapBy in refl
 
+  pub gap-expects : (c k : ℕ) → (gap r c k) .state .expects ≡ expecting (r .expects) c (expected ((channel (r .setting) c) .octets) k)
+  unfolding gap
+  gap-expects c k = go (missing ((channel (r .setting) c) .octets) (expect r c) k)
+    where
+      go : (m : ℕ) → (gapBy (withExpect r c (expected ((channel (r .setting) c) .octets) k)) c m) .state .expects
+          ≡ expecting (r .expects) c (expected ((channel (r .setting) c) .octets) k)
+      go zero = unfold gapBy in refl
+      go (suc m) = unfold gapBy in refl
+
   good-taken : GoodReader r → (c k : ℕ)
       → GoodReader (withExpect r c (expected ((channel (r .setting) c) .octets) k))
   good-taken g c k =
