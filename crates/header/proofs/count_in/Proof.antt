@@ -1,11 +1,11 @@
 -- `header::count_in` meets its contract: the octets behind the header are a part of the frame, and octets spell a number below 256^n.
-use Rattle.header.proofs.Counts.{count-small}
 use Prim.Native.Nat.{ℕ, _+_, _-_}
 use mathlib.Core.Path.{_≡_, ap, _∙_}
 use lib.ListN.{take, drop}
 use native.Mathlib.Omega.{arith}
 use Rattle.rules.specs.Octets.{num}
 use Rattle.rules.specs.Frames.{countIn}
+use Rattle.rules.proofs.Octets.{octets-each, octets-drop, num-part}
 use borrow.Author.Needs.{needs}
 use Rattle.header.proofs.count_in.Statement.{statement}
 use Rattle.header.proofs.count_in.Tie as tie
@@ -34,7 +34,8 @@ returns c =
     let a = c .before .before .before .before .args in
     let e : 7 + a .c .octets - 7 ≡ a .c .octets = omega arith in
     let v = c .exact .ensures ∙ ap (λ (n : ℕ). num (take n (drop 7 (a .frame .now)))) e in
-    (v, count-small (a .frame .now) 7 (a .c .octets) _ (λ i. omega (arith, c .before .before .before .shared-slice-known .given i)) v)
+    let o = octets-drop 7 (a .frame .now) (octets-each (a .frame .now) (λ i. omega (arith, c .before .before .before .shared-slice-known .given i))) in
+    (v, rw v (num-part (a .c .octets) (drop 7 (a .frame .now)) o))
 
 pub count-in-spec : {M : Type 1} → statement M
 count-in-spec =
