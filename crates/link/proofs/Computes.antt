@@ -86,22 +86,26 @@ turn-is w last x e = go (eqb (Settings.number w (x .lane)) 0) refl e
     go true q h = inl (eqb-true _ _ q)
     go false q h = inr (alike-is eqb eqb-true (x .batch) (last (x .lane)) h)
 
-unfoldable pub ordered : Writer → (ℕ → List ℕ) → List Link.Call → Bool
+unfoldable pub ordered : Writer → (ℕ → List ℕ) → List (Link.Event Link.Call) → Bool
 ordered w last [] = true
-ordered w last (x ∷ xs) =
+ordered w last (Link.Writes x ∷ es) =
     let o : Calls.Sent = Link.called w x in
-    done (o .sender .outcome) && (inTurn w last x && ordered (o .sender .state) (Demand.lending (x .lane) (x .batch) last) xs)
+    done (o .sender .outcome) && (inTurn w last x && ordered (o .sender .state) (Demand.lending (x .lane) (x .batch) last) es)
+ordered w last (Link.Copy c lent ∷ es) = ordered w last es
+ordered w last (Link.Stray f lent ∷ es) = ordered w last es
 
-pub ordered-is : (w : Writer) (last : ℕ → List ℕ) (xs : List Link.Call) → ordered w last xs ≡ true → Demand.InOrder w last xs
+pub ordered-is : (w : Writer) (last : ℕ → List ℕ) (es : List (Link.Event Link.Call)) → ordered w last es ≡ true → Demand.InOrder w last es
 unfolding ordered
 ordered-is w last [] e = tt
-ordered-is w last (x ∷ xs) e =
+ordered-is w last (Link.Writes x ∷ es) e =
     let a = (and-eq-true-iff (done ((Link.called w x) .sender .outcome)) _) .0 e in
     let b = (and-eq-true-iff (inTurn w last x) _) .0 (a .1) in (
       done-is ((Link.called w x) .sender .outcome) (a .0),
       turn-is w last x (b .0),
-      ordered-is ((Link.called w x) .sender .state) (Demand.lending (x .lane) (x .batch) last) xs (b .1),
+      ordered-is ((Link.called w x) .sender .state) (Demand.lending (x .lane) (x .batch) last) es (b .1),
     )
+ordered-is w last (Link.Copy c lent ∷ es) e = ordered-is w last es e
+ordered-is w last (Link.Stray f lent ∷ es) e = ordered-is w last es e
 
 -- To unfold these is to unfold every test, and every definition of the specs.
 unfoldable pub tests : ℕ
@@ -109,18 +113,18 @@ unfolding alike done inTurn ordered
 tests = zero
 
 unfoldable pub all : ℕ
-unfolding Tests.all Tests.every Tests.first Tests.given Octets.be Octets.num Octets.widths Octets.packed Octets.bits Octets.checkBit Octets.checkBits Octets.checkFrom Octets.checkOf Areas.laid Areas.joined Settings.zone Settings.rangesOk Settings.channelOk Settings.channelsAgree Settings.channelsOk Settings.kindOk Settings.laneOk Settings.lanesDiffer Settings.lanesOk Settings.settingOk Settings.freshReader Settings.freshWriter Settings.readerOk Settings.writerOk Frames.header Frames.primary Frames.dataHeader Frames.body Frames.checked Frames.countIn Frames.ruleIn Frames.upidIn Frames.pointerIn Frames.zoneIn Frames.checkHolds Frames.pointsTo Packets.sized Packets.measured Packets.measure Packets.packetsUpTo Packets.packets Writing.noneAbove Writing.batchOk Writing.frames Writing.zoneOf Writing.ruleOf Writing.startFrom Writing.offsetOf Writing.inside Writing.pointerOf Writing.frameOf Writing.numberAfter Writing.countAfter Writing.writerAfter Reading.missing Reading.expected Reading.emptied Reading.lost Reading.gapBy Reading.gap Reading.both Reading.endFate Reading.joinedFate Reading.leadFate Reading.lead Reading.sizedNext Reading.nextOf Reading.walkUpTo Reading.walk Reading.packetLane Reading.unitFate Reading.followFate Reading.portion Reading.accessLane Reading.laneStep Reading.recordOf Reading.recordsFrom Reading.infoOf Refusals.channelAt Refusals.laneAt Refusals.ruleFits Refusals.dataWrong Refusals.refusalsAt Refusals.refusals Refusals.onChannel Refusals.passed Refusals.judged Refusals.judge Calls.setUpReader Calls.setUpWriter Calls.writeRefusals Calls.written Calls.write Calls.areasShort Calls.laidOut Calls.madeBy Calls.readOn Calls.onVerdict Calls.readRefusals Calls.verdict Calls.read Worked.worked Worked.sentBy Worked.sends Worked.readBy Worked.reads Worked.each Worked.dataHeaders Worked.packetOf Errors.paired Errors.sealed Errors.packetFrame Errors.accessFrame Errors.forged Errors.shown Errors.refused Errors.errors Errors.edges Link.called Link.frameBy Link.sent Link.arrivals Link.reads Link.unitBy Link.unitsBy Link.handed Link.handedOut Due.ending Due.backTo Due.noneGone Due.clean Due.dueIn Due.due Demand.lending Demand.enough Demand.inert Demand.allInert Demand.passes Demand.allPass Demand.keptOn Demand.fewGone Corollaries.unitsSent Corollaries.unitsEnded Corollaries.afterCalls Corollaries.allKept Examples.packet Examples.full Examples.roomy Examples.call Examples.strings Examples.closing Examples.calls Examples.wanted Examples.unharmed Examples.mixed Examples.long Examples.wantedLong Examples.gapOf Examples.onEach Examples.got Examples.dueOnEach Examples.owed
+unfolding Tests.all Tests.every Tests.first Tests.given Octets.be Octets.num Octets.widths Octets.packed Octets.bits Octets.checkBit Octets.checkBits Octets.checkFrom Octets.checkOf Areas.laid Areas.joined Settings.zone Settings.rangesOk Settings.channelOk Settings.channelsAgree Settings.channelsOk Settings.kindOk Settings.laneOk Settings.lanesDiffer Settings.lanesOk Settings.settingOk Settings.freshReader Settings.freshWriter Settings.readerOk Settings.writerOk Frames.header Frames.primary Frames.dataHeader Frames.body Frames.checked Frames.countIn Frames.ruleIn Frames.upidIn Frames.pointerIn Frames.zoneIn Frames.checkHolds Frames.pointsTo Packets.sized Packets.measured Packets.measure Packets.packetsUpTo Packets.packets Writing.noneAbove Writing.batchOk Writing.frames Writing.zoneOf Writing.ruleOf Writing.startFrom Writing.offsetOf Writing.inside Writing.pointerOf Writing.frameOf Writing.numberAfter Writing.countAfter Writing.writerAfter Reading.missing Reading.expected Reading.lastTaken Reading.repeats Reading.emptied Reading.lost Reading.gapBy Reading.gap Reading.both Reading.endFate Reading.joinedFate Reading.leadFate Reading.lead Reading.sizedNext Reading.nextOf Reading.walkUpTo Reading.walk Reading.packetLane Reading.unitFate Reading.followFate Reading.portion Reading.accessLane Reading.laneStep Reading.recordOf Reading.recordsFrom Reading.infoOf Refusals.channelAt Refusals.laneAt Refusals.ruleFits Refusals.dataWrong Refusals.refusalsAt Refusals.refusals Refusals.onChannel Refusals.passed Refusals.judged Refusals.judge Calls.setUpReader Calls.setUpWriter Calls.writeRefusals Calls.written Calls.write Calls.areasShort Calls.laidOut Calls.madeBy Calls.readOn Calls.repeatsAt Calls.again Calls.onVerdict Calls.readRefusals Calls.verdict Calls.read Worked.worked Worked.sentBy Worked.sends Worked.readBy Worked.reads Worked.each Worked.dataHeaders Worked.packetOf Errors.paired Errors.sealed Errors.packetFrame Errors.accessFrame Errors.forged Errors.shown Errors.refused Errors.errors Errors.edges Errors.copies Link.called Link.frameBy Link.arrives Link.flown Link.sent Link.sending Link.arrivals Link.reads Link.unitBy Link.unitsBy Link.handed Link.handedOut Due.ending Due.backTo Due.noneGone Due.clean Due.dueIn Due.due Demand.lending Demand.enough Demand.inert Demand.passes Demand.allPass Demand.keptOn Demand.fewGone Corollaries.unitsSent Corollaries.unitsEnded Corollaries.afterCalls Corollaries.sentBefore Corollaries.allKept Examples.packet Examples.full Examples.roomy Examples.call Examples.row Examples.strings Examples.closing Examples.calls Examples.wanted Examples.unharmed Examples.mixed Examples.long Examples.wantedLong Examples.gapOf Examples.onEach Examples.got Examples.dueOnEach Examples.owed
 all = zero
 
-abbrev pub Orderly : Setting → List Link.Call → Type 0
-Orderly s xs = ordered ((Calls.setUpWriter s) .state) (λ (l : ℕ). []) xs ≡ true
+abbrev pub Orderly : Setting → List (Link.Event Link.Call) → Type 0
+Orderly s es = ordered ((Calls.setUpWriter s) .state) (λ (l : ℕ). []) es ≡ true
 
 -- A run that meets the premises, and whose reads hand out on some lane something else than what is due there, refutes the demand.
-pub refutes : (s : Setting) (ls : List ℕ) (xs : List Link.Call) → Demand.Run s Examples.held xs → Demand.Near s xs
-    → sameLists (Examples.got s ls xs) (Examples.owed s ls xs) ≡ false → Demand.Demand → ⊥
+pub refutes : (s : Setting) (ls : List ℕ) (es : List (Link.Event Link.Call)) → Demand.Run s Examples.held es → Demand.Near s es
+    → sameLists (Examples.got s ls es) (Examples.owed s ls es) ≡ false → Demand.Demand → ⊥
 unfolding Examples.onEach Examples.got Examples.dueOnEach Examples.owed
-refutes s ls xs run near n d = lists-not (Examples.got s ls xs) (Examples.owed s ls xs) n (exact ls)
+refutes s ls es run near n d = lists-not (Examples.got s ls es) (Examples.owed s ls es) n (exact ls)
   where
-    exact : (ls : List ℕ) → Examples.onEach ls (Demand.readsOf s Examples.held xs) ≡ Examples.dueOnEach ls (Demand.framesOf s xs)
+    exact : (ls : List ℕ) → Examples.onEach ls (Demand.readsOf s Examples.held es) ≡ Examples.dueOnEach ls (Demand.framesOf s es)
     exact [] = refl
-    exact (l ∷ ls) = ap₂ _∷_ (d s Examples.held xs run near l) (exact ls)
+    exact (l ∷ ls) = ap₂ _∷_ (d s Examples.held es run near l) (exact ls)

@@ -2,13 +2,13 @@
 -- the facts on which a run stands. Nothing here knows what a frame looks like, so a pair with other frames has no second proof of the demand.
 use mathlib.Core.Path.{_≡_, refl, sym, ap, _∙_}
 use mathlib.Core.Logic.{_⊎_}
-use Prim.Native.Nat.{ℕ, _^_, _<_}
-use mathlib.Core.Bool.{false}
+use Prim.Native.Nat.{ℕ, _^_, _≤_, _<_}
+use mathlib.Core.Bool.{Bool, false}
 use mathlib.Core.List.{List, []}
 use borrow.Author.Tests.{ne-eqb, eq-eqb}
 use Rattle.rules.specs.declared.Expect.{Expect}
 use Rattle.rules.specs.Writing.{countAfter}
-use Rattle.rules.specs.Reading.{expected}
+use Rattle.rules.specs.Reading.{missing, expected}
 use Rattle.link.specs.Link.{Lent, Arrival, Frame}
 use Rattle.link.specs.Demand.{lending}
 use Rattle.link.proofs.Spans.{Filled, yields, Delivers, Follows}
@@ -19,17 +19,20 @@ pub record Ends : Type 1 where
   pub Call : Type 0
   -- The reader and its held octets.
   pub Hearer : Type 0
-  -- The frame that a call writes, the batch that it lends, and the writer that it leaves.
-  pub frame : Writer → Call → Frame
+  -- The channel on which a call sends, the frame that it writes, if that is kept or gone, the batch that it lends, and the writer that it leaves.
+  pub place : Call → ℕ
+  pub frame : Writer → Call → Bool → Frame
   pub batch : Call → List ℕ
   pub next : Writer → Call → Writer
   -- The reader that a read leaves, and what it hands out on each lane.
   pub heard : Hearer → Arrival → Hearer
   pub hands : Hearer → Arrival → ℕ → List (List ℕ)
-  -- How many lanes there are; the place of a lane's channel, how many octets its counts have, and the units of a batch.
+  -- How many lanes there are; the place of a lane's channel, how many octets its counts have, and how many frames gone between two kept ones are
+  -- one too many; and the units of a batch.
   pub lanes : ℕ
   pub channel : ℕ → ℕ
   pub octets : ℕ → ℕ
+  pub bound : ℕ → ℕ
   pub units : ℕ → List ℕ → List (List ℕ)
   -- Of a lane: the octet with which its next frame starts, if this is the batch that it is at, and its channel's count; the count that is
   -- expected there, and the octets that are held.
@@ -41,12 +44,12 @@ pub record Ends : Type 1 where
   -- arrives changes nothing at the reader.
   pub Goes : Writer → (ℕ → List ℕ) → Call → Type 0
   pub Enough : Lent → Type 0
-  pub Inert : Hearer → Arrival → Type 0
+  pub Inert : Arrival → Type 0
   -- What holds of the ends between calls.
   pub SoundWriter : Writer → Type 0
   pub SoundHearer : Hearer → Type 0
 
--- What arrives of a kept frame.
+-- A copy of a frame that arrives.
 abbrev pub whole : Frame → Lent → Arrival
 whole f lent = record { octets = f .octets; lent = lent }
 
@@ -119,12 +122,29 @@ module _ (E : Ends) where
 
   -- ---- the facts
 
+  -- An accepted call's frame f, of which a copy arrives at r.
+  pub record Copied (w : E .Writer) (f : Frame) (r : E .Hearer) (lent : Lent) : Type 0 where
+    -- Where the reader misses fewer than the bound, the frame is heard.
+    pub new : (l : ℕ) → l < E .lanes → f .channel ≡ E .channel l → missing (E .octets l) (E .expect r l) (E .count w l) < E .bound l
+        → Heard w r f (E .heard r (whole f lent)) (E .hands r (whole f lent))
+    -- Where its count was the last one taken, nothing changes.
+    pub again : (l : ℕ) → l < E .lanes → f .channel ≡ E .channel l → E .expect r l ≡ expected (E .octets l) (E .count w l) → Unmoved r (whole f lent)
+    -- One or the other.
+    pub either : Heard w r f (E .heard r (whole f lent)) (E .hands r (whole f lent)) ⊎ Unmoved r (whole f lent)
+
+  -- Counts tell as many frames apart as the bound asks for.
+  abbrev pub Bounded : Type 0
+  Bounded = (l : ℕ) → l < E .lanes → (0 < E .bound l) × (E .bound l ≤ 256 ^ E .octets l)
+
   pub record Facts : Type 0 where
-    pub sends : (w : E .Writer) (last : ℕ → List ℕ) (x : E .Call) → E .SoundWriter w → E .Goes w last x
-        → Sends w last (E .batch x) (E .frame w x) (E .next w x)
-    pub unmoved : (r : E .Hearer) (a : Arrival) → E .SoundHearer r → E .Inert r a → Unmoved r a
-    pub heard : (w : E .Writer) (r : E .Hearer) (last : ℕ → List ℕ) (x : E .Call) (lent : Lent) → E .SoundWriter w → E .SoundHearer r → E .Goes w last x
-        → E .Enough lent → Heard w r (E .frame w x) (E .heard r (whole (E .frame w x) lent)) (E .hands r (whole (E .frame w x) lent))
+    pub bounded : Bounded
+    pub kept : (w : E .Writer) (x : E .Call) (k : Bool) → (E .frame w x k) .kept ≡ k
+    pub place : (w : E .Writer) (x : E .Call) (k : Bool) → (E .frame w x k) .channel ≡ E .place x
+    pub sends : (w : E .Writer) (last : ℕ → List ℕ) (x : E .Call) (k : Bool) → E .SoundWriter w → E .Goes w last x
+        → Sends w last (E .batch x) (E .frame w x k) (E .next w x)
+    pub unmoved : (r : E .Hearer) (a : Arrival) → E .SoundHearer r → E .Inert a → Unmoved r a
+    pub copied : (w : E .Writer) (r : E .Hearer) (last : ℕ → List ℕ) (x : E .Call) (k : Bool) (lent : Lent) → E .SoundWriter w → E .SoundHearer r
+        → E .Goes w last x → E .Enough lent → Copied w (E .frame w x k) r lent
 
   -- ---- fresh ends
 

@@ -15,7 +15,7 @@ use Rattle.rules.specs.Tests.{_≤?_, _<?_, _=?_}
 use Rattle.rules.specs.Writing.{countAfter}
 use Rattle.rules.specs.Reading.{missing, expected}
 use Rattle.rules.proofs.Tests.{split, same, and-left, and-right}
-use Rattle.rules.proofs.Counts.{missing-unknown, missing-gone, expected-below, one-further, none-further}
+use Rattle.rules.proofs.Counts.{expect-by, missing-unknown, missing-gone, expected-below, one-further, none-further}
 use Rattle.link.specs.Due.{ending}
 use Rattle.link.specs.Demand.{fewGone}
 use Rattle.link.proofs.Spans.{Yield, yields, heldFrom, held-none, held-over, Delivers, Follows}
@@ -35,11 +35,8 @@ pub record View : Type 0 where
 unfoldable pub heldAfter : ℕ → Expect → ℕ → List ℕ → List ℕ
 heldAfter n e v hold = cond (missing n e v =? 0) hold []
 
--- A lane whose channel's counts have n octets.
-module _ (n : ℕ) where
-  abbrev m : ℕ
-  m = 256 ^ n
-
+-- A lane whose channel's counts have n octets, and between two of whose channel's kept frames fewer than m are gone.
+module _ (n m : ℕ) where
   -- `whole i` says that no frame of the channel is gone since the frame where octet i of the batch is; the flags say which frames of the channel
   -- that are to come are kept.
   pub record Inv (v : View) (whole : ℕ → Bool) (flags : List Bool) : Type 0 where
@@ -54,7 +51,7 @@ module _ (n : ℕ) where
     pub held : gone ≡ 0 → v .hold ≡ heldFrom j 0 (v .start) (v .units)
     pub fresh : any ≡ false → v .hold ≡ []
     pub lost : (gone ≡ 0 → ⊥) → j ≡ v .start
-    pub few : fewGone (256 ^ n) any gone flags ≡ true
+    pub few : fewGone m any gone flags ≡ true
 
   -- Where all that began is lost, nothing is held.
   none-left : (start : ℕ) (us : List (List ℕ)) → heldFrom start 0 start us ≡ []
@@ -103,7 +100,7 @@ module _ (n : ℕ) where
 
   -- ---- a frame of the channel is kept
 
-  module _ (v : View) (whole : ℕ → Bool) (flags : List Bool) (r : Inv v whole (true ∷ flags)) where
+  module _ (some : 0 < m) (most : m ≤ 256 ^ n) (v : View) (whole : ℕ → Bool) (flags : List Bool) (r : Inv v whole (true ∷ flags)) where
     near : r .any ≡ true → r .gone < m
     unfolding fewGone
     near a = go (r .any) a (and-left (not (r .any) || r .gone <? m) (fewGone m true 0 flags) (r .few))
@@ -116,16 +113,20 @@ module _ (n : ℕ) where
     unfolding fewGone
     few-next = and-right (not (r .any) || r .gone <? m) (fewGone m true 0 flags) (r .few)
 
-    expect-is : v .expect ≡ record { known = r .any; count = v .expect .count }
-    expect-is = ap (λ (t : Bool). record { known = t; count = v .expect .count }) (r .known)
-
     missed : (t : Bool) → r .any ≡ t → missing n (v .expect) (v .count) ≡ cond t (r .gone) 0
     missed true a =
-        ap₂ (λ (e : Expect) (x : ℕ). missing n e x) (expect-is ∙ ap (λ (t : Bool). record { known = t; count = v .expect .count }) a) (r .count a)
-        ∙ missing-gone n (v .expect .count) (r .gone) (r .below) (near a)
+        ap₂ (λ (e : Expect) (x : ℕ). missing n e x) (expect-by (v .expect) true (r .known ∙ a)) (r .count a)
+        ∙ missing-gone n (v .expect .count) (r .gone) (r .below) (omega (arith, near a, most))
     missed false a =
-        ap (λ (e : Expect). missing n e (v .count)) (expect-is ∙ ap (λ (t : Bool). record { known = t; count = v .expect .count }) a)
-        ∙ missing-unknown n (v .expect .count) (v .count)
+        ap (λ (e : Expect). missing n e (v .count)) (expect-by (v .expect) false (r .known ∙ a)) ∙ missing-unknown n (v .expect .count) (v .count)
+
+    -- The reader misses fewer than m.
+    pub few-missed : missing n (v .expect) (v .count) < m
+    few-missed = go (r .any) refl
+      where
+        go : (t : Bool) → r .any ≡ t → missing n (v .expect) (v .count) < m
+        go true a = omega (arith, missed true a, near a)
+        go false a = omega (arith, missed false a, some)
 
     -- The reader then holds what it should: the gap, if there is one, drops what is lost.
     settled : heldAfter n (v .expect) (v .count) (v .hold) ≡ heldFrom (r .j) 0 (v .start) (v .units)

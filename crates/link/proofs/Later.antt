@@ -9,15 +9,15 @@ use mathlib.Core.List.{List, [], _∷_, _++_, append-assoc}
 use borrow.Author.Tests.{ne-eqb, eq-eqb}
 use Rattle.rules.specs.Tests.{_=?_}
 use Rattle.rules.proofs.Tests.{split, same, and-left, and-right}
-use Rattle.link.specs.Link.{Frame}
-use Rattle.link.specs.Due.{ending, kept, noneGone, clean, dueIn, due}
+use Rattle.link.specs.Link.{Frame, Event, Writes, Copy, Stray, arrives, sent}
+use Rattle.link.specs.Due.{ending, noneGone, clean, dueIn, due}
 use Rattle.link.specs.Demand.{lending}
 use Rattle.link.specs.Corollaries.{begunIn, endedIn, unitsSent, unitsEnded}
 use Rattle.link.proofs.Spans.{Filled, Follows}
 use Rattle.link.proofs.Once.{endsIn, ends-on, ends-nowhere, ends-all}
 use Rattle.link.proofs.Ends.{Ends, Sends, start-own, units-own, start-same, units-same, Facts}
 use Rattle.link.proofs.Views.{Safe, clean-other, clean-now, clean-before, due-not}
-use Rattle.link.proofs.Run.{wrote, after, Runs}
+use Rattle.link.proofs.Run.{Events, flies, after, Runs}
 
 -- ---- the frames of one batch
 
@@ -112,46 +112,63 @@ module _ (E : Ends) where
   abbrev pub Begins : ℕ → E .Writer → Type 0
   Begins l w = (b : List ℕ) → E .start w l b ≡ 0
 
-  -- ---- the calls
+  -- ---- the events
+
+  -- The frames of the events xs, which ys follow.
+  unfoldable pub wroteBefore : E .Writer → Events E → Events E → List Frame
+  wroteBefore w [] ys = []
+  wroteBefore w (Writes x ∷ xs) ys = E .frame w x (arrives (E .place) (E .place x) (xs ++ ys)) ∷ wroteBefore (E .next w x) xs ys
+  wroteBefore w (Copy c lent ∷ xs) ys = wroteBefore w xs ys
+  wroteBefore w (Stray f lent ∷ xs) ys = wroteBefore w xs ys
 
   module _ (facts : Facts E) (l : ℕ) where
     -- No frame of the channel is gone: every unit that ends is due.
-    all-due : (xs : List (E .Call)) (w : E .Writer) (r : E .Hearer) (last : ℕ → List ℕ) (past : List Frame) → E .SoundWriter w → Runs E w r last xs
-        → Clean l w last past → noneGone (E .channel l) (wrote E w xs) ≡ true → due l past (wrote E w xs) ≡ unitsEnded l (wrote E w xs)
-    unfolding wrote due unitsEnded noneGone
-    all-due [] w r last past s g h q = refl
-    all-due (x ∷ xs) w r last past s g h q =
-        let k = facts .sends w last x s (g .0) in
-        let d = due-step w last (E .batch x) (E .frame w x) (E .next w x) k past l (and-left _ _ q) h in
+    all-due : (es : Events E) (w : E .Writer) (last : ℕ → List ℕ) (past : List Frame) → E .SoundWriter w → Runs E w last es
+        → Clean l w last past → noneGone (E .channel l) (sent (flies E w es)) ≡ true → due l past (sent (flies E w es)) ≡ unitsEnded l (sent (flies E w es))
+    unfolding flies sent due unitsEnded noneGone
+    all-due [] w last past s g h q = refl
+    all-due (Writes x ∷ es) w last past s g h q =
+        let f : Frame = E .frame w x (arrives (E .place) (E .place x) es) in
+        let k : Sends E w last (E .batch x) f (E .next w x) = facts .sends w last x _ s (g .0) in
+        let d = due-step w last (E .batch x) f (E .next w x) k past l (and-left _ _ q) h in
         ap₂ _++_ (d .0)
-        (all-due xs (E .next w x) _ _ (E .frame w x ∷ past) (k .sound) (g .2) (d .1)
-        (and-right (cond ((E .frame w x) .channel =? E .channel l) (kept ((E .frame w x) .passage)) true) _ q))
+        (all-due es (E .next w x) _ (f ∷ past) (k .sound) (g .1) (d .1) (and-right (cond (f .channel =? E .channel l) (f .kept) true) _ q))
+    all-due (Copy c lent ∷ es) w last past s g h q = all-due es w last past s (g .1) h q
+    all-due (Stray o lent ∷ es) w last past s g h q = all-due es w last past s (g .1) h q
 
     -- The lane stands between batches afterwards: all that began has ended.
-    all-ended : (xs : List (E .Call)) (w : E .Writer) (r : E .Hearer) (last : ℕ → List ℕ) → E .SoundWriter w → Runs E w r last xs
-        → Begins l (after E w xs) → EvenAt l w last (unitsEnded l (wrote E w xs)) (unitsSent l (wrote E w xs))
-    unfolding wrote unitsEnded unitsSent after
-    all-ended [] w r last s g e =
+    all-ended : (es : Events E) (w : E .Writer) (last : ℕ → List ℕ) → E .SoundWriter w → Runs E w last es
+        → Begins l (after E w es) → EvenAt l w last (unitsEnded l (sent (flies E w es))) (unitsSent l (sent (flies E w es)))
+    unfolding flies sent unitsEnded unitsSent after
+    all-ended [] w last s g e =
         even-in 0 _ (E .units l (last l)) _ [] [] (sym (e (last l))) refl (ap (λ (us : List (List ℕ)). us ++ []) (ends-nowhere 0 (E .units l (last l)) 0))
-    all-ended (x ∷ xs) w r last s g e =
-        let k = facts .sends w last x s (g .0) in
-        even-step w last (E .batch x) (E .frame w x) (E .next w x) k l _ _ (all-ended xs (E .next w x) _ _ (k .sound) (g .2) e)
+    all-ended (Writes x ∷ es) w last s g e =
+        let f : Frame = E .frame w x (arrives (E .place) (E .place x) es) in
+        let k : Sends E w last (E .batch x) f (E .next w x) = facts .sends w last x _ s (g .0) in
+        even-step w last (E .batch x) f (E .next w x) k l _ _ (all-ended es (E .next w x) _ (k .sound) (g .1) e)
+    all-ended (Copy c lent ∷ es) w last s g e = all-ended es w last s (g .1) e
+    all-ended (Stray o lent ∷ es) w last s g e = all-ended es w last s (g .1) e
 
-    -- After the calls xs the lane stands between batches: of the calls ys all that ends is due, if no frame of the channel is gone; and all that
+    -- After the events xs the lane stands between batches: of the events ys all that ends is due, if no frame of the channel is gone; and all that
     -- begins ends, if it stands there after them too.
-    pub later-due : (xs ys : List (E .Call)) (w : E .Writer) (r : E .Hearer) (last : ℕ → List ℕ) (past : List Frame) → E .SoundWriter w
-        → Runs E w r last (xs ++ ys) → Begins l (after E w xs) → noneGone (E .channel l) (wrote E (after E w xs) ys) ≡ true
-        → due l past (wrote E w (xs ++ ys)) ≡ due l past (wrote E w xs) ++ unitsEnded l (wrote E (after E w xs) ys)
-    unfolding wrote after due
-    later-due [] ys w r last past s g b n = all-due ys w r last past s g (λ a h. absurd (omega (arith, b (last l)))) n
-    later-due (x ∷ xs) ys w r last past s g b n =
-        let k = facts .sends w last x s (g .0) in
-        ap (λ (us : List (List ℕ)). dueIn l (E .frame w x) past ++ us) (later-due xs ys (E .next w x) _ _ (E .frame w x ∷ past) (k .sound) (g .2) b n)
-        ∙ sym (append-assoc (dueIn l (E .frame w x) past) _ _)
+    pub later-due : (xs ys : Events E) (w : E .Writer) (last : ℕ → List ℕ) (past : List Frame) → E .SoundWriter w
+        → Runs E w last (xs ++ ys) → Begins l (after E w xs) → noneGone (E .channel l) (sent (flies E (after E w xs) ys)) ≡ true
+        → due l past (sent (flies E w (xs ++ ys))) ≡ due l past (wroteBefore w xs ys) ++ unitsEnded l (sent (flies E (after E w xs) ys))
+    unfolding flies sent after due wroteBefore
+    later-due [] ys w last past s g b n = all-due ys w last past s g (λ a h. absurd (omega (arith, b (last l)))) n
+    later-due (Writes x ∷ xs) ys w last past s g b n =
+        let f : Frame = E .frame w x (arrives (E .place) (E .place x) (xs ++ ys)) in
+        ap (λ (us : List (List ℕ)). dueIn l f past ++ us)
+        (later-due xs ys (E .next w x) _ (f ∷ past) ((facts .sends w last x true s (g .0)) .sound) (g .1) b n)
+        ∙ sym (append-assoc (dueIn l f past) _ _)
+    later-due (Copy c lent ∷ xs) ys w last past s g b n = later-due xs ys w last past s (g .1) b n
+    later-due (Stray o lent ∷ xs) ys w last past s g b n = later-due xs ys w last past s (g .1) b n
 
-    pub later-units : (xs ys : List (E .Call)) (w : E .Writer) (r : E .Hearer) (last : ℕ → List ℕ) → E .SoundWriter w → Runs E w r last (xs ++ ys)
+    pub later-units : (xs ys : Events E) (w : E .Writer) (last : ℕ → List ℕ) → E .SoundWriter w → Runs E w last (xs ++ ys)
         → Begins l (after E w xs) → Begins l (after E w (xs ++ ys))
-        → unitsEnded l (wrote E (after E w xs) ys) ≡ unitsSent l (wrote E (after E w xs) ys)
+        → unitsEnded l (sent (flies E (after E w xs) ys)) ≡ unitsSent l (sent (flies E (after E w xs) ys))
     unfolding after
-    later-units [] ys w r last s g b e = even-zero (E .start w l (last l)) (E .units l (last l)) _ _ (b (last l)) (all-ended ys w r last s g e)
-    later-units (x ∷ xs) ys w r last s g b e = later-units xs ys (E .next w x) _ _ ((facts .sends w last x s (g .0)) .sound) (g .2) b e
+    later-units [] ys w last s g b e = even-zero (E .start w l (last l)) (E .units l (last l)) _ _ (b (last l)) (all-ended ys w last s g e)
+    later-units (Writes x ∷ xs) ys w last s g b e = later-units xs ys (E .next w x) _ ((facts .sends w last x true s (g .0)) .sound) (g .1) b e
+    later-units (Copy c lent ∷ xs) ys w last s g b e = later-units xs ys w last s (g .1) b e
+    later-units (Stray o lent ∷ xs) ys w last s g b e = later-units xs ys w last s (g .1) b e

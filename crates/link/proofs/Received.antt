@@ -1,5 +1,5 @@
--- What one read does: inert octets leave everything, and a written frame takes its count, makes its lane step, and leaves the other
--- lanes' octets where they are.
+-- What one read does: inert octets, and a frame whose count was the last one taken, leave everything; any other written frame takes its count, makes its
+-- lane step, and leaves the other lanes' octets where they are.
 use mathlib.Core.Path.{_≡_, refl, sym, ap, ap₂, _∙_, subst}
 use Prim.Native.Nat.{ℕ, zero, suc, _+_, _*_, _≤_, _<_}
 use native.Mathlib.Nat.{not-suc-le-zero, le-of-suc-le-suc, suc-ne-zero}
@@ -21,9 +21,9 @@ use Rattle.rules.specs.Areas.{laid, joined, part, heldSize, partSize, recordsSi
 use Rattle.rules.specs.Settings.{noLane, noSlot, lane, expectOn, expecting, channelOf, zone, readerOk}
 use Rattle.rules.specs.Frames.{ruleIn, pointerIn, zoneIn, pointsTo}
 use Rattle.rules.specs.Writing.{zoneOf, ruleOf, pointerOf}
-use Rattle.rules.specs.Reading.{missing, expected, emptied, lanesOf, gapBy, gap, octetsOf, Made, keeps, laneStep}
+use Rattle.rules.specs.Reading.{missing, expected, repeats, emptied, lanesOf, gapBy, gap, octetsOf, Made, keeps, laneStep}
 use Rattle.rules.specs.Refusals.{refusals, judged, judge}
-use Rattle.rules.specs.Calls.{Got, areasShort, laidOut, madeBy, readOn, onVerdict, read}
+use Rattle.rules.specs.Calls.{Got, areasShort, laidOut, madeBy, readOn, repeatsAt, again, onVerdict, verdict, read}
 use Rattle.rules.proofs.Tests.{split, and-left, and-right}
 use Rattle.rules.proofs.Areas.{length-laid, laid-at, laid-before, laid-after}
 use Rattle.rules.specs.Valid.{Good, GoodReader, least}
@@ -38,22 +38,28 @@ use Rattle.link.proofs.Records.{handed-laid}
 
 -- ---- octets that change nothing
 
-module _ (r : Reader) (f h : List ℕ) (a : Lent) (no : inert (r .setting) f ≡ true) where
-  pub record Untouched (o : Got) : Type 0 where
-    pub state : o .taken .state ≡ r
-    pub area : o .heldArea ≡ h
-    pub none : (l : ℕ) → handed l o ≡ []
+-- What is as it was.
+pub record Untouched (r : Reader) (h : List ℕ) (o : Got) : Type 0 where
+  pub state : o .taken .state ≡ r
+  pub area : o .heldArea ≡ h
+  pub none : (l : ℕ) → handed l o ≡ []
 
-  refused : (n : ℕ) → Untouched (onVerdict (Verdict.Refused n) r f h (a .units) (a .records))
+module _ (r : Reader) (f h : List ℕ) (a : Lent) where
+  refused : (n : ℕ) → Untouched r h (onVerdict (Verdict.Refused n) r f h (a .units) (a .records))
   unfolding onVerdict handed unitsBy
   refused n = record { state = refl; area = refl; none = λ l. refl }
 
-  pub stray : Untouched (read r f h (a .units) (a .records))
-  unfolding read judge judged inert
-  stray = rw (verdict-cond r f h (a .units) (a .records)) (go (readerOk r) (areasShort h (a .units) (a .records)) (given (refusals (r .setting) f)) no)
+  repeated : (c : ℕ) → Untouched r h (onVerdict (Verdict.Repeat c) r f h (a .units) (a .records))
+  unfolding onVerdict handed unitsBy
+  repeated c = record { state = refl; area = refl; none = λ l. refl }
+
+  pub stray : inert (r .setting) f ≡ true → Untouched r h (read r f h (a .units) (a .records))
+  unfolding read judge judged inert again
+  stray i = rw (verdict-cond r f h (a .units) (a .records)) (go (readerOk r) (areasShort h (a .units) (a .records)) (given (refusals (r .setting) f)) i)
     where
       go : (p q : Bool) (n : ℕ) → (n ≠? 0) ≡ true
-          → Untouched (onVerdict (cond (not p) (Verdict.Refused 1) (cond q (Verdict.Refused 2) (judged (r .setting) f n))) r f h (a .units) (a .records))
+          → Untouched r h
+          (onVerdict (cond (not p) (Verdict.Refused 1) (cond q (Verdict.Refused 2) (again r f (judged (r .setting) f n)))) r f h (a .units) (a .records))
       go false q n e = refused 1
       go true true n e = refused 2
       go true false zero e = absurd (false≢true e)
@@ -214,11 +220,24 @@ module _ (s : Setting) (es : Expects) (hs : List Slot) (h : List ℕ) (a : Lent)
     abbrev g : Gap
     g = gap (reader s es hs) c v
 
-    read-is : read (reader s es hs) f h (a .units) (a .records)
+    -- A repeat, or read by the lane.
+    verdict-is : verdict (reader s es hs) f h (a .units) (a .records) ≡ cond (repeats n (expectOn es c) v) (Verdict.Repeat c) (Verdict.Read i)
+    unfolding again repeatsAt
+    verdict-is =
+        verdict-cond (reader s es hs) f h (a .units) (a .records)
+        ∙ rw (ok, enough-areas h a full lent, back .read)
+        (ap (λ (x : ℕ). cond (repeats n (expectOn es c) x) (Verdict.Repeat c) (Verdict.Read i)) (back .count))
+
+    -- Whose count was the last one taken: nothing changes.
+    pub read-again : repeats n (expectOn es c) v ≡ true → Untouched (reader s es hs) h (read (reader s es hs) f h (a .units) (a .records))
+    unfolding read
+    read-again e = rw (verdict-is, e) (repeated (reader s es hs) f h a c)
+
+    read-is : repeats n (expectOn es c) v ≡ false → read (reader s es hs) f h (a .units) (a .records)
         ≡ laidOut g i v (madeBy g i (channelOf s i) f h) h (a .units) (a .records)
     unfolding read onVerdict readOn
-    read-is =
-        rw (verdict-cond (reader s es hs) f h (a .units) (a .records), ok, enough-areas h a full lent, back .read)
+    read-is e =
+        rw (verdict-is, e)
         (ap (λ (x : ℕ). laidOut (gap (reader s es hs) c x) i x (madeBy (gap (reader s es hs) c x) i (channelOf s i) f h) h (a .units) (a .records))
         (back .count))
 
@@ -230,10 +249,10 @@ module _ (s : Setting) (es : Expects) (hs : List Slot) (h : List ℕ) (a : Lent)
         (pointsTo (pointerIn (r .setting) (channelOf s i) f)) (zoneIn (r .setting) (channelOf s i) f)) gap-state
         ∙ rw (back .rule, back .pointer, back .octets)
 
-    pub read-takes : Taken s es hs h i v (made b k) (read (reader s es hs) f h (a .units) (a .records))
+    pub read-takes : repeats n (expectOn es c) v ≡ false → Taken s es hs h i v (made b k) (read (reader s es hs) f h (a .units) (a .records))
     unfolding laidOut
-    read-takes =
-        subst (Taken s es hs h i v (made b k)) (sym (read-is ∙ ap (λ (m : Made). laidOut g i v m h (a .units) (a .records)) made-is))
+    read-takes new =
+        subst (Taken s es hs h i v (made b k)) (sym (read-is new ∙ ap (λ (m : Made). laidOut g i v m h (a .units) (a .records)) made-is))
         (record {
           state = ap (λ (r : Reader). reader (r .setting) (r .expects) (set (r .slots) i (keeps (made b k)))) gap-state;
           area = refl;
@@ -247,7 +266,7 @@ module _ (s : Setting) (es : Expects) (hs : List Slot) (h : List ℕ) (a : Lent)
         fits : length (joined (octetsOf ((made b k) .units))) ≤ unitsSize
         fits =
             subst (λ (o : Got). o .taken .answer .octets ≤ unitsSize)
-            (read-is ∙ ap (λ (m : Made). laidOut g i v m h (a .units) (a .records)) made-is)
+            (read-is new ∙ ap (λ (m : Made). laidOut g i v m h (a .units) (a .records)) made-is)
             (read-fits (reader s es hs) f h (a .units) (a .records) .octets)
 
         below : length ((made b k) .held) ≤ 8192
@@ -258,6 +277,6 @@ module _ (s : Setting) (es : Expects) (hs : List Slot) (h : List ℕ) (a : Lent)
             (zoneOf ((lane s i) .kind) (zone s (channelOf s i)) b k) (q .enough) in
             omega (arith, p, q .most)
 
-    pub read-ready : readerOk (readerAfter s es hs i v (made b k)) ≡ true
-    read-ready =
-        subst (λ (r : Reader). readerOk r ≡ true) (read-takes .state) (read-valid (reader s es hs) f h (a .units) (a .records) ok)
+    pub read-ready : repeats n (expectOn es c) v ≡ false → readerOk (readerAfter s es hs i v (made b k)) ≡ true
+    read-ready new =
+        subst (λ (r : Reader). readerOk r ≡ true) (read-takes new .state) (read-valid (reader s es hs) f h (a .units) (a .records) ok)

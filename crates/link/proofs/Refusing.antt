@@ -1,8 +1,7 @@
 -- Which octets a run refuses. A read of a valid reader with areas of the size asked for ends as refusals 3 to 12 say of its octets, and leaves
 -- such a reader; so do all reads of a run, whatever arrives. Frames that were written are refused by none.
 use mathlib.Core.Path.{_≡_, refl, ap, ap₂, _∙_, subst}
-use Prim.Native.Nat.{ℕ, zero, suc, _*_}
-use native.Mathlib.Omega.{arith}
+use Prim.Native.Nat.{ℕ, zero, suc}
 use mathlib.Core.Bool.{Bool, true, false, cond, not, _&&_, false≢true}
 use mathlib.Core.List.{List, [], _∷_, _++_}
 use lib.ListN.{length}
@@ -16,21 +15,20 @@ use Rattle.rules.specs.declared.Outcome.{Outcome}
 use Rattle.rules.specs.declared.Outcome.the-variants.{Done, Refused}
 use Rattle.rules.specs.declared.Verdict.{Verdict}
 use Rattle.rules.specs.Tests.{_=?_, _≠?_, given}
-use Rattle.rules.specs.Settings.{lane, channelOf, readerOk}
+use Rattle.rules.specs.Settings.{channel, lane, channelOf, readerOk}
 use Rattle.rules.specs.Frames.{vc, map, bypass, command, countIn}
 use Rattle.rules.specs.Refusals.{channelAt, laneAt, refusals, onChannel, passed, judged, judge}
-use Rattle.rules.specs.Calls.{setUpReader, setUpWriter, Got, laidOut, readOn, onVerdict, verdict, read}
+use Rattle.rules.specs.Calls.{setUpReader, setUpWriter, laidOut, readOn, repeatsAt, again, onVerdict, verdict, read}
 use Rattle.rules.proofs.Tests.{and-left, and-right}
-use Rattle.rules.proofs.Areas.{length-laid}
-use Rattle.rules.proofs.States.{gap-setting}
-use Rattle.rules.proofs.Calls.{Ruled, verdict-cond, verdict-facts, made-below, read-valid}
-use Rattle.link.specs.Link.{Lent, Arrival, Passage, Kept, Gone, besides, Call, called, Frame, frameBy, sent, arriving, arrivals, reads}
-use Rattle.link.specs.Demand.{lending, InOrder, enough, inert, allInert, passes, allPass, framesOf}
-use Rattle.link.specs.Corollaries.{endOf, ends, refusedBy, applying, RefusedOctets, refusedOf, octetsOf, allBesides, KeptAccepted}
+use Rattle.rules.specs.Valid.{Good}
+use Rattle.rules.proofs.Calls.{verdict-cond, read-valid, read-setting, read-held}
+use Rattle.link.specs.Link.{Call, frameBy, Lent, Event, Writes, Copy, Stray, placeIn, flown, Arrival, Air, silence, sending, copied, arrivals, reads}
+use Rattle.link.specs.Demand.{lending, InOrder, enough, inert, passes, allPass, arrivalsOf}
+use Rattle.link.specs.Corollaries.{endOf, ends, refusedBy, applying, RefusedOctets, refusedOf, strays, KeptAccepted}
 use Rattle.link.proofs.Received.{enough-areas}
 use Rattle.link.proofs.Uslp.{SoundWriter, back, facts}
-use Rattle.link.proofs.Theorem.{fresh-ends}
-use Rattle.rules.specs.Areas.{heldSize, partSize}
+use Rattle.link.proofs.Theorem.{fresh-ends, good-setting}
+use Rattle.rules.specs.Areas.{heldSize}
 
 -- ---- one read
 
@@ -39,6 +37,24 @@ refusal (Verdict.Refused n) = Refused n
 refusal Verdict.Idle = Done
 refusal (Verdict.Counted c) = Done
 refusal (Verdict.Read l) = Done
+refusal (Verdict.Repeat c) = Done
+
+-- A repeat is not refused, as it would not be if it were none.
+again-is : (r : Reader) (f : List ℕ) (v : Verdict) → refusal (again r f v) ≡ refusal v
+unfolding again
+again-is r f (Verdict.Refused n) = refl
+again-is r f Verdict.Idle = refl
+again-is r f (Verdict.Counted c) = go (repeatsAt r c (countIn (channel (r .setting) c) f))
+  where
+    go : (t : Bool) → refusal (cond t (Verdict.Repeat c) (Verdict.Counted c)) ≡ Done
+    go true = refl
+    go false = refl
+again-is r f (Verdict.Read l) = go (repeatsAt r ((lane (r .setting) l) .channel) (countIn (channelOf (r .setting) l) f))
+  where
+    go : (t : Bool) → refusal (cond t (Verdict.Repeat ((lane (r .setting) l) .channel)) (Verdict.Read l)) ≡ Done
+    go true = refl
+    go false = refl
+again-is r f (Verdict.Repeat c) = refl
 
 judged-is : (s : Setting) (f : List ℕ) (n : ℕ) → refusal (judged s f n) ≡ refusedBy n
 unfolding judged refusedBy passed onChannel
@@ -57,49 +73,22 @@ judged-is s f zero = by-channel (channelAt s (vc f) (bypass f))
     by-channel (At c) = by-lane c (laneAt s c (map f))
 judged-is s f (suc n) = refl
 
-module _ (r : Reader) (f h : List ℕ) (a : Lent) (ok : readerOk r ≡ true) (full : length h ≡ heldSize) (lent : enough a ≡ true) where
-  abbrev answer : Got
-  answer = read r f h (a .units) (a .records)
+ends-as : (r : Reader) (f h : List ℕ) (a : Lent) → readerOk r ≡ true → length h ≡ heldSize → enough a ≡ true
+    → endOf ((read r f h (a .units) (a .records)) .taken .answer .class) ≡ refusedBy (given (refusals (r .setting) f))
+unfolding read judge
+ends-as r f h a ok full lent =
+    class-is (verdict r f h (a .units) (a .records)) ∙ ap refusal verdict-is ∙ again-is r f (judge (r .setting) f)
+    ∙ judged-is (r .setting) f (given (refusals (r .setting) f))
+  where
+    class-is : (v : Verdict) → endOf ((onVerdict v r f h (a .units) (a .records)) .taken .answer .class) ≡ refusal v
+    class-is (Verdict.Refused n) = unfold onVerdict endOf in refl
+    class-is Verdict.Idle = unfold onVerdict endOf in refl
+    class-is (Verdict.Counted c) = unfold onVerdict endOf in refl
+    class-is (Verdict.Read l) = unfold onVerdict readOn laidOut endOf in refl
+    class-is (Verdict.Repeat c) = unfold onVerdict endOf in refl
 
-  class-is : (v : Verdict) → endOf ((onVerdict v r f h (a .units) (a .records)) .taken .answer .class) ≡ refusal v
-  unfolding onVerdict readOn laidOut endOf
-  class-is (Verdict.Refused n) = refl
-  class-is Verdict.Idle = refl
-  class-is (Verdict.Counted c) = refl
-  class-is (Verdict.Read l) = refl
-
-  ends-as : endOf (answer .taken .answer .class) ≡ refusedBy (given (refusals (r .setting) f))
-  unfolding read judge
-  ends-as = class-is (verdict r f h (a .units) (a .records)) ∙ ap refusal verdict-is ∙ judged-is (r .setting) f (given (refusals (r .setting) f))
-    where
-      verdict-is : verdict r f h (a .units) (a .records) ≡ judge (r .setting) f
-      verdict-is = verdict-cond r f h (a .units) (a .records) ∙ rw (ok, enough-areas h a full lent)
-
-  setting-stays : answer .taken .state .setting ≡ r .setting
-  unfolding read
-  setting-stays = go (verdict r f h (a .units) (a .records))
-    where
-      go : (v : Verdict) → (onVerdict v r f h (a .units) (a .records)) .taken .state .setting ≡ r .setting
-      go (Verdict.Refused n) = unfold onVerdict in refl
-      go Verdict.Idle = unfold onVerdict in refl
-      go (Verdict.Counted c) = unfold onVerdict in gap-setting r c _
-      go (Verdict.Read l) = unfold onVerdict readOn laidOut in gap-setting r _ _
-
-  area-stays : length (answer .heldArea) ≡ heldSize
-  unfolding read
-  area-stays = go (verdict r f h (a .units) (a .records)) (verdict-facts r f h (a .units) (a .records))
-    where
-      go : (v : Verdict) → Ruled r f h (a .units) (a .records) v → length ((onVerdict v r f h (a .units) (a .records)) .heldArea) ≡ heldSize
-      go (Verdict.Refused n) o = unfold onVerdict in full
-      go Verdict.Idle o = unfold onVerdict in full
-      go (Verdict.Counted c) o = unfold onVerdict in full
-      go (Verdict.Read l) o =
-          unfold onVerdict readOn laidOut in
-          let k : ℕ = countIn (channelOf (r .setting) l) f in
-          let few = made-below r f h l (o .good) (o .judged .numbered) k (channelOf (r .setting) l) in
-          let most = o .good .setting .lanes l (o .judged .numbered) .kind .most in
-          let same = ap (λ (y : Setting). (lane y l) .longest) (gap-setting r ((lane (r .setting) l) .channel) k) in
-          length-laid h (partSize * l) _ (omega (arith, few, most, same, o .judged .numbered, o .good .setting .numbered)) ∙ full
+    verdict-is : verdict r f h (a .units) (a .records) ≡ again r f (judge (r .setting) f)
+    verdict-is = verdict-cond r f h (a .units) (a .records) ∙ rw (ok, enough-areas h a full lent)
 
 -- ---- all reads
 
@@ -114,65 +103,63 @@ unfolding reads ends applying
 reads-end s [] r h e ok full z = refl
 reads-end s (a ∷ more) r h e ok full z =
     ap₂ _∷_ (ends-as r (a .octets) h (a .lent) ok full (z .0) ∙ ap (λ (y : Setting). refusedBy (given (refusals y (a .octets)))) e)
-    (reads-end s more _ _ (setting-stays r (a .octets) h (a .lent) ok full (z .0) ∙ e) (read-valid r (a .octets) h (a .lent .units) (a .lent .records) ok)
-    (area-stays r (a .octets) h (a .lent) ok full (z .0)) (z .1))
+    (reads-end s more _ _ (read-setting r (a .octets) h (a .lent .units) (a .lent .records) ∙ e)
+    (read-valid r (a .octets) h (a .lent .units) (a .lent .records) ok) (read-held r (a .octets) h (a .lent .units) (a .lent .records) full) (z .1))
 
+-- What arrives, of events with calls or frames in them.
 module _ (s : Setting) where
-  -- What arrives besides frames, before what arrives later.
-  inert-sized : (xs more : List Arrival) → allInert s xs ≡ true → Sized more → Sized (xs ++ more)
-  unfolding allInert
-  inert-sized [] more q z = z
-  inert-sized (x ∷ xs) more q z =
-      let t = and-left (inert s (x .octets) && enough (x .lent)) _ q in
-      (and-right (inert s (x .octets)) _ t, inert-sized xs more (and-right (inert s (x .octets) && enough (x .lent)) _ q) z)
-
-  inert-refused : (xs more : List Arrival) → allInert s xs ≡ true → refusedOf s (xs ++ more) ≡ octetsOf xs ++ refusedOf s more
-  unfolding inert allInert refusedOf octetsOf
-  inert-refused [] more q = refl
-  inert-refused (x ∷ xs) more q =
-      ap₂ _++_ (by (given (refusals s (x .octets)) =? 0) (and-left _ _ (and-left _ _ q)))
-      (inert-refused xs more (and-right (given (refusals s (x .octets)) ≠? 0 && enough (x .lent)) _ q))
+  all-sized : (es : List (Event Call)) (w : Writer) (air : Air) → allPass s es ≡ true → Sized (arrivals air (flown s w es))
+  unfolding flown arrivals passes allPass
+  all-sized [] w air q = tt
+  all-sized (Writes x ∷ es) w air q = all-sized es _ _ q
+  all-sized (Copy c lent ∷ es) w air q = by (air c) (all-sized es w air (and-right (enough lent) _ q))
     where
-      by : (t : Bool) → not t ≡ true → cond t [] (x .octets ∷ []) ≡ x .octets ∷ []
-      by true e = absurd (false≢true e)
-      by false e = refl
-
-  all-sized : (fs : List Frame) → allPass s fs ≡ true → Sized (arrivals fs)
-  unfolding passes allPass arrivals
-  all-sized [] q = tt
-  all-sized (f ∷ fs) q = by (f .passage) (and-left _ _ q) (all-sized fs (and-right (passes s (f .passage)) _ q))
-    where
-      by : (p : Passage) → passes s p ≡ true → Sized (arrivals fs) → Sized (arriving p (f .octets) ++ arrivals fs)
-      by (Kept a after) h z = (and-left _ _ h, inert-sized after (arrivals fs) (and-right (enough a) _ h) z)
-      by (Gone instead) h z = inert-sized instead (arrivals fs) h z
+      by : (os : List (List ℕ)) → Sized (arrivals air (flown s w es)) → Sized (copied os lent ++ arrivals air (flown s w es))
+      by [] z = z
+      by (o ∷ os) z = (and-left _ _ q, z)
+  all-sized (Stray f lent ∷ es) w air q =
+      (and-right (inert s f) _ (and-left (inert s f && enough lent) _ q), all-sized es w air (and-right (inert s f && enough lent) _ q))
 
   -- ---- frames that were written
 
-  written-accepted : (xs : List Call) (w : Writer) (last : ℕ → List ℕ) → SoundWriter s w → InOrder w last xs → allPass s (sent s w xs) ≡ true
-      → refusedOf s (arrivals (sent s w xs)) ≡ allBesides (sent s w xs)
-  unfolding sent arrivals refusedOf allBesides passes allPass frameBy
-  written-accepted [] w last k o p = refl
-  written-accepted (x ∷ xs) w last k o p =
-      by (subst (λ (t : Setting). given (refusals t ((frameBy t w x) .octets)) ≡ 0) (k .setting) (back w last x (o .0, o .1) .accepted)) (x .passage)
-      (and-left _ _ p)
-      (written-accepted xs _ (lending (x .lane) (x .batch) last) ((facts s) .sends w last x k (o .0, o .1) .sound) (o .2)
-      (and-right (passes s (x .passage)) _ p))
-    where
-      rest : List Frame
-      rest = sent s ((called w x) .sender .state) xs
+  -- None of what is sent is refused.
+  abbrev Fine : List (List ℕ) → Type 0
+  Fine [] = Unit {0}
+  Fine (o ∷ os) = given (refusals s o) ≡ 0
 
-      by : given (refusals s ((frameBy s w x) .octets)) ≡ 0 → (q : Passage) → passes s q ≡ true → refusedOf s (arrivals rest) ≡ allBesides rest
-          → refusedOf s (arriving q ((frameBy s w x) .octets) ++ arrivals rest) ≡ octetsOf (besides q) ++ allBesides rest
-      by e (Kept a after) h i =
-          ap (λ (t : Bool). cond t [] ((frameBy s w x) .octets ∷ []) ++ refusedOf s (after ++ arrivals rest)) (eq-eqb _ 0 e)
-          ∙ inert-refused after (arrivals rest) (and-right (enough a) _ h) ∙ ap (λ (us : List (List ℕ)). octetsOf after ++ us) i
-      by e (Gone instead) h i = inert-refused instead (arrivals rest) h ∙ ap (λ (us : List (List ℕ)). octetsOf instead ++ us) i
+  written-accepted : (es : List (Event Call)) (w : Writer) (last : ℕ → List ℕ) (air : Air) → Good s → SoundWriter s w → InOrder w last es
+      → allPass s es ≡ true → ((c : ℕ) → Fine (air c)) → refusedOf s (arrivals air (flown s w es)) ≡ strays es
+  unfolding flown arrivals refusedOf strays passes allPass inert sending frameBy
+  written-accepted [] w last air g k o p a = refl
+  written-accepted (Writes x ∷ es) w last air g k o p a =
+      written-accepted es _ (lending (x .lane) (x .batch) last) _ g ((facts s g) .sends w last x true k (o .0, o .1) .sound) (o .2) p
+      (λ c. on c (placeIn s x =? c) (subst (λ (t : Setting). given (refusals t ((frameBy t w x true) .octets)) ≡ 0) (k .setting)
+      (back w last x true (o .0, o .1) .accepted)))
+    where
+      on : (c : ℕ) (t : Bool) → given (refusals s ((frameBy s w x true) .octets)) ≡ 0 → Fine (cond t ((frameBy s w x true) .octets ∷ []) (air c))
+      on c true e = e
+      on c false e = a c
+  written-accepted (Copy c lent ∷ es) w last air g k o p a =
+      by (air c) (a c) (written-accepted es w last air g k o (and-right (enough lent) _ p) a)
+    where
+      by : (os : List (List ℕ)) → Fine os → refusedOf s (arrivals air (flown s w es)) ≡ strays es
+          → refusedOf s (copied os lent ++ arrivals air (flown s w es)) ≡ strays es
+      by [] z i = i
+      by (f ∷ fs) z i = ap (λ (t : Bool). cond t [] (f ∷ []) ++ refusedOf s (arrivals air (flown s w es))) (eq-eqb _ 0 z) ∙ i
+  written-accepted (Stray f lent ∷ es) w last air g k o p a =
+      ap₂ _++_ (by (given (refusals s f) =? 0) (and-left _ _ (and-left _ _ p)))
+      (written-accepted es w last air g k o (and-right (given (refusals s f) ≠? 0 && enough lent) _ p) a)
+    where
+      by : (t : Bool) → not t ≡ true → cond t [] (f ∷ []) ≡ f ∷ []
+      by true e = absurd (false≢true e)
+      by false e = refl
 
 pub refused-octets : RefusedOctets
-refused-octets s held xs run =
+refused-octets s held es run =
     let k = (fresh-ends s held (run .area) (run .writer)) .hearer in
-    reads-end s (arrivals (framesOf s xs)) ((setUpReader s) .state) held (k .setting) (k .valid) (run .area) (all-sized s (framesOf s xs) (run .link))
+    reads-end s (arrivalsOf s es) ((setUpReader s) .state) held (k .setting) (k .valid) (run .area) (all-sized s es _ silence (run .link))
 
 pub kept-accepted : KeptAccepted
-kept-accepted s held xs run =
-    written-accepted s xs ((setUpWriter s) .state) (λ (l : ℕ). []) ((fresh-ends s held (run .area) (run .writer)) .writer) (run .calls) (run .link)
+kept-accepted s held es run =
+    written-accepted s es ((setUpWriter s) .state) (λ (l : ℕ). []) silence (good-setting s (run .writer))
+    ((fresh-ends s held (run .area) (run .writer)) .writer) (run .calls) (run .link) (λ c. tt)

@@ -8,6 +8,7 @@ use Rattle.rules.specs.Errors.{paired}
 use Rattle.link.specs.Link.{handedOut}
 use Rattle.link.specs.Due.{due}
 use Rattle.link.specs.Demand.{framesOf, readsOf, Run, Exact}
+use Rattle.link.specs.Corollaries.{earlier}
 use Rattle.link.specs.Examples.{packet, a₀, b₀, d₀, v₂, held, calls, unharmed}
 use Rattle.link.proofs.Computes.{tests, all, Orderly, ordered-is}
 use Rattle.link.proofs.Premises.{meets, near}
@@ -43,12 +44,18 @@ unharmed-out = (
 
 -- ---- no more is gone
 
--- After 22 calls of the example run lanes 0 and 1 stand between batches, and no more of their channel is gone.
+-- After 47 events of the example run lanes 0 and 1 stand between batches, and no more of their channel is gone.
 pub later-out :
-    (handedOut 0 (readsOf paired held calls) ≡ due 0 [] (framesOf paired (take 22 calls)) ++ (d₀ ∷ []))
-    × (handedOut 1 (readsOf paired held calls) ≡ due 1 [] (framesOf paired (take 22 calls)) ++ (packet 10 0xF1 ∷ packet 11 0xF2 ∷ []))
+    (handedOut 0 (readsOf paired held calls) ≡ due 0 [] (earlier paired (take 47 calls) (drop 47 calls)) ++ (d₀ ∷ []))
+    × (handedOut 1 (readsOf paired held calls) ≡ due 1 [] (earlier paired (take 47 calls) (drop 47 calls)) ++ (packet 10 0xF1 ∷ packet 11 0xF2 ∷ []))
 unfolding all
 later-out = (
-  no-more-gone paired held (take 22 calls) (drop 22 calls) meets near 0 refl refl,
-  no-more-gone paired held (take 22 calls) (drop 22 calls) meets near 1 refl refl,
+  no-more-gone paired held (take 47 calls) (drop 47 calls) meets near 0 refl refl,
+  no-more-gone paired held (take 47 calls) (drop 47 calls) meets near 1 refl refl,
 )
+
+-- With the 48th a frame is written whose copies come later: it counts as kept among the earlier ones, and would be gone without the later events.
+pub late-kept :
+    due 1 [] (earlier paired (take 48 calls) (drop 48 calls)) ≡ due 1 [] (framesOf paired (take 48 calls)) ++ (packet 10 0xF1 ∷ packet 11 0xF2 ∷ [])
+unfolding all
+late-kept = refl

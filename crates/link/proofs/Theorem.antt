@@ -1,11 +1,11 @@
 -- Demand 3: what is shown of any pair of ends, of USLP's calls from fresh ends.
 use mathlib.Core.Path.{_≡_, refl, sym, ap, _∙_, subst}
-use Prim.Native.Nat.{ℕ, _*_, _^_, _<_}
+use Prim.Native.Nat.{ℕ, _-_, _*_, _^_, _<_}
 use native.Mathlib.Nat.{zero-mul}
 use native.Mathlib.Omega.{arith}
 use mathlib.Core.Bool.{Bool, true, false, cond, _&&_}
 use mathlib.Core.List.{List, [], _∷_, _++_}
-use lib.ListN.{length, getD, take, replicate, getD-replicate, length-replicate, List·getD-eq-default}
+use lib.ListN.{length, getD, take, replicate, getD-replicate}
 use Rattle.rules.specs.declared.Setting.{Setting}
 use Rattle.rules.specs.declared.Slot.{Slot}
 use Rattle.rules.specs.declared.Writer.{Writer}
@@ -15,49 +15,41 @@ use Rattle.rules.specs.declared.Outcome.the-variants.{Done, Refused}
 use Rattle.rules.specs.Areas.{part, heldSize}
 use Rattle.rules.specs.Settings.{noSlot, channelOf, zone, settingOk, freshReader, freshWriter, noWriter}
 use Rattle.rules.specs.Calls.{setUpReader, setUpWriter}
-use Rattle.rules.proofs.Tests.{split, and-left, and-right}
+use Rattle.rules.specs.Valid.{Good}
+use Rattle.rules.proofs.Tests.{and-left, and-right, getD-alike}
 use Rattle.rules.proofs.Octets.{pow256-pos}
 use Rattle.rules.proofs.Valid.{good}
 use Rattle.rules.proofs.States.{fresh-reader, none-expected}
 use Rattle.rules.proofs.Calls.{setup-accepted}
-use Rattle.link.specs.Link.{Arrival, Passage, Kept, Gone, Call, Frame, placeOf, frameBy, sent, arrivals, reads, handedOut}
+use Rattle.link.specs.Link.{Call, Frame, placeOf, frameBy, Event, Writes, Copy, Stray, arrives, placeIn, flown, sent, Arrival, silence, arrivals, reads, handedOut}
 use Rattle.link.specs.Due.{due}
-use Rattle.link.specs.Demand.{lending, InOrder, enough, inert, allInert, passes, allPass, keptOn, fewGone, Demand}
+use Rattle.link.specs.Demand.{lending, InOrder, enough, inert, passes, allPass, keptOn, fewGone, Demand}
 use Rattle.link.proofs.Ends.{Fresh}
-use Rattle.link.proofs.Run.{wrote, hearing, AllInert, Passes, Runs, from-fresh}
+use Rattle.link.proofs.Run.{flies, hearing, Runs, from-fresh}
 use Rattle.link.proofs.Uslp.{Hearer, uslp, channel-8, facts}
 
 -- ---- a run of USLP's ends is a run
 
 module _ (s : Setting) where
-  pub wrote-sent : (xs : List Call) (w : Writer) → wrote (uslp s) w xs ≡ sent s w xs
-  unfolding wrote sent
-  wrote-sent [] w = refl
-  wrote-sent (x ∷ xs) w = ap (λ (fs : List Frame). frameBy s w x ∷ fs) (wrote-sent xs _)
+  pub flies-flown : (es : List (Event Call)) (w : Writer) → flies (uslp s) w es ≡ flown s w es
+  unfolding flies flown
+  flies-flown [] w = refl
+  flies-flown (Writes x ∷ es) w =
+      ap (λ (fs : List (Event Frame)). Writes (frameBy s w x (arrives (placeIn s) (placeIn s x) es)) ∷ fs) (flies-flown es _)
+  flies-flown (Copy c lent ∷ es) w = ap (λ (fs : List (Event Frame)). Copy c lent ∷ fs) (flies-flown es w)
+  flies-flown (Stray f lent ∷ es) w = ap (λ (fs : List (Event Frame)). Stray f lent ∷ fs) (flies-flown es w)
 
   hearing-reads : (l : ℕ) (xs : List Arrival) (r : Hearer) → hearing (uslp s) l r xs ≡ handedOut l (reads (r .reader) (r .area) xs)
   unfolding hearing reads handedOut
   hearing-reads l [] r = refl
   hearing-reads l (a ∷ more) r = ap (λ (us : List (List ℕ)). (uslp s) .hands r a l ++ us) (hearing-reads l more _)
 
-  all-inert : (r : Hearer) (xs : List Arrival) → allInert s xs ≡ true → AllInert (uslp s) r xs
-  unfolding allInert
-  all-inert r [] q = tt
-  all-inert r (a ∷ more) q = (and-left _ _ (and-left _ _ q), all-inert r more (and-right (inert s (a .octets) && enough (a .lent)) _ q))
-
-  all-passes : (r : Hearer) (f : Frame) (p : Passage) → passes s p ≡ true → Passes (uslp s) r f p
-  unfolding passes
-  all-passes r f (Kept lent after) q = (and-left _ _ q, all-inert _ after (and-right (enough lent) _ q))
-  all-passes r f (Gone instead) q = all-inert r instead q
-
-  pub runs : (xs : List Call) (w : Writer) (r : Hearer) (last : ℕ → List ℕ) → InOrder w last xs → allPass s (sent s w xs) ≡ true → Runs (uslp s) w r last xs
-  unfolding sent allPass frameBy
-  runs [] w r last o q = tt
-  runs (x ∷ xs) w r last o q = (
-    (o .0, o .1),
-    all-passes r (frameBy s w x) (x .passage) (and-left _ _ q),
-    runs xs _ _ (lending (x .lane) (x .batch) last) (o .2) (and-right (passes s (x .passage)) _ q),
-  )
+  pub runs : (es : List (Event Call)) (w : Writer) (last : ℕ → List ℕ) → InOrder w last es → allPass s es ≡ true → Runs (uslp s) w last es
+  unfolding allPass passes frameBy
+  runs [] w last o q = tt
+  runs (Writes x ∷ es) w last o q = ((o .0, o .1), runs es _ (lending (x .lane) (x .batch) last) (o .2) q)
+  runs (Copy c lent ∷ es) w last o q = (and-left _ _ q, runs es w last o (and-right (enough lent) _ q))
+  runs (Stray f lent ∷ es) w last o q = (and-left _ _ (and-left _ _ q), runs es w last o (and-right (inert s f && enough lent) _ q))
 
 -- ---- fresh ends
 
@@ -70,9 +62,6 @@ writer-accepted s e = go (settingOk s) e
     go true q = refl
     go false q = let z : _≡_ {A = ℕ} 0 1 = cc in absurd (omega arith)
 
-zeros : (n l : ℕ) → _≡_ {A = ℕ} (getD (replicate n 0) l 0) 0
-zeros n l = split n l (λ b. List·getD-eq-default (replicate n 0) 0 (rw length-replicate b)) (λ b. getD-replicate {A = ℕ} n l 0 0 b)
-
 module _ (s : Setting) (h : List ℕ) (full : length h ≡ heldSize) where
   fresh : settingOk s ≡ true → Fresh (uslp s) (freshWriter s) (record { reader = freshReader s; area = h })
   unfolding freshWriter freshReader
@@ -80,9 +69,9 @@ module _ (s : Setting) (h : List ℕ) (full : length h ≡ heldSize) where
       record {
         writer = record { setting = refl; counts = refl; next = refl };
         hearer = record { setting = refl; counts = refl; known = refl; slots = refl; area = full; valid = fresh-reader s ok };
-        start = λ l b. ap (λ (i : ℕ). i * zone s (channelOf s l)) (zeros 8 l) ∙ zero-mul _;
+        start = λ l b. ap (λ (i : ℕ). i * zone s (channelOf s l)) (getD-alike {A = ℕ} 8 l 0) ∙ zero-mul _;
         unknown = λ l lh. none-expected (placeOf s l) (channel-8 s (good s ok) l lh);
-        below = λ l lh. rw (zeros 8 (placeOf s l)) (pow256-pos ((channelOf s l) .octets));
+        below = λ l lh. rw (getD-alike {A = ℕ} 8 (placeOf s l) 0) (pow256-pos ((channelOf s l) .octets));
         held = λ l lh. ap (λ (x : Slot). take (x .held) (part l h)) (empty l lh);
       }
     where
@@ -99,14 +88,19 @@ module _ (s : Setting) (h : List ℕ) (full : length h ≡ heldSize) where
 
 -- ---- demand 3
 
+-- An accepted setting is good.
+pub good-setting : (s : Setting) → (setUpWriter s) .outcome ≡ Done → Good s
+good-setting s e = good s (writer-accepted s e)
+
 pub demand : Demand
-demand s h xs d near l =
+demand s h es d near l =
     let w : Writer = (setUpWriter s) .state in
     let r : Hearer = record { reader = (setUpReader s) .state; area = h } in
-    let ok : settingOk s ≡ true = writer-accepted s (d .writer) in
-    subst (λ (fs : List Frame). handedOut l (reads (r .reader) h (arrivals fs)) ≡ due l [] fs) (wrote-sent s xs w)
+    let g : Good s = good-setting s (d .writer) in
+    subst (λ (fs : List (Event Frame)). handedOut l (reads (r .reader) h (arrivals silence fs)) ≡ due l [] (sent fs)) (flies-flown s es w)
     (sym (hearing-reads s l _ r)
-    ∙ from-fresh (uslp s) (facts s) l xs w r (λ (l : ℕ). []) (fresh-ends s h (d .area) (d .writer)) (runs s xs w r _ (d .calls) (d .link))
+    ∙ from-fresh (uslp s) (facts s g) l es w r (λ (l : ℕ). []) (fresh-ends s h (d .area) (d .writer)) (runs s es w _ (d .calls) (d .link))
     (λ lh.
-    subst (λ (fs : List Frame). fewGone (256 ^ (channelOf s l) .octets) false 0 (keptOn (placeOf s l) fs) ≡ true) (sym (wrote-sent s xs w))
-    (near (placeOf s l) (good s ok .lanes l lh .channel))))
+    subst (λ (fs : List (Event Frame)). fewGone (256 ^ (channelOf s l) .octets - 1) false 0 (keptOn (placeOf s l) (sent fs)) ≡ true)
+    (sym (flies-flown s es w))
+    (near (placeOf s l) (g .lanes l lh .channel))))

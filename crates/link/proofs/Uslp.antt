@@ -2,16 +2,17 @@
 -- read rule's, and frame k of a batch starts with its octet k * Z.
 use mathlib.Core.Path.{_≡_, refl, sym, ap, ap₂, _∙_, subst}
 use mathlib.Core.Logic.{_⊎_, inl, inr}
-use Prim.Native.Nat.{ℕ, _+_, _*_, _<_}
+use Prim.Native.Nat.{ℕ, _+_, _-_, _*_, _^_, _≤_, _<_}
 use native.Mathlib.Nat.{zero-mul}
 use native.Mathlib.Omega.{arith}
-use mathlib.Core.Bool.{Bool, true, cond}
+use mathlib.Core.Bool.{Bool, true, false, cond}
 use mathlib.Core.List.{List, []}
 use lib.ListN.{length, getD, set, length-set}
 use lib.Seq.{getD-set-same, getD-set-other}
 use borrow.Author.Tests.{ne-eqb, eq-eqb}
 use Rattle.rules.specs.declared.Kind.{Kind}
 use Rattle.rules.specs.declared.Setting.{Setting}
+use Rattle.rules.specs.declared.Expect.{Expect}
 use Rattle.rules.specs.declared.Expects.{Expects}
 use Rattle.rules.specs.declared.Slot.{Slot}
 use Rattle.rules.specs.declared.Reader.{Reader}
@@ -21,20 +22,21 @@ use Rattle.rules.specs.Tests.{given}
 use Rattle.rules.specs.Areas.{laid, heldSize, partSize}
 use Rattle.rules.specs.Settings.{channel, lane, channelOf, expectOn, expect, expecting, count, number, zone, readerOk}
 use Rattle.rules.specs.Writing.{unitsOf, countAfter, writerAfter}
-use Rattle.rules.specs.Reading.{missing, expected, Made, keeps}
+use Rattle.rules.specs.Reading.{missing, expected, repeats, Made, keeps}
 use Rattle.rules.specs.Calls.{writeRefusals, written, write, Got, read}
 use Rattle.rules.specs.Valid.{Good}
 use Rattle.rules.proofs.States
-use Rattle.rules.proofs.Valid.{good-channelOf}
+use Rattle.rules.proofs.Counts.{counts-many, few-no-repeat, taken-repeats}
+use Rattle.rules.proofs.Valid.{good-channelOf, good-reader}
 use Rattle.rules.proofs.Calls.{Accepted, none-refused, accepted}
 use Rattle.rules.proofs.Written.{FrameBack, write-back, zone-small}
-use Rattle.link.specs.Link.{Lent, Arrival, Call, called, placeOf, startOf, frameBy, handed}
+use Rattle.link.specs.Link.{Call, called, placeOf, startOf, frameBy, Lent, placeIn, Arrival, handed}
 use Rattle.link.specs.Demand.{enough, inert}
 use Rattle.link.proofs.Spans.{yields, yield, Delivers, Follows}
 use Rattle.link.proofs.Batches.{units, lane-reads, follows}
 use Rattle.link.proofs.Invariant.{heldAfter}
-use Rattle.link.proofs.Received.{stray, reader, holds, left, gapped, length-left, holds-other, holds-gap, stored-length, stored-here, stored-other, makes, readerAfter, Taken, read-takes, read-ready}
-use Rattle.link.proofs.Ends.{Ends, whole, Sends, Heard, Facts}
+use Rattle.link.proofs.Received.{stray, reader, holds, left, gapped, length-left, holds-other, holds-gap, stored-length, stored-here, stored-other, makes, readerAfter, Taken, read-again, read-takes, read-ready}
+use Rattle.link.proofs.Ends.{Ends, whole, Sends, Unmoved, Heard, Copied, Bounded, Facts}
 
 -- ---- the pair
 
@@ -70,6 +72,7 @@ module _ (s : Setting) where
         Writer = Writer;
         Call = Call;
         Hearer = Hearer;
+        place = placeIn s;
         frame = frameBy s;
         batch = λ (x : Call). x .batch;
         next = λ (w : Writer) (x : Call). (called w x) .sender .state;
@@ -78,6 +81,7 @@ module _ (s : Setting) where
         lanes = s .numbered;
         channel = placeOf s;
         octets = λ (l : ℕ). (channelOf s l) .octets;
+        bound = λ (l : ℕ). 256 ^ (channelOf s l) .octets - 1;
         units = λ (l : ℕ) (b : List ℕ). unitsOf ((lane s l) .kind) b;
         start = λ (w : Writer) (l : ℕ) (b : List ℕ). startOf s w l;
         count = λ (w : Writer) (l : ℕ). count w (placeOf s l);
@@ -86,7 +90,7 @@ module _ (s : Setting) where
         Goes = λ (w : Writer) (last : ℕ → List ℕ) (x : Call).
             ((called w x) .sender .outcome ≡ Done) × ((number w (x .lane) ≡ 0) ⊎ (x .batch ≡ last (x .lane)));
         Enough = λ (a : Lent). enough a ≡ true;
-        Inert = λ (r : Hearer) (a : Arrival). inert s (a .octets) ≡ true;
+        Inert = λ (a : Arrival). inert s (a .octets) ≡ true;
         SoundWriter = SoundWriter;
         SoundHearer = SoundHearer;
       }
@@ -97,7 +101,7 @@ channel-8 s g l lh = omega (arith, g .lanes l lh .channel, g .listed)
 
 -- ---- an accepted call
 
-module _ (w : Writer) (last : ℕ → List ℕ) (x : Call) (go : (uslp (w .setting)) .Goes w last x) where
+module _ (w : Writer) (last : ℕ → List ℕ) (x : Call) (kept : Bool) (go : (uslp (w .setting)) .Goes w last x) where
   abbrev s : Setting
   s = w .setting
 
@@ -116,7 +120,7 @@ module _ (w : Writer) (last : ℕ → List ℕ) (x : Call) (go : (uslp (w .setti
   takes : Accepted w i (x .batch) (x .insert) (x .ocf) (x .area)
   takes = unfold called in none-refused w i (x .batch) (x .insert) (x .ocf) (x .area) (accepted w i (x .batch) (x .insert) (x .ocf) (x .area) (go .0))
 
-  pub back : FrameBack s i (count w (placeOf s i)) (x .batch) (x .insert) (x .ocf) k ((frameBy s w x) .octets)
+  pub back : FrameBack s i (count w (placeOf s i)) (x .batch) (x .insert) (x .ocf) k ((frameBy s w x kept) .octets)
   unfolding called frameBy
   back = write-back w i (x .batch) (x .insert) (x .ocf) (x .area) (go .0) .0
 
@@ -153,9 +157,9 @@ module _ (w : Writer) (last : ℕ → List ℕ) (x : Call) (go : (uslp (w .setti
     in-turn (inl e) = inl (ap (λ (m : ℕ). m * z) e ∙ zero-mul z)
     in-turn (inr e) = inr (ap (unitsOf kind) e)
 
-    sends : Sends (uslp s) w last (x .batch) (frameBy s w x) ((called w x) .sender .state)
+    sends : Sends (uslp s) w last (x .batch) (frameBy s w x kept) ((called w x) .sender .state)
     sends =
-        subst (Sends (uslp s) w last (x .batch) (frameBy s w x)) (sym leaves)
+        subst (Sends (uslp s) w last (x .batch) (frameBy s w x kept)) (sym leaves)
         (unfold writerAfter frameBy in
         record {
           sound = record { setting = refl; counts = rw length-set counts-8; next = rw length-set next-8 };
@@ -172,110 +176,160 @@ module _ (w : Writer) (last : ℕ → List ℕ) (x : Call) (go : (uslp (w .setti
           count-other = λ l n. getD-set-other (w .counts) (placeOf s i) (placeOf s l) _ 0 (λ e. n (sym e));
         })
 
-  -- ---- a kept frame, read by a reader of the same setting
+  abbrev v : ℕ
+  v = count w (placeOf s i)
+
+  -- The count fits its octets.
+  v-below : v < 256 ^ (channelOf s i) .octets
+  v-below = takes .good .counts (placeOf s i) (g .lanes i (takes .numbered) .channel)
+
+  -- ---- a copy of the frame arrives at a reader of the same setting
 
   module _ (es : Expects) (hs : List Slot) (h : List ℕ) (lent : Lent) (r : SoundHearer s (record { reader = reader s es hs; area = h }))
       (fits : enough lent ≡ true) where
-    abbrev v : ℕ
-    v = count w (placeOf s i)
-
-    abbrev gap : List Slot
-    gap = gapped s es hs i v
-
-    abbrev made : Made
-    made = makes s es hs h i v (x .batch) k
-
     abbrev answer : Got
-    answer = readBy (record { reader = reader s es hs; area = h }) (whole (frameBy s w x) lent)
+    answer = readBy (record { reader = reader s es hs; area = h }) (whole (frameBy s w x kept) lent)
 
-    took : Taken s es hs h i v made answer
-    took = read-takes s es hs h lent i v (x .batch) (x .insert) (x .ocf) k ((frameBy s w x) .octets) back (r .valid) (takes .numbered) (r .area) fits
+    -- Whether it is a repeat; told of any lane of the channel.
+    abbrev twice : Bool
+    twice = repeats ((channelOf s i) .octets) (expectOn es (placeOf s i)) v
 
-    gap-8 : length gap ≡ 8
-    gap-8 = length-left s _ _ hs ∙ r .slots
+    few-new : (l : ℕ) → placeOf s i ≡ placeOf s l
+        → missing ((channelOf s l) .octets) (expectOn es (placeOf s l)) (count w (placeOf s l)) < 256 ^ (channelOf s l) .octets - 1 → twice ≡ false
+    few-new l e h =
+        few-no-repeat ((channelOf s i) .octets) (expectOn es (placeOf s i)) v
+        (good-reader (reader s es hs) (r .valid) .counts (placeOf s i) (g .lanes i (takes .numbered) .channel)) v-below
+        (subst (λ (c : ℕ). missing ((channel s c) .octets) (expectOn es c) (count w c) < 256 ^ (channel s c) .octets - 1) (sym e) h)
 
-    abbrev after : Hearer
-    after = record { reader = readerAfter s es hs i v made; area = laid h (partSize * i) (made .held) }
+    spent-twice : (l : ℕ) → placeOf s i ≡ placeOf s l → expectOn es (placeOf s l) ≡ expected ((channelOf s l) .octets) (count w (placeOf s l)) → twice ≡ true
+    spent-twice l e h =
+        ap (λ (y : Expect). repeats ((channelOf s i) .octets) y v)
+        (subst (λ (c : ℕ). expectOn es c ≡ expected ((channel s c) .octets) (count w c)) (sym e) h)
+        ∙ taken-repeats ((channelOf s i) .octets) v v-below
 
-    sound : SoundHearer s after
-    sound =
+    unmoved : twice ≡ true → Unmoved (uslp s) (record { reader = reader s es hs; area = h }) (whole (frameBy s w x kept) lent)
+    unmoved e =
+        let u = read-again s es hs h lent i v (x .batch) (x .insert) (x .ocf) k ((frameBy s w x kept) .octets) back (r .valid) (takes .numbered) (r .area)
+        fits e in
+        record { state = λ t. record { reader = (u .state) t; area = (u .area) t }; none = u .none }
+
+    -- It is none.
+    module _ (new : twice ≡ false) where
+      abbrev gap : List Slot
+      gap = gapped s es hs i v
+
+      abbrev made : Made
+      made = makes s es hs h i v (x .batch) k
+
+      took : Taken s es hs h i v made answer
+      took = read-takes s es hs h lent i v (x .batch) (x .insert) (x .ocf) k ((frameBy s w x kept) .octets) back (r .valid) (takes .numbered) (r .area) fits new
+
+      gap-8 : length gap ≡ 8
+      gap-8 = length-left s _ _ hs ∙ r .slots
+
+      abbrev after : Hearer
+      after = record { reader = readerAfter s es hs i v made; area = laid h (partSize * i) (made .held) }
+
+      sound : SoundHearer s after
+      sound =
+          record {
+            setting = refl;
+            counts = rw length-set (r .counts);
+            known = rw length-set (r .known);
+            slots = rw length-set gap-8;
+            area = stored-length hs h (made .held) (keeps made) refl i lane-8 (r .slots) (r .area) (took .small);
+            valid =
+                read-ready s es hs h lent i v (x .batch) (x .insert) (x .ocf) k ((frameBy s w x kept) .octets) back (r .valid) (takes .numbered) (r .area) fits new;
+          }
+
+      -- What a lane of the channel expects and holds once the frame's count is taken.
+      expect-same : (l : ℕ) → l < s .numbered → placeOf s i ≡ placeOf s l
+          → expect (after .reader) (placeOf s l) ≡ expected ((channelOf s l) .octets) (count w (placeOf s l))
+      expect-same l lh e =
+          ap (λ (c : ℕ). expectOn (expecting es c (expected ((channel s c) .octets) (count w c))) (placeOf s l)) e
+          ∙ States.expect-same es (placeOf s l) _ (omega (arith, r .counts, channel-8 s g l lh)) (omega (arith, r .known, channel-8 s g l lh))
+
+      abbrev holding : ℕ → List ℕ
+      holding l = heldAfter ((channelOf s l) .octets) (expectOn es (placeOf s l)) (count w (placeOf s l)) (holds hs h l)
+
+      gap-same : (l : ℕ) → l < s .numbered → placeOf s i ≡ placeOf s l → holds gap h l ≡ holding l
+      unfolding heldAfter
+      gap-same l lh e =
+          ap (λ (c : ℕ). holds (left s c (missing ((channel s c) .octets) (expectOn es c) (count w c)) hs) h l) e ∙ holds-gap s g l lh _ hs h
+
+      held-apart : (l : ℕ) → (i ≡ l → ⊥) → holds (after .reader .slots) (after .area) l ≡ holds gap h l
+      held-apart l n = stored-other gap h (made .held) (keeps made) refl i lane-8 gap-8 (r .area) (took .small) l (λ e. n (sym e))
+
+      delivers : Delivers (unitsOf kind (x .batch)) (k * z) (k * z + z) (holding i) (yields (handed i answer) (holds (after .reader .slots) (after .area) i))
+      delivers =
+          subst (Delivers (unitsOf kind (x .batch)) (k * z) (k * z + z) (holding i))
+          (ap₂ yields (sym (took .units i ∙ ap (λ (t : Bool). cond t ((yield made) .units) []) (eq-eqb i i refl)))
+          (sym (stored-here gap h (made .held) (keeps made) refl i lane-8 gap-8 (r .area) (took .small))))
+          (unfold makes in
+          subst (λ (y : List ℕ). Delivers (unitsOf kind (x .batch)) (k * z) (k * z + z) y (yield made)) (gap-same i (takes .numbered) refl)
+          (lane-reads ((lane s i) .longest) z some (zone-small s g (channelOf s i)) k (x .batch) kind (holds gap h i) (g .lanes i (takes .numbered) .kind .enough)
+          (takes .batch) (takes .below)))
+
+      heard : Heard (uslp s) w (record { reader = reader s es hs; area = h }) (frameBy s w x kept) (leftBy answer) (λ (l : ℕ). handed l answer)
+      heard =
+          subst (λ (y : Hearer). Heard (uslp s) w (record { reader = reader s es hs; area = h }) (frameBy s w x kept) y (λ (l : ℕ). handed l answer))
+          (λ t. record { reader = (sym (took .state)) t; area = (sym (took .area)) t })
+          (unfold frameBy in
+          record {
+            sound = sound;
+            expect-on = expect-same;
+            expect-other = λ l n. States.expect-other es (placeOf s i) _ (placeOf s l) (λ e. n (sym e));
+            held-beside = λ l lh e n. held-apart l n ∙ gap-same l lh e;
+            held-other = λ l lh e n. held-apart l n ∙ holds-other s g l lh (placeOf s i) _ hs h (λ q. e (sym q));
+            none = λ l n. took .units l ∙ ap (λ (t : Bool). cond t ((yield made) .units) []) (ne-eqb i l n);
+            delivers = delivers;
+          })
+
+    copied : Copied (uslp s) w (frameBy s w x kept) (record { reader = reader s es hs; area = h }) lent
+    unfolding frameBy
+    copied =
         record {
-          setting = refl;
-          counts = rw length-set (r .counts);
-          known = rw length-set (r .known);
-          slots = rw length-set gap-8;
-          area = stored-length hs h (made .held) (keeps made) refl i lane-8 (r .slots) (r .area) (took .small);
-          valid =
-              read-ready s es hs h lent i v (x .batch) (x .insert) (x .ocf) k ((frameBy s w x) .octets) back (r .valid) (takes .numbered) (r .area) fits;
+          new = λ l lh e q. heard (few-new l e q);
+          again = λ l lh e q. unmoved (spent-twice l e q);
+          either = by twice refl;
         }
-
-    -- What a lane of the channel expects and holds once the frame's count is taken.
-    expect-same : (l : ℕ) → l < s .numbered → placeOf s i ≡ placeOf s l
-        → expect (after .reader) (placeOf s l) ≡ expected ((channelOf s l) .octets) (count w (placeOf s l))
-    expect-same l lh e =
-        ap (λ (c : ℕ). expectOn (expecting es c (expected ((channel s c) .octets) (count w c))) (placeOf s l)) e
-        ∙ States.expect-same es (placeOf s l) _ (omega (arith, r .counts, channel-8 s g l lh)) (omega (arith, r .known, channel-8 s g l lh))
-
-    abbrev holding : ℕ → List ℕ
-    holding l = heldAfter ((channelOf s l) .octets) (expectOn es (placeOf s l)) (count w (placeOf s l)) (holds hs h l)
-
-    gap-same : (l : ℕ) → l < s .numbered → placeOf s i ≡ placeOf s l → holds gap h l ≡ holding l
-    unfolding heldAfter
-    gap-same l lh e =
-        ap (λ (c : ℕ). holds (left s c (missing ((channel s c) .octets) (expectOn es c) (count w c)) hs) h l) e ∙ holds-gap s g l lh _ hs h
-
-    held-apart : (l : ℕ) → (i ≡ l → ⊥) → holds (after .reader .slots) (after .area) l ≡ holds gap h l
-    held-apart l n = stored-other gap h (made .held) (keeps made) refl i lane-8 gap-8 (r .area) (took .small) l (λ e. n (sym e))
-
-    delivers : Delivers (unitsOf kind (x .batch)) (k * z) (k * z + z) (holding i) (yields (handed i answer) (holds (after .reader .slots) (after .area) i))
-    delivers =
-        subst (Delivers (unitsOf kind (x .batch)) (k * z) (k * z + z) (holding i))
-        (ap₂ yields (sym (took .units i ∙ ap (λ (t : Bool). cond t ((yield made) .units) []) (eq-eqb i i refl)))
-        (sym (stored-here gap h (made .held) (keeps made) refl i lane-8 gap-8 (r .area) (took .small))))
-        (unfold makes in
-        subst (λ (y : List ℕ). Delivers (unitsOf kind (x .batch)) (k * z) (k * z + z) y (yield made)) (gap-same i (takes .numbered) refl)
-        (lane-reads ((lane s i) .longest) z some (zone-small s g (channelOf s i)) k (x .batch) kind (holds gap h i) (g .lanes i (takes .numbered) .kind .enough)
-        (takes .batch) (takes .below)))
-
-    heard : Heard (uslp s) w (record { reader = reader s es hs; area = h }) (frameBy s w x) (leftBy answer) (λ (l : ℕ). handed l answer)
-    heard =
-        subst (λ (y : Hearer). Heard (uslp s) w (record { reader = reader s es hs; area = h }) (frameBy s w x) y (λ (l : ℕ). handed l answer))
-        (λ t. record { reader = (sym (took .state)) t; area = (sym (took .area)) t })
-        (unfold frameBy in
-        record {
-          sound = sound;
-          expect-on = expect-same;
-          expect-other = λ l n. States.expect-other es (placeOf s i) _ (placeOf s l) (λ e. n (sym e));
-          held-beside = λ l lh e n. held-apart l n ∙ gap-same l lh e;
-          held-other = λ l lh e n. held-apart l n ∙ holds-other s g l lh (placeOf s i) _ hs h (λ q. e (sym q));
-          none = λ l n. took .units l ∙ ap (λ (t : Bool). cond t ((yield made) .units) []) (ne-eqb i l n);
-          delivers = delivers;
-        })
+      where
+        by : (t : Bool) → twice ≡ t
+            → Heard (uslp s) w (record { reader = reader s es hs; area = h }) (frameBy s w x kept) (leftBy answer) (λ (l : ℕ). handed l answer)
+            ⊎ Unmoved (uslp s) (record { reader = reader s es hs; area = h }) (whole (frameBy s w x kept) lent)
+        by true q = inr (unmoved q)
+        by false q = inl (heard q)
 
 -- ---- the facts
 
-abbrev HeardBy : Setting → Writer → Call → Lent → Hearer → Type 0
-HeardBy s w x lent r =
-    Heard (uslp s) w r (frameBy s w x) (leftBy (readBy r (whole (frameBy s w x) lent)))
-    (λ (l : ℕ). handed l (readBy r (whole (frameBy s w x) lent)))
-
 -- Two ends that name one setting have one setting.
-heard-of : (w : Writer) (last : ℕ → List ℕ) (x : Call) (lent : Lent) (r : Hearer) → (uslp (w .setting)) .Goes w last x → enough lent ≡ true
-    → SoundHearer (w .setting) r → HeardBy (w .setting) w x lent r
-heard-of w last x lent r go fits m =
-    subst (λ (y : Hearer). SoundHearer (w .setting) y → HeardBy (w .setting) w x lent y)
+copied-of : (w : Writer) (last : ℕ → List ℕ) (x : Call) (kept : Bool) (lent : Lent) (r : Hearer) → (uslp (w .setting)) .Goes w last x → enough lent ≡ true
+    → SoundHearer (w .setting) r → Copied (uslp (w .setting)) w (frameBy (w .setting) w x kept) r lent
+copied-of w last x kept lent r go fits m =
+    subst (λ (y : Hearer). SoundHearer (w .setting) y → Copied (uslp (w .setting)) w (frameBy (w .setting) w x kept) y lent)
     (λ t. record { reader = reader ((sym (m .setting)) t) (r .reader .expects) (r .reader .slots); area = r .area })
-    (λ m. heard w last x go (r .reader .expects) (r .reader .slots) (r .area) lent m fits) m
+    (λ m. copied w last x kept go (r .reader .expects) (r .reader .slots) (r .area) lent m fits) m
 
-pub facts : (s : Setting) → Facts (uslp s)
-facts s =
-    record {
-      sends = λ w last x k go.
-          subst (λ (t : Setting). Sends (uslp t) w last (x .batch) (frameBy t w x) ((called w x) .sender .state)) (k .setting)
-          (sends w last x go (k .counts) (k .next));
-      unmoved = λ r a k q.
-          let u = stray (r .reader) (a .octets) (r .area) (a .lent) (subst (λ (t : Setting). inert t (a .octets) ≡ true) (sym (k .setting)) q) in
-          record { state = λ t. record { reader = (u .state) t; area = (u .area) t }; none = u .none };
-      heard = λ w r last x lent k m go fits.
-          subst (λ (t : Setting). SoundHearer t r → HeardBy t w x lent r) (k .setting) (heard-of w last x lent r go fits) m;
-    }
+-- Of an accepted setting.
+module _ (s : Setting) (good : Good s) where
+  bounded : Bounded (uslp s)
+  bounded l lh =
+      let p = counts-many ((channelOf s l) .octets) (good-channelOf good l lh .one) in
+      (omega (arith, p), omega (arith, p))
+
+  pub facts : Facts (uslp s)
+  unfolding frameBy
+  facts =
+      record {
+        bounded = bounded;
+        kept = λ w x k. refl;
+        place = λ w x k. refl;
+        sends = λ w last x kept k go.
+            subst (λ (t : Setting). Sends (uslp t) w last (x .batch) (frameBy t w x kept) ((called w x) .sender .state)) (k .setting)
+            (sends w last x kept go (k .counts) (k .next));
+        unmoved = λ r a k q.
+            let u = stray (r .reader) (a .octets) (r .area) (a .lent) (subst (λ (t : Setting). inert t (a .octets) ≡ true) (sym (k .setting)) q) in
+            record { state = λ t. record { reader = (u .state) t; area = (u .area) t }; none = u .none };
+        copied = λ w r last x kept lent k m go fits.
+            subst (λ (t : Setting). SoundHearer t r → Copied (uslp t) w (frameBy t w x kept) r lent) (k .setting) (copied-of w last x kept lent r go fits) m;
+      }

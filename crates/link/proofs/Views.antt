@@ -7,21 +7,21 @@ use borrow.Author.Tests.{ne-eqb, eq-eqb, le-leb, lt-leb}
 use Rattle.rules.specs.Tests.{_=?_}
 use Rattle.rules.proofs.Tests.{same}
 use Rattle.link.specs.Link.{Frame}
-use Rattle.link.specs.Due.{kept, backTo, noneGone, clean, dueIn}
+use Rattle.link.specs.Due.{backTo, noneGone, clean, dueIn}
 use Rattle.link.specs.Demand.{keptOn}
 use Rattle.link.proofs.Spans.{either, ends-none}
 
 module _ (l c : ℕ) (f : Frame) (past : List Frame) where
   -- A frame of the channel is gone.
-  pub clean-gone : f .channel ≡ c → kept (f .passage) ≡ false → (a : ℕ) → clean l c (f ∷ past) a ≡ false
+  pub clean-gone : f .channel ≡ c → f .kept ≡ false → (a : ℕ) → clean l c (f ∷ past) a ≡ false
   unfolding clean backTo noneGone
   clean-gone p q a = rw (eq-eqb (f .channel) c p, q)
 
   -- The frame is none of the channel that is gone.
   abbrev pub Safe : Type 0
-  Safe = cond (f .channel =? c) (kept (f .passage)) true ≡ true
+  Safe = cond (f .channel =? c) (f .kept) true ≡ true
 
-  pub safe-kept : kept (f .passage) ≡ true → Safe
+  pub safe-kept : f .kept ≡ true → Safe
   safe-kept q = rw q (either (f .channel =? c) true)
 
   pub safe-apart : (f .channel ≡ c → ⊥) → Safe
@@ -41,7 +41,7 @@ module _ (l c : ℕ) (f : Frame) (past : List Frame) where
   clean-before q e a h = rw (q, eq-eqb (f .lane) l e, lt-leb (f .start) a h)
 
 -- Which frames of the channel are kept.
-pub flags-on : (c : ℕ) (f : Frame) (fs : List Frame) (t : Bool) → f .channel ≡ c → kept (f .passage) ≡ t → keptOn c (f ∷ fs) ≡ t ∷ keptOn c fs
+pub flags-on : (c : ℕ) (f : Frame) (fs : List Frame) (t : Bool) → f .channel ≡ c → f .kept ≡ t → keptOn c (f ∷ fs) ≡ t ∷ keptOn c fs
 unfolding keptOn
 flags-on c f fs t p q = rw (eq-eqb (f .channel) c p, q)
 
@@ -56,6 +56,6 @@ module _ (l : ℕ) (f : Frame) (past : List Frame) where
   due-not n = rw (ne-eqb (f .lane) l n)
 
   -- Nothing is due in a frame that is gone.
-  pub due-gone : kept (f .passage) ≡ false → dueIn l f past ≡ []
+  pub due-gone : f .kept ≡ false → dueIn l f past ≡ []
   unfolding dueIn
   due-gone q = same (f .lane) l (λ e. rw (eq-eqb (f .lane) l e) (ends-none _ _ _ _ _ (clean-gone l (f .channel) f past refl q))) due-not

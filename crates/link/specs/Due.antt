@@ -1,11 +1,11 @@
 -- What is due on a lane: the units that end in a frame of the run, and for which no frame of the channel is gone from the frame
 -- where the unit begins to the frame where it ends. Both are told by octets of the batch.
 use Prim.Native.Nat.{ℕ, _+_}
-use mathlib.Core.Bool.{Bool, true, false, cond, _&&_}
+use mathlib.Core.Bool.{Bool, true, cond, _&&_}
 use mathlib.Core.List.{List, [], _∷_, _++_}
 use lib.ListN.{length}
 use Rattle.rules.specs.Tests.{_≤?_, _<?_, _=?_}
-use Rattle.link.specs.Link.{Passage, Kept, Gone, Frame}
+use Rattle.link.specs.Link.{Frame}
 
 -- Of units back to back from octet a of a batch on, those that end in a frame that has its octets from `start` up to `stop`, and whose first
 -- octet passes.
@@ -13,11 +13,6 @@ unfoldable pub ending : ℕ → ℕ → (ℕ → Bool) → ℕ → List (List �
 ending start stop p a [] = []
 ending start stop p a (u ∷ us) =
     cond (start <? (a + length u) && (a + length u) ≤? stop && p a) (u ∷ []) [] ++ ending start stop p (a + length u) us
-
--- The frame is kept.
-abbrev pub kept : Passage → Bool
-kept (Kept lent after) = true
-kept (Gone instead) = false
 
 -- Of the frames sent so far, the last one first: back to the frame where octet a of the batch is that lane l is at, the last frame of lane l
 -- that starts with that octet or before it.
@@ -28,7 +23,7 @@ backTo l a (f ∷ fs) = f ∷ cond (f .lane =? l && f .start ≤? a) [] (backTo 
 -- "No frame of that channel and service is gone."
 unfoldable pub noneGone : ℕ → List Frame → Bool
 noneGone c [] = true
-noneGone c (f ∷ fs) = cond (f .channel =? c) (kept (f .passage)) true && noneGone c fs
+noneGone c (f ∷ fs) = cond (f .channel =? c) (f .kept) true && noneGone c fs
 
 -- None of lane l's channel c is gone from the frame where octet a of that batch is to the last frame sent, both included.
 unfoldable pub clean : ℕ → ℕ → List Frame → ℕ → Bool

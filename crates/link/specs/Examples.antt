@@ -1,4 +1,4 @@
--- Runs that the demand is tried on: some that meet its premises, and one with as many frames gone as there are counts.
+-- Runs that the demand is tried on: some that meet its premises, and one with as many frames gone as there are counts, less one.
 use Prim.Native.Nat.{ℕ, _-_}
 use mathlib.Core.Bool.{false}
 use mathlib.Core.List.{List, [], _∷_, _++_}
@@ -6,9 +6,9 @@ use lib.ListN.{drop, set, take, replicate}
 use Rattle.rules.specs.declared.Kind.the-variants.{Packets, Access}
 use Rattle.rules.specs.declared.Setting.{Setting}
 use Rattle.rules.specs.Worked.{small}
-use Rattle.rules.specs.Errors.{packetFrame}
+use Rattle.rules.specs.Errors.{paired, packetFrame}
 use Rattle.rules.specs.Calls.{Got}
-use Rattle.link.specs.Link.{Lent, Arrival, Passage, Kept, Gone, Call, Frame, handedOut}
+use Rattle.link.specs.Link.{Call, Frame, placeOf, Lent, Event, Writes, Copy, Stray, handedOut}
 use Rattle.link.specs.Due.{due}
 use Rattle.link.specs.Demand.{framesOf, readsOf}
 use Rattle.rules.specs.Areas.{heldSize, recordsSize, unitsSize}
@@ -25,22 +25,29 @@ full x = record { units = replicate unitsSize x; records = replicate recordsSize
 unfoldable pub roomy : Lent
 roomy = record { units = replicate 12300 0x33; records = replicate 9650 0x33 }
 
-unfoldable pub call : ℕ → List ℕ → Passage → Call
-call l b p = record { lane = l; batch = b; insert = []; ocf = []; area = replicate 40 0x55; passage = p }
+unfoldable pub call : ℕ → List ℕ → Call
+call l b = record { lane = l; batch = b; insert = []; ocf = []; area = replicate 40 0x55 }
 
--- The frame is kept, with these octet strings after it or with none, or gone with these in its place.
-unfoldable pub strings : List (List ℕ) → List Arrival
+-- What happens, part by part.
+unfoldable pub row : List (List (Event Call)) → List (Event Call)
+row [] = []
+row (e ∷ es) = e ++ row es
+
+-- Octet strings that are no copy of a frame.
+unfoldable pub strings : List (List ℕ) → List (Event Call)
 strings [] = []
-strings (x ∷ xs) = record { octets = x; lent = full 0x44 } ∷ strings xs
+strings (x ∷ xs) = Stray x (full 0x44) ∷ strings xs
 
-abbrev pub keepWith : ℕ → List ℕ → List (List ℕ) → Call
-keepWith l b xs = call l b (Kept (full 0x33) (strings xs))
+-- A copy of the frame that is sent on lane l's channel.
+abbrev pub again : Setting → ℕ → List (Event Call)
+again s l = Copy (placeOf s l) (full 0x33) ∷ []
 
-abbrev pub keep : ℕ → List ℕ → Call
-keep l b = keepWith l b []
+-- A frame is sent, and a copy of it arrives; or none does, and these octet strings arrive in its place.
+abbrev pub keep : Setting → ℕ → List ℕ → List (Event Call)
+keep s l b = Writes (call l b) ∷ again s l
 
-abbrev pub lose : ℕ → List ℕ → List (List ℕ) → Call
-lose l b xs = call l b (Gone (strings xs))
+abbrev pub lose : ℕ → List ℕ → List (List ℕ) → List (Event Call)
+lose l b xs = Writes (call l b) ∷ strings xs
 
 -- A frame of lane 0 with this count whose first octet is another: its version is not 1100.
 abbrev pub damaged : ℕ → List ℕ → List ℕ
@@ -81,52 +88,67 @@ abbrev pub w₂ : List ℕ
 w₂ = replicate 21 0x32
 
 -- The run's end, which is a run of its own too.
-unfoldable pub closing : List Call
+unfoldable pub closing : List (Event Call)
 closing =
+    row
     -- A frame of lane 1 is gone: two of its packets, and one that lane 0 has begun. The octets in its place are nothing to the unit that
     -- lane 2 has begun, which is as long as may be.
-    keep 0 a₀
-    ∷ keep 2 v₂
+    (keep paired 0 a₀
+    ∷ keep paired 2 v₂
     ∷ lose 1 e₁ ((0xC0 ∷ 0x02 ∷ []) ∷ replicate 32 0x00 ∷ [])
-    ∷ keep 2 v₂
-    ∷ keep 1 e₁
-    ∷ keep 0 a₀
-    -- Two packets of one frame. The first octets of one unit and the last of another; what stands in the places of the frames between is
-    -- nothing to the packet that lane 0 has begun. The last batch is unfinished.
-    ∷ keep 1 f₁
-    ∷ keep 0 d₀
-    ∷ keep 2 v₂
+    ∷ keep paired 2 v₂
+    ∷ keep paired 1 e₁
+    ∷ keep paired 0 a₀
+    -- Two packets of one frame, of which three copies come.
+    ∷ keep paired 1 f₁
+    ∷ again paired 1
+    ∷ again paired 1
+    -- Copies of a frame that has begun a packet: right after it, and after a frame of the other service, which has copies too.
+    ∷ keep paired 0 d₀
+    ∷ again paired 0
+    ∷ keep paired 2 v₂
+    ∷ again paired 0
+    ∷ again paired 2
+    -- The first octets of one unit and the last of another; what stands in the places of the frames between is nothing to the packet that lane 0
+    -- has begun.
     ∷ lose 2 v₂ ((0xC0 ∷ 0x02 ∷ []) ∷ [])
     ∷ lose 2 u₂ (replicate 32 0x00 ∷ [])
-    ∷ keep 2 u₂
-    ∷ keep 0 d₀
-    ∷ keep 0 d₀
-    ∷ keep 0 a₀
-    ∷ []
+    -- Of the packet's second frame the first copy is gone, and two come late, after a frame of the other service. The last batch is unfinished.
+    ∷ lose 0 d₀ (damaged 6 (take 21 (drop 21 d₀)) ∷ [])
+    ∷ keep paired 2 u₂
+    ∷ again paired 0
+    ∷ again paired 0
+    ∷ keep paired 0 d₀
+    ∷ keep paired 0 a₀
+    ∷ [])
 
-unfoldable pub calls : List Call
+unfoldable pub calls : List (Event Call)
 calls =
+    row
     -- The first half of one packet and the second half of another of the same length, and a frame of the neighbor's map between:
     -- where a gap is overlooked they make a packet. In the places of the two frames gone, octets that have their counts.
-    keep 0 a₀
+    (keep paired 0 a₀
     ∷ lose 0 a₀ (damaged 1 (drop 21 a₀) ∷ [])
     ∷ lose 0 b₀ (damaged 2 (take 21 b₀) ∷ [])
-    ∷ keep 1 c₁
-    ∷ keep 0 b₀
+    ∷ keep paired 1 c₁
+    ∷ keep paired 0 b₀
     -- A packet and a unit with the other lanes' frames between theirs, and after two frames octets that have the next count.
-    ∷ keepWith 0 d₀ (damaged 6 (drop 42 d₀) ∷ [])
-    ∷ keep 2 u₂
-    ∷ keepWith 0 d₀ ((0xC0 ∷ 0x02 ∷ []) ∷ damaged 7 (drop 42 d₀) ∷ [])
-    ∷ keep 1 c₁
-    ∷ keep 2 u₂
-    ∷ keep 0 d₀
+    ∷ keep paired 0 d₀
+    ∷ strings (damaged 6 (drop 42 d₀) ∷ [])
+    ∷ keep paired 2 u₂
+    ∷ keep paired 0 d₀
+    ∷ strings ((0xC0 ∷ 0x02 ∷ []) ∷ damaged 7 (drop 42 d₀) ∷ [])
+    ∷ keep paired 1 c₁
+    ∷ keep paired 2 u₂
+    ∷ keep paired 0 d₀
     -- The begin of a unit is gone; that is the other service's loss.
     ∷ lose 2 v₂ []
-    ∷ keep 1 e₁
-    ∷ keep 2 v₂
-    ∷ keep 1 e₁
-    ∷ keep 2 w₂
+    ∷ keep paired 1 e₁
+    ∷ keep paired 2 v₂
+    ∷ keep paired 1 e₁
+    ∷ keep paired 2 w₂
     ∷ closing
+    ∷ [])
 
 -- What is due on lanes 0, 1, 2 and on 3, which is none, by hand.
 unfoldable pub wanted : List (List (List ℕ))
@@ -135,10 +157,13 @@ wanted =
     ∷ (c₁ ∷ c₁ ∷ packet 18 0xE1 ∷ packet 10 0xE2 ∷ packet 14 0xE3 ∷ packet 14 0xE3 ∷ packet 10 0xF1 ∷ packet 11 0xF2 ∷ [])
     ∷ (u₂ ∷ w₂ ∷ v₂ ∷ []) ∷ [] ∷ []
 
--- ---- a run of `paired` in which nothing is gone and every batch is finished
+-- ---- a run of `paired` in which nothing is gone, though copies are, and every batch is finished
 
-unfoldable pub unharmed : List Call
-unharmed = keep 0 a₀ ∷ keep 2 v₂ ∷ keep 1 f₁ ∷ keep 0 a₀ ∷ keep 2 v₂ ∷ keep 0 b₀ ∷ keep 0 b₀ ∷ []
+unfoldable pub unharmed : List (Event Call)
+unharmed =
+    row
+    (keep paired 0 a₀ ∷ again paired 0 ∷ keep paired 2 v₂ ∷ keep paired 1 f₁ ∷ lose 0 a₀ [] ∷ keep paired 2 v₂ ∷ again paired 0 ∷ keep paired 0 b₀
+    ∷ keep paired 0 b₀ ∷ again paired 0 ∷ [])
 
 -- ---- a long run
 
@@ -151,8 +176,8 @@ mixed =
     ∷ record { channel = 0; map = 6; kind = Access; longest = 42; upid = 5 } ∷ record { channel = 1; map = 6; kind = Access; longest = 42; upid = 5 } ∷ [])
 
 -- n frames of an access lane are gone, with a unit of one octet each.
-abbrev pub gone : ℕ → ℕ → List Call
-gone n l = replicate n (lose l (0x77 ∷ []) [])
+abbrev pub gone : ℕ → ℕ → List (Event Call)
+gone n l = replicate n (Writes (call l (0x77 ∷ [])))
 
 -- A packet of one frame, and two of two frames of lane 1.
 abbrev pub g₀ : List ℕ
@@ -164,34 +189,48 @@ h₁ = packet 40 0xA1
 abbrev pub i₁ : List ℕ
 i₁ = packet 40 0xB1
 
-unfoldable pub long : List Call
+unfoldable pub long : List (Event Call)
 long =
-    -- Before the first kept frame of the first channel more are gone than there are counts. It has count 44, areas longer than asked for, and octets
-    -- after it.
-    gone 300 2
-    ++ (call 0 g₀ (Kept roomy (strings (replicate 32 0x00 ∷ []))) ∷ [])
+    row
+    -- Before the first kept frame of the first channel more are gone than there are counts. It has count 255, areas longer than asked for, and
+    -- octets after it.
+    (gone 511 2
+    ∷ (Writes (call 0 g₀) ∷ Copy 0 roomy ∷ strings (replicate 32 0x00 ∷ []))
     -- Over the wrap: the first half of one packet has count 253, the second half of another count 1.
-    ++ gone 208 2
-    ++ (keep 0 a₀ ∷ lose 0 a₀ [] ∷ lose 2 w₂ [] ∷ lose 0 b₀ [] ∷ keep 0 b₀ ∷ [])
-    -- Nothing is gone over the wrap: the two frames of a packet have counts 255 and 0.
-    ++ gone 253 2
-    ++ (keep 0 a₀ ∷ keep 0 a₀ ∷ [])
+    ∷ gone 253 2
+    ∷ keep mixed 0 a₀
+    ∷ lose 0 a₀ []
+    ∷ lose 2 w₂ []
+    ∷ lose 0 b₀ []
+    ∷ keep mixed 0 b₀
+    -- Nothing is gone over the wrap: the two frames of a packet have counts 255 and 0, and of each a second copy comes.
+    ∷ gone 253 2
+    ∷ keep mixed 0 a₀
+    ∷ again mixed 0
+    ∷ keep mixed 0 a₀
+    ∷ again mixed 0
+    -- As many are gone as may be, 254: the next frame has count 255.
+    ∷ gone 254 2
+    ∷ keep mixed 0 g₀
     -- With counts of two octets 256 frames gone are seen: the first half of one packet and the second half of another.
-    ++ (keep 1 h₁ ∷ lose 1 h₁ [] ∷ [])
-    ++ gone 254 3
-    ++ (lose 1 i₁ [] ∷ keep 1 i₁ ∷ [])
+    ∷ keep mixed 1 h₁
+    ∷ lose 1 h₁ []
+    ∷ gone 254 3
+    ∷ lose 1 i₁ []
+    ∷ keep mixed 1 i₁
     -- After the last kept frame of the first channel more are gone than there are counts.
-    ++ gone 300 2
+    ∷ gone 300 2
+    ∷ [])
 
 -- What is due on lanes 0 and 1, by hand.
 unfoldable pub wantedLong : List (List (List ℕ))
-wantedLong = (g₀ ∷ a₀ ∷ []) ∷ [] ∷ []
+wantedLong = (g₀ ∷ a₀ ∷ g₀ ∷ []) ∷ [] ∷ []
 
--- ---- as many frames gone as there are counts
+-- ---- as many frames gone as there are counts, less one
 
--- The first half of one packet, n + 2 frames gone, the second half of another.
-unfoldable pub gapOf : ℕ → List Call
-gapOf n = (keep 0 a₀ ∷ lose 0 a₀ [] ∷ []) ++ gone n 2 ++ (lose 0 b₀ [] ∷ keep 0 b₀ ∷ [])
+-- The first half of a packet of 42 octets, n + 2 frames gone, and the second and third frame of a packet of 63.
+unfoldable pub gapOf : ℕ → List (Event Call)
+gapOf n = row (keep mixed 0 a₀ ∷ lose 0 a₀ [] ∷ gone n 2 ∷ lose 0 d₀ [] ∷ keep mixed 0 d₀ ∷ keep mixed 0 d₀ ∷ [])
 
 -- ---- what a run of a setting gives
 
@@ -204,14 +243,14 @@ unfoldable pub onEach : List ℕ → List Got → List (List (List ℕ))
 onEach [] os = []
 onEach (l ∷ ls) os = handedOut l os ∷ onEach ls os
 
-unfoldable pub got : Setting → List ℕ → List Call → List (List (List ℕ))
+unfoldable pub got : Setting → List ℕ → List (Event Call) → List (List (List ℕ))
 got s ls xs = onEach ls (readsOf s held xs)
 
 unfoldable pub dueOnEach : List ℕ → List Frame → List (List (List ℕ))
 dueOnEach [] fs = []
 dueOnEach (l ∷ ls) fs = due l [] fs ∷ dueOnEach ls fs
 
-unfoldable pub owed : Setting → List ℕ → List Call → List (List (List ℕ))
+unfoldable pub owed : Setting → List ℕ → List (Event Call) → List (List (List ℕ))
 owed s ls xs = dueOnEach ls (framesOf s xs)
 
 -- The lanes of `paired` and a number that is none; the packet lanes of `mixed`.

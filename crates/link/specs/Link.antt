@@ -1,6 +1,6 @@
--- Two ends and the link between them: calls of the writer, what becomes of each frame, and the reads at the other end.
+-- Two ends and the link between them: calls of the writer, copies of frames and other octets that arrive, and the reads at the other end.
 use Prim.Native.Nat.{ℕ, zero, suc, _+_, _*_}
-use mathlib.Core.Bool.{cond}
+use mathlib.Core.Bool.{Bool, false, cond, _||_}
 use mathlib.Core.List.{List, [], _∷_, _++_}
 use lib.ListN.{getD, take, drop}
 use Rattle.rules.specs.declared.Setting.{Setting}
@@ -15,40 +15,19 @@ use Rattle.rules.specs.Areas.{recordSize}
 
 -- ---- the writer's end
 
--- The unit area and the record area that a read is lent.
-pub record Lent : Type 0 where
-  pub units : List ℕ
-  pub records : List ℕ
-
--- An octet string that arrives, and what its read is lent.
-pub record Arrival : Type 0 where
-  pub octets : List ℕ
-  pub lent : Lent
-
--- "Each frame kept, or gone." The read of a kept one is lent areas.
-pub data Passage : Type 0 where
-  Kept : Lent → List Arrival → Passage
-  Gone : List Arrival → Passage
-
--- What arrives besides: after a kept frame, or in the place of one that is gone.
-abbrev pub besides : Passage → List Arrival
-besides (Kept lent after) = after
-besides (Gone instead) = instead
-
--- A call of the writer, and what becomes of its frame.
+-- A call of the writer.
 pub record Call : Type 0 where
   pub lane : ℕ
   pub batch : List ℕ
   pub insert : List ℕ
   pub ocf : List ℕ
   pub area : List ℕ
-  pub passage : Passage
 
 unfoldable pub called : Writer → Call → Sent
 called w x = write w (x .lane) (x .batch) (x .insert) (x .ocf) (x .area)
 
 -- A frame of a run: its lane, its channel's place in the list, the units of its batch, the octets of the batch that are its own (the one with
--- which it starts, and the one behind its last), its octets, and what becomes of it.
+-- which it starts, and the one behind its last), its octets, and whether it is kept.
 pub record Frame : Type 0 where
   pub lane : ℕ
   pub channel : ℕ
@@ -56,7 +35,7 @@ pub record Frame : Type 0 where
   pub start : ℕ
   pub stop : ℕ
   pub octets : List ℕ
-  pub passage : Passage
+  pub kept : Bool
 
 -- The place of lane l's channel in the list: two lanes share "channel and service" where it is the same.
 abbrev pub placeOf : Setting → ℕ → ℕ
@@ -67,8 +46,8 @@ abbrev pub startOf : Setting → Writer → ℕ → ℕ
 startOf s w l = number w l * zone s (channelOf s l)
 
 -- The frame that a call writes, of a writer of setting s: the first F octets of the area that it was lent.
-unfoldable pub frameBy : Setting → Writer → Call → Frame
-frameBy s w x =
+unfoldable pub frameBy : Setting → Writer → Call → Bool → Frame
+frameBy s w x kept =
     record {
       lane = x .lane;
       channel = placeOf s (x .lane);
@@ -76,24 +55,77 @@ frameBy s w x =
       start = startOf s w (x .lane);
       stop = startOf s w (x .lane) + zone s (channelOf s (x .lane));
       octets = take (s .length) ((called w x) .area);
-      passage = x .passage;
+      kept = kept;
     }
 
--- The frames of a list of calls, each "handed the state that the last one left".
-unfoldable pub sent : Setting → Writer → List Call → List Frame
-sent s w [] = []
-sent s w (x ∷ xs) = frameBy s w x ∷ sent s ((called w x) .sender .state) xs
+-- ---- the link
+
+-- The unit area and the record area that a read is lent.
+pub record Lent : Type 0 where
+  pub units : List ℕ
+  pub records : List ℕ
+
+-- What happens, in its order: a call writes a frame, which is from then on the one that is sent on its channel; a copy arrives of the frame that is
+-- sent on the channel at place c; other octets arrive. The read of what arrives is lent areas. So a frame is "sent several times running": between two
+-- copies of it there is no other frame of its channel and service, and there may be frames of others. Of a copy that does not arrive nothing is said.
+pub data Event (C : Type 0) : Type 0 where
+  Writes : C → Event C
+  Copy : ℕ → Lent → Event C
+  Stray : List ℕ → Lent → Event C
+
+-- "A frame is gone when no copy is kept": whether one of the frame that is now sent on channel c arrives, before the next frame of that channel.
+-- Told of calls, or of frames, by the channel of each.
+unfoldable pub arrives : {C : Type 0} → (C → ℕ) → ℕ → List (Event C) → Bool
+arrives place c [] = false
+arrives place c (Writes x ∷ es) = cond (place x =? c) false (arrives place c es)
+arrives place c (Copy d lent ∷ es) = d =? c || arrives place c es
+arrives place c (Stray f lent ∷ es) = arrives place c es
+
+-- The channel of a call.
+abbrev pub placeIn : Setting → Call → ℕ
+placeIn s x = placeOf s (x .lane)
+
+-- What happens, with frames in the places of their calls. Each call is "handed the state that the last one left".
+unfoldable pub flown : Setting → Writer → List (Event Call) → List (Event Frame)
+flown s w [] = []
+flown s w (Writes x ∷ es) = Writes (frameBy s w x (arrives (placeIn s) (placeIn s x) es)) ∷ flown s ((called w x) .sender .state) es
+flown s w (Copy c lent ∷ es) = Copy c lent ∷ flown s w es
+flown s w (Stray f lent ∷ es) = Stray f lent ∷ flown s w es
+
+-- The frames, in sending order.
+unfoldable pub sent : List (Event Frame) → List Frame
+sent [] = []
+sent (Writes f ∷ es) = f ∷ sent es
+sent (Copy c lent ∷ es) = sent es
+sent (Stray f lent ∷ es) = sent es
 
 -- ---- the reader's end
 
--- What arrives of a frame of these octets: the frame and what follows it, or what is in its place.
-abbrev pub arriving : Passage → List ℕ → List Arrival
-arriving (Kept lent after) f = record { octets = f; lent = lent } ∷ after
-arriving (Gone instead) f = instead
+-- An octet string that arrives, and what its read is lent.
+pub record Arrival : Type 0 where
+  pub octets : List ℕ
+  pub lent : Lent
 
-unfoldable pub arrivals : List Frame → List Arrival
-arrivals [] = []
-arrivals (f ∷ fs) = arriving (f .passage) (f .octets) ++ arrivals fs
+-- What is sent on each channel: a frame, or none as yet.
+abbrev pub Air : Type 0
+Air = ℕ → List (List ℕ)
+
+abbrev pub silence : Air
+silence c = []
+
+unfoldable pub sending : Frame → Air → Air
+sending f air c = cond (f .channel =? c) (f .octets ∷ []) (air c)
+
+-- A copy of what is sent.
+abbrev pub copied : List (List ℕ) → Lent → List Arrival
+copied [] lent = []
+copied (f ∷ fs) lent = record { octets = f; lent = lent } ∷ []
+
+unfoldable pub arrivals : Air → List (Event Frame) → List Arrival
+arrivals air [] = []
+arrivals air (Writes f ∷ es) = arrivals (sending f air) es
+arrivals air (Copy c lent ∷ es) = copied (air c) lent ++ arrivals air es
+arrivals air (Stray f lent ∷ es) = record { octets = f; lent = lent } ∷ arrivals air es
 
 -- The reads of what arrives: each is handed "the state and held octets that the last one left", and lent unit and record areas with
 -- anything in them.

@@ -75,6 +75,10 @@ missing-below n e k = go (e .known)
     go true = mod-lt (k + 256 ^ n - e .count) (pow256-pos n)
     go false = pow256-pos n
 
+-- A count of one octet or more has 256 values or more.
+pub counts-many : (n : ℕ) → 1 ≤ n → 256 ≤ 256 ^ n
+counts-many n h = pow-le-pow-right (zero-lt-suc 255) h
+
 -- ---- repeats (document 02, A3)
 
 -- Where none is expected, no frame is a repeat.
@@ -117,9 +121,6 @@ few-no-repeat n e k he hk h = go (e .known) refl
 pub no-repeat-few : (n : ℕ) → 1 ≤ n → (e : Expect) (k : ℕ) → e .count < 256 ^ n → k < 256 ^ n → repeats n e k ≡ false → missing n e k + 2 ≤ 256 ^ n
 no-repeat-few n hn e k he hk h = go (e .known) refl
   where
-    some : 256 ≤ 256 ^ n
-    some = pow-le-pow-right (zero-lt-suc 255) hn
-
     go : (t : Bool) → e .known ≡ t → missing n e k + 2 ≤ 256 ^ n
     go true q =
         let x : e ≡ expects (e .count) = expect-by e true q in
@@ -130,7 +131,7 @@ no-repeat-few n hn e k he hk h = go (e .known) refl
         subst (λ (y : Expect). missing n y k + 2 ≤ 256 ^ n) (sym x) l
     go false q =
         let x : missing n e k ≡ 0 = ap (λ (y : Expect). missing n y k) (expect-by e false q) ∙ missing-unknown n (e .count) k in
-        omega (arith, some, x)
+        omega (arith, counts-many n hn, x)
 
 -- Once its count is taken, a frame with that count is a repeat.
 pub taken-repeats : (n k : ℕ) → k < 256 ^ n → repeats n (expected n k) k ≡ true

@@ -2,7 +2,6 @@
 -- first, changes nothing, whatever the frame is. And before a frame that is no repeat at most 256^n - 2 are missing.
 use mathlib.Core.Path.{_≡_, refl, sym, ap, _∙_, subst}
 use Prim.Native.Nat.{ℕ, _+_, _^_, _≤_, _<_}
-use native.Mathlib.Nat.{zero-lt-suc, pow-le-pow-right}
 use native.Mathlib.Omega.{arith}
 use mathlib.Core.Bool.{Bool, true, false, cond, not}
 use mathlib.Core.List.{List}
@@ -21,7 +20,7 @@ use Rattle.rules.specs.Refusals.{judge}
 use Rattle.rules.specs.Calls.{Got, areasShort, bare, laidOut, readOn, repeatsAt, again, onVerdict, verdict, read, looked, missingAt, onLook, look}
 use Rattle.rules.specs.Valid.{GoodReader}
 use Rattle.rules.proofs.Octets.{Octets, octets-drop, num-part}
-use Rattle.rules.proofs.Counts.{no-repeat-few, taken-repeats}
+use Rattle.rules.proofs.Counts.{counts-many, no-repeat-few, taken-repeats}
 use Rattle.rules.proofs.Valid.{good-reader}
 use Rattle.rules.proofs.Judged.{Judged, judge-facts}
 use Rattle.rules.proofs.States.{expect-same, gap-setting, gap-expects}
@@ -88,8 +87,7 @@ module _ (r : Reader) (f : List ℕ) where
           on g ((lane (r .setting) l) .channel) (g .setting .lanes l (j .numbered) .channel) q n
       few (Verdict.Repeat d) g j n e =
           let q : d ≡ c = cc in
-          let p : 256 ≤ 256 ^ (channel (r .setting) d) .octets = pow-le-pow-right (zero-lt-suc 255) (g .setting .channels d (j .0) .one) in
-          rw (← q) (omega (arith, p))
+          rw (← q) (omega (arith, counts-many ((channel (r .setting) d) .octets) (g .setting .channels d (j .0) .one)))
 
       valid : (a : Bool) → readerOk r ≡ a → Few (cond (not a) (Verdict.Refused 1) (again r f (judge (r .setting) f)))
       valid true e =
@@ -156,8 +154,8 @@ module _ (r : Reader) (f h u c u′ c′ : List ℕ) (counts : length (r .expect
       go true e = rw e
       go false e =
           let q : repeatsAt left d (countIn (channel (left .setting) d) f) ≡ true =
-              ap (λ (y : Setting). repeatsAt left d (countIn (channel y d) f)) (gap-setting r d _)
-              ∙ taken-on d (j .0) left (gap-setting r d _) (gap-expects r d _) in
+          ap (λ (y : Setting). repeatsAt left d (countIn (channel y d) f)) (gap-setting r d _)
+          ∙ taken-on d (j .0) left (gap-setting r d _) (gap-expects r d _) in
           rw q
   second (Verdict.Read l) j = go (repeatsAt r d (countIn (channel s d) f)) refl
     where
@@ -173,8 +171,8 @@ module _ (r : Reader) (f h u c u′ c′ : List ℕ) (counts : length (r .expect
       go false e =
           let next : Reader = (onVerdict (Verdict.Read l) r f h u c) .taken .state in
           let q : repeatsAt next ((lane (left .setting) l) .channel) (countIn (channelOf (left .setting) l) f) ≡ true =
-              ap (λ (y : Setting). repeatsAt next ((lane y l) .channel) (countIn (channelOf y l) f)) (gap-setting r d _)
-              ∙ taken-on d (good-reader r ok .setting .lanes l (j .numbered) .channel) next (gap-setting r d _) (gap-expects r d _) in
+          ap (λ (y : Setting). repeatsAt next ((lane y l) .channel) (countIn (channelOf y l) f)) (gap-setting r d _)
+          ∙ taken-on d (good-reader r ok .setting .lanes l (j .numbered) .channel) next (gap-setting r d _) (gap-expects r d _) in
           rw q
   second (Verdict.Repeat d) j = refl
 
@@ -187,7 +185,7 @@ module _ (r : Reader) (f h u c u′ c′ : List ℕ) (counts : length (r .expect
       let o : Got = read r f h u c in
       let one : verdict r f h u c ≡ again r f (judge s f) = verdict-cond r f h u c ∙ rw (ok, a) in
       let two : verdict (o .taken .state) f (o .heldArea) u′ c′ ≡ again (o .taken .state) f (judge s f) =
-          verdict-cond (o .taken .state) f (o .heldArea) u′ c′ ∙ rw (read-valid r f h u c ok, b)
-          (ap (λ (y : Setting). again (o .taken .state) f (judge y f)) (read-setting r f h u c)) in
+      verdict-cond (o .taken .state) f (o .heldArea) u′ c′ ∙ rw (read-valid r f h u c ok, b)
+      (ap (λ (y : Setting). again (o .taken .state) f (judge y f)) (read-setting r f h u c)) in
       ap (λ (v : Verdict). onVerdict v (o .taken .state) f (o .heldArea) u′ c′) two
       ∙ subst (Second (judge s f)) (ap (λ (v : Verdict). onVerdict v r f h u c) (sym one)) (second (judge s f) (judge-facts s f))
