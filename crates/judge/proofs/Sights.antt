@@ -79,6 +79,7 @@ module _ (s : Setting) (f : List ℕ) where
   refused-sight n Verdict.Idle e = impossible (cc)
   refused-sight n (Verdict.Counted c) e = impossible (cc)
   refused-sight n (Verdict.Read l) e = impossible (cc)
+  refused-sight n (Verdict.Repeat c) e = impossible (cc)
 
   pub idle-sight : (w : Verdict) → sightOf s f w ≡ Sighting.Idle → w ≡ Verdict.Idle
   unfolding sightOf
@@ -86,6 +87,15 @@ module _ (s : Setting) (f : List ℕ) where
   idle-sight Verdict.Idle e = refl
   idle-sight (Verdict.Counted c) e = impossible (cc)
   idle-sight (Verdict.Read l) e = impossible (cc)
+  idle-sight (Verdict.Repeat c) e = impossible (cc)
+
+  pub repeat-sight : (c : ℕ) (w : Verdict) → sightOf s f w ≡ Sighting.Repeat c → w ≡ Verdict.Repeat c
+  unfolding sightOf
+  repeat-sight c (Verdict.Refused m) e = impossible (cc)
+  repeat-sight c Verdict.Idle e = impossible (cc)
+  repeat-sight c (Verdict.Counted k) e = impossible (cc)
+  repeat-sight c (Verdict.Read l) e = impossible (cc)
+  repeat-sight c (Verdict.Repeat k) e = let q : k ≡ c = cc in ap Verdict.Repeat q
 
   -- Seen, and read by no lane or by lane l.
   pub counted-sight : (x : Sight) (w : Verdict) → sightOf s f w ≡ Seen x → x .lane ≡ Nowhere
@@ -100,6 +110,7 @@ module _ (s : Setting) (f : List ℕ) where
       let o : readSight s f l ≡ x = cc in
       let z : At l ≡ Nowhere = ap (λ (y : Sight). y .lane) o ∙ q in
       impossible (cc)
+  counted-sight x (Verdict.Repeat c) e q = impossible (cc)
 
   pub read-sight : (x : Sight) (w : Verdict) (l : ℕ) → sightOf s f w ≡ Seen x → x .lane ≡ At l → (w ≡ Verdict.Read l) × (x ≡ readSight s f l)
   unfolding sightOf
@@ -114,3 +125,4 @@ module _ (s : Setting) (f : List ℕ) where
       let z : At k ≡ At l = ap (λ (y : Sight). y .lane) o ∙ q in
       let j : k ≡ l = cc in
       (ap Verdict.Read j, sym o ∙ ap (readSight s f) j)
+  read-sight x (Verdict.Repeat c) l e q = impossible (cc)

@@ -1,4 +1,4 @@
--- What the checks find of a frame, by the rules' verdict.
+-- What is found of a frame, by the rules' verdict.
 use mathlib.Core.Path.{_≡_}
 use mathlib.Core.Bool.{true}
 use Prim.Native.Nat.{ℕ, _^_, _<_}
@@ -11,7 +11,7 @@ use Rattle.rules.specs.Settings.{channel, lane, channelOf, zoneAt, zoneFor, set
 use Rattle.rules.specs.Frames.{countIn, ruleIn, pointerIn, pointsTo}
 use Rattle.judge.specs.declared.Sight.{Sight}
 use Rattle.judge.specs.declared.Sighting.{Sighting}
-use Rattle.judge.specs.declared.Sighting.the-variants.{Refused, Idle, Seen}
+use Rattle.judge.specs.declared.Sighting.the-variants.{Refused, Idle, Seen, Repeat}
 
 -- A frame of channel c that no lane reads.
 abbrev pub countedSight : ℕ → ℕ → Sight
@@ -35,12 +35,14 @@ sightOf s f (Verdict.Refused n) = Refused n
 sightOf s f Verdict.Idle = Idle
 sightOf s f (Verdict.Counted c) = Seen (countedSight c (countIn (channel s c) f))
 sightOf s f (Verdict.Read l) = Seen (readSight s f l)
+sightOf s f (Verdict.Repeat c) = Repeat c
 
 -- A count that was seen is one of its channel's.
 abbrev pub Fitting : Setting → Sighting → Type 0
 Fitting s (Refused n) = Unit {0}
 Fitting s Idle = Unit {0}
 Fitting s (Seen x) = x .count < 256 ^ (channel s (x .channel)) .octets
+Fitting s (Repeat c) = Unit {0}
 
 -- A frame of F octets on channel c of a valid setting.
 pub record OnChannel (s : Setting) (c : ℕ) (f : List ℕ) : Type 0 where

@@ -30,11 +30,13 @@ pub struct Sight {
     pub rule: u8,
 }
 
-// What the checks say: refused by a number, idle, or seen on a listed channel.
+// What is found of a frame: refused by a number, idle, seen on a listed channel, or a repeat on the channel at this place. The checks alone find no
+// repeat, for they do not know what was taken before.
 pub enum Sighting {
     Refused(u8),
     Idle,
     Seen(Sight),
+    Repeat(usize),
 }
 
 // Whether a construction rule is one of this kind of lane's.
