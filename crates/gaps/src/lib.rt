@@ -1,12 +1,12 @@
-// How many frames are missing before a count, and what a gap drops.
+// Whether a count is a repeat, how many frames are missing before it, and what a gap drops.
 ghost use mathlib.Core.Path.{_≡_};
 ghost use mathlib.Core.Bool.{true};
 ghost use Prim.Native.Nat.{ℕ, _+_, _^_, _≤_, _<_};
 ghost use lib.ListN.{getD};
 ghost use Rattle.rules.specs.Tests.{_=?_};
-ghost use Rattle.rules.specs.Settings.{noSlot, readerOk, channel};
-ghost use Rattle.rules.specs.Reading.{missing, emptied, lost, lanesOf, gapBy, gap};
-ghost use Rattle.rules.specs.Calls.{missingAt};
+ghost use Rattle.rules.specs.Settings.{noSlot, readerOk, channel, expect};
+ghost use Rattle.rules.specs.Reading.{missing, repeats, emptied, lost, lanesOf, gapBy, gap};
+ghost use Rattle.rules.specs.Calls.{missingAt, repeatsAt};
 use rules::Expect;
 use rules::Expects;
 use rules::Gap;
@@ -24,6 +24,18 @@ fn missing_of(n: usize, e: Expect, k: u64) -> u64
         return (k + m - e.count) % m;
     }
     0
+}
+
+// Whether count k, of n octets, is the last one taken: the one before what is expected. Where none is expected, none was taken.
+fn repeats_of(n: usize, e: Expect, k: u64) -> bool
+    requires { ⌜ (n ≤ 7) × (e .count < 256 ^ n) ⌝ }
+    ensures { λ b. ⌜ b ≡ repeats n e k ⌝ }
+{
+    if e.known {
+        let m = octets::modulus(n);
+        return k == (e.count + m - 1) % m;
+    }
+    false
 }
 
 // The slots once the lanes of channel c have dropped what they hold.
@@ -95,17 +107,46 @@ fn gap_by(s: Setting, expects: Expects, slots: [Slot; 8], c: usize, missing: u64
     }
 }
 
-// How many frames of channel c are missing before one with count k.
-pub fn missing_at(r: Reader, c: usize, k: u64) -> u64
-    requires { ⌜ (readerOk r ≡ true) × (c < r .setting .listed) × (k < 256 ^ channel (r .setting) c .octets) ⌝ }
-    ensures { λ m. ⌜ m ≡ missingAt r c k ⌝ }
+// What a channel's counts are held against: what is expected of it, and how many octets they have.
+struct Awaited {
+    expect: Expect,
+    octets: usize,
+}
+
+// What the counts of channel c are held against.
+fn awaited_at(r: Reader, c: usize) -> Awaited
+    requires { ⌜ c < 8 ⌝ }
+    ensures { λ a. ⌜ a ≡ record { expect = expect r c; octets = channel (r .setting) c .octets } ⌝ }
 {
     let s = r.setting;
     let expects = r.expects;
     let channels = s.channels;
     let ch = channels[c];
     let e = setting::expect_of(expects, c);
-    missing_of(ch.octets as usize, e, k)
+    Awaited {
+        expect: e,
+        octets: ch.octets as usize,
+    }
+}
+
+// Whether count k is the last one taken on channel c.
+pub fn repeats_at(r: Reader, c: usize, k: u64) -> bool
+    requires { ⌜ (readerOk r ≡ true) × (c < r .setting .listed) × (k < 256 ^ channel (r .setting) c .octets) ⌝ }
+    ensures { λ b. ⌜ b ≡ repeatsAt r c k ⌝ }
+{
+    let a = awaited_at(r, c);
+    let e = a.expect;
+    repeats_of(a.octets, e, k)
+}
+
+// How many frames of channel c are missing before one with count k.
+pub fn missing_at(r: Reader, c: usize, k: u64) -> u64
+    requires { ⌜ (readerOk r ≡ true) × (c < r .setting .listed) × (k < 256 ^ channel (r .setting) c .octets) ⌝ }
+    ensures { λ m. ⌜ m ≡ missingAt r c k ⌝ }
+{
+    let a = awaited_at(r, c);
+    let e = a.expect;
+    missing_of(a.octets, e, k)
 }
 
 // A frame of channel c with count k, before which so many are missing: what is expected next, and what that drops.
