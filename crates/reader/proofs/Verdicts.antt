@@ -13,7 +13,7 @@ use Rattle.rules.specs.declared.Verdict.{Verdict}
 use Rattle.rules.specs.Settings.{channel, lane, channelOf, readerOk}
 use Rattle.rules.specs.Frames.{countIn}
 use Rattle.rules.specs.Reading.{gap}
-use Rattle.rules.specs.Calls.{Got, areasShort, readOn, onVerdict, verdict, read, looked, missingAt, onLook}
+use Rattle.rules.specs.Calls.{Got, areasShort, readOn, onVerdict, verdict, read, again, looked, repeatsAt, missingAt, onLook}
 use borrow.Author.Tests.{not-false}
 use Rattle.rules.proofs.Tests.{or-none}
 use Rattle.rules.proofs.States.{gap-setting, good-gap}
@@ -32,11 +32,22 @@ use Rattle.judge.proofs.Sights.{counted-sight, read-sight}
 use Rattle.rules.specs.declared.Place.the-variants.{At, Nowhere}
 use Rattle.reader.specs.Reads.{shortOf, shortRefusal, countedOf, OnLane, SeenOn}
 use Rattle.reader.specs.declared.Found.{Found}
-use Rattle.reader.specs.Finds.{Sound, missingFor, foundOf, shownOf}
+use Rattle.reader.specs.Finds.{Sound, againOf, missingFor, foundOf, shownOf}
 use Rattle.gaps.proofs.Gaps.{gap-small}
 use Rattle.rules.specs.Areas.{heldSize, recordsSize, unitsSize}
 
 -- ---- what is found
+
+-- Whether it is a repeat or not, what was seen stays sound.
+pub sound-again : (r : Reader) (v : Sighting) → Sound r v → Sound r (againOf r v)
+sound-again r (Sighting.Refused n) k = tt
+sound-again r Sighting.Idle k = tt
+sound-again r (Seen x) k = go (repeatsAt r (x .channel) (x .count))
+  where
+    go : (t : Bool) → Sound r (cond t (Sighting.Repeat (x .channel)) (Seen x))
+    go true = tt
+    go false = k
+sound-again r (Sighting.Repeat c) k = tt
 
 module _ (r : Reader) (f : List ℕ) where
   -- By a valid state's checks.
@@ -49,6 +60,24 @@ module _ (r : Reader) (f : List ℕ) where
       go Verdict.Idle j q = tt
       go (Verdict.Counted c) j q = (ok, j .0, q)
       go (Verdict.Read l) j q = (ok, good-reader r ok .setting .lanes l (j .numbered) .channel, q)
+      go (Verdict.Repeat c) j q = tt
+
+  told : (t : Bool) (c : ℕ) (w : Verdict)
+      → cond t (Sighting.Repeat c) (sightOf (r .setting) f w) ≡ sightOf (r .setting) f (cond t (Verdict.Repeat c) w)
+  unfolding sightOf
+  told true c w = refl
+  told false c w = refl
+
+  -- A repeat is told by what was seen as the rule tells it by the verdict.
+  pub again-sight : (w : Verdict) → againOf r (sightOf (r .setting) f w) ≡ sightOf (r .setting) f (again r f w)
+  unfolding sightOf again
+  again-sight (Verdict.Refused n) = refl
+  again-sight Verdict.Idle = refl
+  again-sight (Verdict.Counted c) = told (repeatsAt r c (countIn (channel (r .setting) c) f)) c (Verdict.Counted c)
+  again-sight (Verdict.Read l) =
+      let c : ℕ = (lane (r .setting) l) .channel in
+      told (repeatsAt r c (countIn (channelOf (r .setting) l) f)) c (Verdict.Read l)
+  again-sight (Verdict.Repeat c) = refl
 
   pub missing-found : (w : Verdict) → missingFor r (sightOf (r .setting) f w) ≡ (onLook w r f) .missing
   unfolding sightOf onLook
@@ -56,6 +85,7 @@ module _ (r : Reader) (f : List ℕ) where
   missing-found Verdict.Idle = refl
   missing-found (Verdict.Counted c) = refl
   missing-found (Verdict.Read l) = refl
+  missing-found (Verdict.Repeat c) = refl
 
   -- What a look shows of it is the rule's.
   pub shown-look : (w : Verdict) → shownOf (foundOf r f w) ≡ onLook w r f
@@ -64,6 +94,7 @@ module _ (r : Reader) (f : List ℕ) where
   shown-look Verdict.Idle = refl
   shown-look (Verdict.Counted c) = refl
   shown-look (Verdict.Read l) = refl
+  shown-look (Verdict.Repeat c) = refl
 
   module _ (w : Verdict) (v : Found) (e : v ≡ foundOf r f w) where
     pub said : v .sighting ≡ sightOf (r .setting) f w

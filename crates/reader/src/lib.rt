@@ -11,7 +11,7 @@ ghost use Rattle.rules.specs.Promises.{ReaderStarts, ReadGives, LookGives};
 ghost use Rattle.rules.specs.Passes.{whose as whoseIn, seen, PassGives};
 ghost use Rattle.judge.specs.Sights.{readSight, sightOf};
 ghost use Rattle.reader.specs.Reads.{termsFor, takenOf, countedOf, shortOf, shortRefusal, OnLane, SeenOn};
-ghost use Rattle.reader.specs.Finds.{Sound, missingFor, foundOf, classOn, shownOf};
+ghost use Rattle.reader.specs.Finds.{Sound, againOf, missingFor, foundOf, classOn, shownOf};
 ghost use Rattle.rules.specs.Areas.{heldSize, unitsSize};
 use judge::Sight;
 use judge::Sighting;
@@ -151,25 +151,41 @@ fn areas_short(held: usize, units: usize, records: usize) -> bool
 
 // ---- the one judgement
 
-// What is found of a frame: what the checks say of it, and how many frames are missing before it.
+// What is found of a frame: what it is, by the checks and after them, and how many frames are missing before it.
 struct Found {
     sighting: Sighting,
     missing: u64,
 }
 
-// What the checks say of state and frame, where no area is lent.
+// What a frame is of which the checks say this: a repeat, where it was seen with the count that was last taken on its channel.
+fn again(r: Reader, v: Sighting) -> Sighting
+    requires { ⌜ Sound r v ⌝ }
+    ensures { λ w. ⌜ w ≡ againOf r v ⌝ }
+{
+    let Sighting::Seen(x) = v else {
+        return v;
+    };
+    let repeats = gaps::repeats_at(r, x.channel, x.count);
+    if repeats {
+        return Sighting::Repeat(x.channel);
+    }
+    v
+}
+
+// What a frame is, where no area is lent: the state first, then the frame's checks, and only then whether it is a repeat.
 fn sight_of(r: Reader, frame: &[u8]) -> Sighting
     ensures { λ v. ⌜ (v ≡ sightOf (r .setting) (now (frame .entry)) (looked r (now (frame .entry)))) × Sound r v ⌝ }
 {
     let valid = setting::reader_ok(r);
     if valid {
         let s = r.setting;
-        return judge::judge_frame(s, frame);
+        let v = judge::judge_frame(s, frame);
+        return again(r, v);
     }
     Sighting::Refused(1)
 }
 
-// How many frames are missing before one of which the checks say this.
+// How many frames are missing before a frame that is this. Before a repeat none are: its count is not taken.
 fn missing_before(r: Reader, v: Sighting) -> u64
     requires { ⌜ Sound r v ⌝ }
     ensures { λ m. ⌜ m ≡ missingFor r v ⌝ }
@@ -178,6 +194,7 @@ fn missing_before(r: Reader, v: Sighting) -> u64
         Sighting::Refused(_) => 0,
         Sighting::Idle => 0,
         Sighting::Seen(x) => gaps::missing_at(r, x.channel, x.count),
+        Sighting::Repeat(_) => 0,
     }
 }
 
@@ -242,6 +259,15 @@ fn shown(v: Found) -> Looked
                 class: class,
             }
         }
+        Sighting::Repeat(c) => {
+            let at = Place::At(c);
+            Looked {
+                missing: 0,
+                channel: at,
+                lane: Place::Nowhere,
+                class: Class::Repeat,
+            }
+        }
     }
 }
 
@@ -264,6 +290,7 @@ pub fn whose(o: Looked) -> Verdict
         Class::Idle => Verdict::Idle,
         Class::Counted => Verdict::Counted(choices::number_of(c)),
         Class::Read => Verdict::Read(choices::number_of(l)),
+        Class::Repeat => Verdict::Repeat(choices::number_of(c)),
         Class::Refused(n) => Verdict::Refused(n),
     }
 }
@@ -344,6 +371,10 @@ fn act_on(v: Found, r: Reader, f: &[u8], h: &mut [u8], u: &mut [u8], c: &mut [u8
             untouched(class, r)
         }
         Sighting::Seen(x) => take_seen(r, x, v.missing, f, h, u, c),
+        Sighting::Repeat(_) => {
+            let class = Class::Repeat;
+            untouched(class, r)
+        }
     }
 }
 

@@ -1,7 +1,7 @@
 -- `reader::act_on` meets its contract: each case of what was found makes what the rule makes of the verdict behind it.
 use mathlib.Core.Path.{refl, sym, _∙_}
 use Rattle.rules.specs.Calls.{onVerdict}
-use Rattle.judge.proofs.Sights.{refused-sight, idle-sight}
+use Rattle.judge.proofs.Sights.{refused-sight, idle-sight, repeat-sight}
 use Rattle.reader.proofs.Verdicts.{said, gone, areas-kept}
 use borrow.Author.Needs.{needs}
 use Rattle.reader.proofs.act_on.Statement.{statement}
@@ -34,6 +34,12 @@ take-seen-requires c κs =
       sound = rw e at (b .pre .1);
     }
 
+enum-told-2 : tie.Need-enum-told-2
+enum-told-2 c = search needs
+
+untouched-requires-3 : tie.Need-untouched-requires-3
+untouched-requires-3 c κs = search needs
+
 returns : tie.Need-returns
 unfolding onVerdict
 returns c =
@@ -62,6 +68,14 @@ same-length-3 c = search needs
 returns-3 : tie.Need-returns-3
 returns-3 c = search needs
 
+returns-4 : tie.Need-returns-4
+unfolding onVerdict
+returns-4 c =
+    let b = c .before .before .before .before .before .before .before in
+    let a = b .args in
+    let e = repeat-sight (a .r .setting) (a .f .now) _ _ (sym (said (a .r) (a .f .now) _ (a .v) (b .pre .0)) ∙ c .before .enum-told2 .given .1) in
+    areas-kept (a .r) (a .f .now) (a .h .now) (a .u .now) (a .c .now) _ _ _ e (c .untouched3 .ensures) refl
+
 pub act-on-spec : {M : Type 1} → statement M
 act-on-spec =
     tie.close
@@ -72,9 +86,12 @@ act-on-spec =
     untouched-requires-2
     enum-known-said-2
     take-seen-requires
+    enum-told-2
+    untouched-requires-3
     returns
     returns-2
     same-length
     same-length-2
     same-length-3
-    returns-3)
+    returns-3
+    returns-4)

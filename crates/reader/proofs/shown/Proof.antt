@@ -24,6 +24,9 @@ enum-known-said-2 c = search needs
 class-on-requires : tie.Need-class-on-requires
 class-on-requires c κs = search needs
 
+enum-known-said-3 : tie.Need-enum-known-said-3
+enum-known-said-3 c = search needs
+
 returns : tie.Need-returns
 returns c =
     let a = c .before .before .before .before .args in
@@ -39,6 +42,11 @@ returns-3 c =
     let a = c .before .before .before .before .args in
     rw (c .class-on .ensures) (sym (ap (λ (x : Sighting). shownBy x (a .v .missing)) (c .before .before .said2 .given .1)))
 
+returns-4 : tie.Need-returns-4
+returns-4 c =
+    let a = c .before .before .before .args in
+    sym (ap (λ (x : Sighting). shownBy x (a .v .missing)) (c .before .said3 .given .1))
+
 pub shown-spec : {M : Type 1} → statement M
 shown-spec =
     tie.close
@@ -49,6 +57,8 @@ shown-spec =
     nowhere-requires-2
     enum-known-said-2
     class-on-requires
+    enum-known-said-3
     returns
     returns-2
-    returns-3)
+    returns-3
+    returns-4)

@@ -1,4 +1,4 @@
--- `reader::sight_of` meets its contract: state, then the frame.
+-- `reader::sight_of` meets its contract: state, then the frame, then whether it is a repeat.
 use mathlib.Core.Path.{_≡_, sym, ap, _∙_}
 use mathlib.Core.Bool.{true}
 use Rattle.rules.specs.declared.Verdict.{Verdict}
@@ -7,7 +7,8 @@ use Rattle.rules.specs.Calls.{looked}
 use Rattle.rules.proofs.Valid.{good-reader}
 use Rattle.rules.proofs.Looks.{looked-cond}
 use Rattle.judge.specs.Sights.{sightOf}
-use Rattle.reader.proofs.Verdicts.{sound}
+use Rattle.reader.specs.Finds.{againOf}
+use Rattle.reader.proofs.Verdicts.{sound, sound-again, again-sight}
 use borrow.Author.Needs.{needs}
 use Rattle.reader.proofs.sight_of.Statement.{statement}
 use Rattle.reader.proofs.sight_of.Tie as tie
@@ -18,12 +19,21 @@ reader-ok-requires c κs = search needs
 judge-frame-requires : tie.Need-judge-frame-requires
 judge-frame-requires c κs = good-reader _ (sym (c .before .before .reader-ok .ensures) ∙ c .before .if1 .taken) .ok
 
+again-requires : tie.Need-again-requires
+again-requires c κs =
+    let a = c .before .before .before .before .before .args in
+    let ok : readerOk (a .r) ≡ true = sym (c .before .before .before .reader-ok .ensures) ∙ c .before .before .if1 .taken in
+    sound (a .r) (a .frame .now) ok _ (c .judge-frame .ensures .0) (c .judge-frame .ensures .1)
+
 returns : tie.Need-returns
 returns c =
-    let a = c .before .before .before .before .before .args in
-    let ok : readerOk (a .r) ≡ true = sym (c .before .before .before .reader-ok .ensures) ∙ c .before .before .if1 .taken in (
-      c .judge-frame .ensures .0 ∙ ap (sightOf (a .r .setting) (a .frame .now)) (sym (looked-cond (a .r) (a .frame .now) ∙ rw ok)),
-      sound (a .r) (a .frame .now) ok _ (c .judge-frame .ensures .0) (c .judge-frame .ensures .1),
+    let d = c .before in
+    let a = d .before .before .before .before .before .args in
+    let ok : readerOk (a .r) ≡ true = sym (d .before .before .before .reader-ok .ensures) ∙ d .before .before .if1 .taken in
+    let e = c .again .ensures in (
+      e ∙ ap (againOf (a .r)) (d .judge-frame .ensures .0) ∙ again-sight (a .r) (a .frame .now) _
+          ∙ ap (sightOf (a .r .setting) (a .frame .now)) (sym (looked-cond (a .r) (a .frame .now) ∙ rw ok)),
+      rw e (sound-again (a .r) (d .judge-frame .result) (sound (a .r) (a .frame .now) ok _ (d .judge-frame .ensures .0) (d .judge-frame .ensures .1))),
     )
 
 returns-2 : tie.Need-returns-2
@@ -34,4 +44,5 @@ returns-2 c =
     (sym (ap (sightOf (a .r .setting) (a .frame .now)) e), tt)
 
 pub sight-of-spec : {M : Type 1} → statement M
-sight-of-spec = tie.close (tie.spec reader-ok-requires judge-frame-requires returns returns-2)
+sight-of-spec =
+    tie.close (tie.spec reader-ok-requires judge-frame-requires again-requires returns returns-2)

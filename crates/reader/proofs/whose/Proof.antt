@@ -22,6 +22,12 @@ enum-told-3 c = search needs
 number-of-requires-2 : tie.Need-number-of-requires-2
 number-of-requires-2 c κs = search needs
 
+enum-told-4 : tie.Need-enum-told-4
+enum-told-4 c = search needs
+
+number-of-requires-3 : tie.Need-number-of-requires-3
+number-of-requires-3 c κs = search needs
+
 enum-known-class : tie.Need-enum-known-class
 enum-known-class c = search needs
 
@@ -47,6 +53,12 @@ returns-4 : tie.Need-returns-4
 unfolding whose whoseOf
 returns-4 c =
     let a = c .before .before .before .args in
+    ap Verdict.Repeat (c .number-of3 .ensures) ∙ sym (ap (λ (k : Class). whoseOf k (a .o .channel) (a .o .lane)) (c .before .enum-told4 .given .1))
+
+returns-5 : tie.Need-returns-5
+unfolding whose whoseOf
+returns-5 c =
+    let a = c .before .before .before .args in
     sym (ap (λ (k : Class). whoseOf k (a .o .channel) (a .o .lane)) (c .before .class .given .1))
 
 pub whose-spec : {M : Type 1} → statement M
@@ -58,8 +70,11 @@ whose-spec =
     number-of-requires
     enum-told-3
     number-of-requires-2
+    enum-told-4
+    number-of-requires-3
     enum-known-class
     returns
     returns-2
     returns-3
-    returns-4)
+    returns-4
+    returns-5)
