@@ -26,14 +26,16 @@ fn missing_of(n: usize, e: Expect, k: u64) -> u64
     0
 }
 
-// Whether count k, of n octets, is the last one taken: the one before what is expected. Where none is expected, none was taken.
+// Whether count k, of n octets, is the last one taken: the one before what is expected. Where none is expected, none was taken, whatever
+// number stands there.
 fn repeats_of(n: usize, e: Expect, k: u64) -> bool
     requires { ⌜ (n ≤ 7) × (e .count < 256 ^ n) ⌝ }
     ensures { λ b. ⌜ b ≡ repeats n e k ⌝ }
 {
-    if e.known {
-        let m = octets::modulus(n);
-        return k == (e.count + m - 1) % m;
+    let values = octets::modulus(n);
+    let last = (e.count + values - 1) % values;
+    if k == last {
+        return e.known;
     }
     false
 }

@@ -52,7 +52,7 @@ abbrev pub shownBy : Sighting → ℕ → Looked
 shownBy (Refused n) m = record { class = Class.Refused n; missing = m; channel = Nowhere; lane = Nowhere }
 shownBy Idle m = record { class = Class.Idle; missing = m; channel = Nowhere; lane = Nowhere }
 shownBy (Seen x) m = record { class = classOn (x .lane); missing = m; channel = At (x .channel); lane = x .lane }
-shownBy (Repeat c) m = record { class = Class.Repeat; missing = 0; channel = At c; lane = Nowhere }
+shownBy (Repeat c) m = record { class = Class.Repeat; missing = m; channel = At c; lane = Nowhere }
 
 abbrev pub shownOf : Found → Looked
 shownOf v = shownBy (v .sighting) (v .missing)

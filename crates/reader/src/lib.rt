@@ -222,13 +222,13 @@ fn class_on(lane: Place) -> Class
     }
 }
 
-// The answer of a look at a frame of no channel.
-fn nowhere(class: Class, missing: u64) -> Looked
-    ensures { λ o. ⌜ o ≡ record { class = class; missing = missing; channel = Nowhere; lane = Nowhere } ⌝ }
+// The answer of a look at a frame that no lane reads: where it is of a channel, with that one's place.
+fn unread(class: Class, missing: u64, channel: Place) -> Looked
+    ensures { λ o. ⌜ o ≡ record { class = class; missing = missing; channel = channel; lane = Nowhere } ⌝ }
 {
     Looked {
         missing: missing,
-        channel: Place::Nowhere,
+        channel: channel,
         lane: Place::Nowhere,
         class: class,
     }
@@ -240,14 +240,8 @@ fn shown(v: Found) -> Looked
 {
     let said = v.sighting;
     match said {
-        Sighting::Refused(n) => {
-            let class = Class::Refused(n);
-            nowhere(class, v.missing)
-        }
-        Sighting::Idle => {
-            let class = Class::Idle;
-            nowhere(class, v.missing)
-        }
+        Sighting::Refused(n) => unread(Class::Refused(n), v.missing, Place::Nowhere),
+        Sighting::Idle => unread(Class::Idle, v.missing, Place::Nowhere),
         Sighting::Seen(x) => {
             let on = x.lane;
             let class = class_on(on);
@@ -259,15 +253,7 @@ fn shown(v: Found) -> Looked
                 class: class,
             }
         }
-        Sighting::Repeat(c) => {
-            let at = Place::At(c);
-            Looked {
-                missing: 0,
-                channel: at,
-                lane: Place::Nowhere,
-                class: Class::Repeat,
-            }
-        }
+        Sighting::Repeat(c) => unread(Class::Repeat, v.missing, Place::At(c)),
     }
 }
 

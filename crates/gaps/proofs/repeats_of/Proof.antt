@@ -1,10 +1,10 @@
 -- `gaps::repeats_of` meets its contract: what is expected is below 256^n, so that nothing wraps at 2^64, and the sum is the rule's.
 -- Where no count is expected the flag alone says no, whatever number stands there.
 use Prim.Native.Nat.{ℕ, _%_, _+_, _-_}
-use mathlib.Core.Path.{sym, ap, _∙_}
-use mathlib.Core.Bool.{Bool, _&&_}
+use mathlib.Core.Path.{_≡_, refl, ap, _∙_}
+use mathlib.Core.Bool.{Bool, true, false, _&&_}
 use native.Mathlib.Omega.{arith}
-use Rattle.rules.specs.Tests.{_=?_}
+use borrow.Author.Tests.{eq-eqb, ne-eqb}
 use Rattle.rules.specs.Reading.{lastTaken, repeats}
 use Rattle.rules.proofs.Octets.{pow256-pos}
 use Rattle.gaps.proofs.Gaps.{modulus-is, modulus-small}
@@ -12,27 +12,35 @@ use borrow.Author.Needs.{needs}
 use Rattle.gaps.proofs.repeats_of.Statement.{statement}
 use Rattle.gaps.proofs.repeats_of.Tie as tie
 
+and-true : (b : Bool) → b ≡ b && true
+and-true true = refl
+and-true false = refl
+
+and-false : (b : Bool) → false ≡ b && false
+and-false true = refl
+and-false false = refl
+
 modulus-requires : tie.Need-modulus-requires
 modulus-requires c κs = search needs
 
-add-result : tie.Need-add-result
-add-result c =
-    let a = c .before .before .before in
+add-last : tie.Need-add-last
+add-last c =
+    let a = c .before .before in
     let e = modulus-is (a .args .n) (c .before .modulus .result) (a .pre .0) (c .before .modulus .ensures) in
     let h = modulus-small (a .args .n) (a .pre .0) in
     let k = a .pre .1 in
     omega arith
 
-sub-result : tie.Need-sub-result
-sub-result c =
-    let a = c .before .before .before in
+sub-last : tie.Need-sub-last
+sub-last c =
+    let a = c .before .before in
     let e = modulus-is (a .args .n) (c .before .modulus .result) (a .pre .0) (c .before .modulus .ensures) in
     let h = pow256-pos (a .args .n) in
     omega arith
 
-rem-result : tie.Need-rem-result
-rem-result c =
-    let a = c .before .before .before in
+rem-last : tie.Need-rem-last
+rem-last c =
+    let a = c .before .before in
     let e = modulus-is (a .args .n) (c .before .modulus .result) (a .pre .0) (c .before .modulus .ensures) in
     let h = pow256-pos (a .args .n) in
     omega arith
@@ -41,14 +49,16 @@ returns : tie.Need-returns
 unfolding repeats lastTaken
 returns c =
     let a = c .before .before .before in
-    ap (λ (m : ℕ). a .args .k =? (a .args .e .count + m - 1) % m)
-    (modulus-is (a .args .n) (c .before .modulus .result) (a .pre .0) (c .before .modulus .ensures))
-    ∙ ap (λ (b : Bool). b && a .args .k =? lastTaken (a .args .n) (a .args .e)) (sym (c .before .before .if1 .taken))
+    let e = modulus-is (a .args .n) (c .before .before .modulus .result) (a .pre .0) (c .before .before .modulus .ensures) in
+    rw (eq-eqb _ _ (c .if1 .taken ∙ ap (λ (m : ℕ). (a .args .e .count + m - 1) % m) e)) (and-true (a .args .e .known))
 
 returns-2 : tie.Need-returns-2
-unfolding repeats
-returns-2 c = ap (λ (b : Bool). b && c .before .args .k =? lastTaken (c .before .args .n) (c .before .args .e)) (sym (c .if1 .left))
+unfolding repeats lastTaken
+returns-2 c =
+    let a = c .before .before .before in
+    let e = modulus-is (a .args .n) (c .before .before .modulus .result) (a .pre .0) (c .before .before .modulus .ensures) in
+    rw (ne-eqb _ _ (rw e at (c .if1 .left))) (and-false (a .args .e .known))
 
 pub repeats-of-spec : {M : Type 1} → statement M
 repeats-of-spec =
-    tie.close (tie.spec modulus-requires add-result sub-result rem-result returns returns-2)
+    tie.close (tie.spec modulus-requires add-last sub-last rem-last returns returns-2)
