@@ -387,6 +387,7 @@ fn class_words(class: Class) -> String {
         Class::Idle => "idle".to_string(),
         Class::Counted => "counted".to_string(),
         Class::Read => "read".to_string(),
+        Class::Repeat => "repeat".to_string(),
         Class::Refused(number) => format!("refused {number}"),
     }
 }

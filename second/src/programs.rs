@@ -66,6 +66,7 @@ struct Totals {
     read: u64,
     counted: u64,
     idle_frames: u64,
+    repeat: u64,
     refused: u64,
     left: u64,
     units: u64,
@@ -86,6 +87,7 @@ impl Totals {
             Class::Read => self.read += 1,
             Class::Counted => self.counted += 1,
             Class::Idle => self.idle_frames += 1,
+            Class::Repeat => self.repeat += 1,
             Class::Refused(number) => {
                 self.refused += 1;
                 self.refusals[usize::from(number) - 1] += 1;
@@ -131,12 +133,13 @@ impl Totals {
         }
         writeln!(
             out,
-            "total frames {} read {} counted {} idle {} refused {} left {} units {} octets {} idle {} fill {} dropped {} \
-             held {}",
+            "total frames {} read {} counted {} idle {} repeat {} refused {} left {} units {} octets {} idle {} fill {} \
+             dropped {} held {}",
             self.frames,
             self.read,
             self.counted,
             self.idle_frames,
+            self.repeat,
             self.refused,
             self.left,
             self.units,
@@ -159,6 +162,7 @@ fn print_answer(number: u64, answer: &Answer, out: &mut impl Write) -> io::Resul
         Class::Idle => ("idle", lane_word(None)),
         Class::Counted => ("counted", lane_word(None)),
         Class::Read => ("read", lane_word(answer.lane)),
+        Class::Repeat => ("repeat", lane_word(None)),
         Class::Refused(refusal) => ("refused", refusal.to_string()),
     };
     writeln!(

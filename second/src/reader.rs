@@ -1,4 +1,5 @@
-//! The reader (document 01, "Reading"; refusals 1 to 12), and the look before it (document 02, A7).
+//! The reader (document 01, "Reading"; refusals 1 to 12), frames sent twice (document 02, A3), and the look before a read
+//! (A7).
 
 use std::cmp::Ordering;
 
@@ -38,10 +39,12 @@ pub enum Class {
     Idle,
     Counted,
     Read,
+    /// The count taken last on its channel, once more.
+    Repeat,
     Refused(u8),
 }
 
-/// The answer; refused and idle frames have zero counts.
+/// The answer; refused and idle frames and repeats have zero counts.
 #[derive(Clone, Copy, PartialEq, Eq, Debug)]
 pub struct Answer {
     pub class: Class,
@@ -51,17 +54,18 @@ pub struct Answer {
     pub idle: u64,
     pub fill: u64,
     pub dropped: u64,
-    /// Where the frame belongs, for the programs' totals: its channel if counted or read, its lane if read.
+    /// Where the frame belongs, for the programs' totals: its channel if counted or read, its lane if read. A repeat is not
+    /// taken, and belongs nowhere.
     pub channel: Option<usize>,
     pub lane: Option<usize>,
 }
 
-/// What a look answers; refused and idle frames have nothing missing.
+/// What a look answers; refused and idle frames and repeats have nothing missing.
 #[derive(Clone, Copy, PartialEq, Eq, Debug)]
 pub struct Look {
     pub class: Class,
     pub missing: u64,
-    /// Where the frame belongs: its channel if counted or read, its lane if read.
+    /// Where the frame belongs: its channel if counted, read or a repeat, its lane if read.
     pub channel: Option<usize>,
     pub lane: Option<usize>,
 }
@@ -78,6 +82,7 @@ enum Passed {
     Idle,
     Counted { channel: usize, count: u64 },
     Read { channel: usize, count: u64, lane: usize, rule: u8, pointer: u16 },
+    Repeat { channel: usize },
 }
 
 /// What one data field gave, apart from what a gap dropped.
@@ -141,6 +146,7 @@ impl Reader {
         match self.judge_state().and_then(|()| self.judge_frame(frame)) {
             Err(number) => Look::empty(Class::Refused(number)),
             Ok(Passed::Idle) => Look::empty(Class::Idle),
+            Ok(Passed::Repeat { channel }) => Look { channel: Some(channel), ..Look::empty(Class::Repeat) },
             Ok(Passed::Counted { channel, count }) => {
                 Look { missing: self.missing(channel, count), channel: Some(channel), ..Look::empty(Class::Counted) }
             }
@@ -159,6 +165,7 @@ impl Reader {
         match judged {
             Err(number) => Answer::empty(Class::Refused(number)),
             Ok(Passed::Idle) => Answer::empty(Class::Idle),
+            Ok(Passed::Repeat { .. }) => Answer::empty(Class::Repeat),
             Ok(Passed::Counted { channel, count }) => {
                 let (missing, dropped) = self.take_count(channel, count);
                 Answer { missing, dropped: dropped as u64, channel: Some(channel), ..Answer::empty(Class::Counted) }
@@ -217,7 +224,7 @@ impl Reader {
         if header.virtual_channel == 63 {
             return Ok(Passed::Idle);
         }
-        self.judge_channel(frame, &header)
+        self.judge_channel(frame, &header).map(|passed| self.unless_sent_before(passed))
     }
 
     /// Refusals 9 to 12, of a virtual channel that is not 63.
@@ -239,6 +246,27 @@ impl Reader {
         let Some(lane) = setting.find_lane(place, u64::from(header.map)) else { return Ok(counted) };
         let (rule, pointer) = judge_data_field(setting, channel, &setting.lanes[lane], frame)?;
         Ok(Passed::Read { channel: place, count, lane, rule, pointer })
+    }
+
+    /// A frame with the count that its channel took last is a repeat: only counts are compared, so its map, its command bit
+    /// and its data field may be others.
+    fn unless_sent_before(&self, passed: Passed) -> Passed {
+        match passed {
+            Passed::Counted { channel, count } | Passed::Read { channel, count, .. }
+                if self.taken_last(channel) == Some(count) =>
+            {
+                Passed::Repeat { channel }
+            }
+            _ => passed,
+        }
+    }
+
+    /// The count that a channel took last, which is the one before the expected one. Where none is expected none was taken,
+    /// whatever number stands there.
+    fn taken_last(&self, place: usize) -> Option<u64> {
+        let modulus = self.setting.channels[place].modulus();
+        let expected = self.expected[place];
+        expected.known.then_some((expected.count + modulus - 1) % modulus)
     }
 
     /// How many frames of a channel are missing before the one with this count.

@@ -213,6 +213,7 @@ fn class_of(class: u64, refusal: u64) -> Result<Class, String> {
         (1, Ok(0)) => Ok(Class::Counted),
         (2, Ok(0)) => Ok(Class::Read),
         (3, Ok(number)) => Ok(Class::Refused(number)),
+        (4, Ok(0)) => Ok(Class::Repeat),
         _ => Err(format!("an answer has class {class} and refusal {refusal}")),
     }
 }

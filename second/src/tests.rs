@@ -1,5 +1,5 @@
-//! Document 01's worked frames (cases 1 to 11), looks at them (document 02, A7), the published values of the frame check, and
-//! what must not change.
+//! Document 01's worked frames (cases 1 to 11), looks at them (document 02, A7), frames sent twice (A3), the published values
+//! of the frame check, and what must not change.
 
 use crate::calls;
 use crate::demand3;
@@ -120,6 +120,11 @@ fn looks_read(missing: u64) -> Look {
     looks(Class::Read, missing, Some(0), Some(0))
 }
 
+/// The look at a repeat of a frame of this channel.
+fn looks_repeat(channel: usize) -> Look {
+    looks(Class::Repeat, 0, Some(channel), None)
+}
+
 fn looks_refused(number: u8) -> Look {
     looks(Class::Refused(number), 0, None, None)
 }
@@ -219,13 +224,14 @@ fn case_8_access() {
 #[test]
 fn cases_9_and_10_counts() {
     let frame = frames_of(&worked_setting(), &packet(7)).remove(0);
-    let missing = |counts: &[u8]| -> Vec<u64> {
+    let answers = |counts: &[u8]| -> Vec<(Class, u64)> {
         let mut end = End::fresh(&worked_setting());
-        counts.iter().map(|&count| end.read(&with_count(&frame, count)).missing).collect()
+        let answers = counts.iter().map(|&count| end.read(&with_count(&frame, count)));
+        answers.map(|answer| (answer.class, answer.missing)).collect()
     };
-    assert_eq!(missing(&[254, 255, 0]), [0, 0, 0]);
-    assert_eq!(missing(&[255, 2]), [0, 2]);
-    assert_eq!(missing(&[5, 5]), [0, 255]);
+    assert_eq!(answers(&[254, 255, 0]), [(Class::Read, 0); 3]);
+    assert_eq!(answers(&[255, 2]), [(Class::Read, 0), (Class::Read, 2)]);
+    assert_eq!(answers(&[5, 5]), [(Class::Read, 0), (Class::Repeat, 0)]);
 }
 
 #[test]
@@ -263,12 +269,12 @@ fn the_longest_batch_is_written() {
 fn the_listing_example() {
     let frames = frames_of(&worked_setting(), &case_2_batch());
     let mut end = End::fresh(&worked_setting());
-    let answers: Vec<(u64, u64)> = [&frames[0], &frames[1], &frames[1]]
+    let answers: Vec<(Class, u64, u64)> = [&frames[0], &frames[1], &frames[1]]
         .iter()
         .map(|frame| end.read(frame))
-        .map(|answer| (answer.units, answer.missing))
+        .map(|answer| (answer.class, answer.units, answer.missing))
         .collect();
-    assert_eq!(answers, [(1, 0), (1, 0), (0, 255)]);
+    assert_eq!(answers, [(Class::Read, 1, 0), (Class::Read, 1, 0), (Class::Repeat, 0, 0)]);
 }
 
 #[test]
@@ -279,12 +285,13 @@ fn looks_before_and_after_the_worked_frames() {
     assert_eq!(end.look(&frames[0]), looks_read(0));
     assert_eq!(end.look(&frames[1]), looks_read(0));
     end.read(&frames[0]);
-    // 1 is expected: 0 - 1 and 1 - 1 modulo 256.
-    assert_eq!(end.look(&frames[0]), looks_read(255));
+    // 1 is expected: 0 was taken last.
+    assert_eq!(end.look(&frames[0]), looks_repeat(0));
     assert_eq!(end.look(&frames[1]), looks_read(0));
     end.read(&frames[1]);
+    // 2 is expected: 0 - 2 modulo 256, and 1 was taken last.
     assert_eq!(end.look(&frames[0]), looks_read(254));
-    assert_eq!(end.look(&frames[1]), looks_read(255));
+    assert_eq!(end.look(&frames[1]), looks_repeat(0));
 }
 
 #[test]
@@ -298,7 +305,7 @@ fn a_look_at_a_gap_drops_nothing() {
     let answer = end.read(&late);
     assert_eq!((answer.missing, answer.dropped, answer.units, answer.idle), (1, 18, 0, 14));
     // 3 is expected now.
-    assert_eq!(end.look(&late), looks_read(255));
+    assert_eq!(end.look(&late), looks_repeat(0));
 }
 
 #[test]
@@ -316,7 +323,8 @@ fn looks_at_counts_around_the_wrap() {
     };
     assert_eq!(missing(&[254, 255, 0]), [0, 0, 0]);
     assert_eq!(missing(&[255, 2]), [0, 2]);
-    assert_eq!(missing(&[5, 5]), [0, 255]);
+    assert_eq!(missing(&[5, 5]), [0, 0]);
+    assert_eq!(missing(&[5, 4]), [0, 254]);
 }
 
 /// Frames of the worked setting, each with the refusal that it gives: frame 1 with one octet other, or of another length.
@@ -395,7 +403,9 @@ fn looks_change_no_answer() {
         assert_eq!(looked.look(frame), look);
         let answer = looked.read(frame);
         assert_eq!(answer, alone.read(frame));
-        assert_eq!(look, looks(answer.class, answer.missing, answer.channel, answer.lane));
+        // A repeat is a frame of its channel, but is not taken there.
+        let channel = if answer.class == Class::Repeat { Some(0) } else { answer.channel };
+        assert_eq!(look, looks(answer.class, answer.missing, channel, answer.lane));
         assert_eq!(looked.reader, alone.reader);
         assert!(areas(&looked) == areas(&alone));
     }
@@ -453,15 +463,224 @@ fn looks_at_counted_frames() {
     command[6] = 0xC1;
     assert_eq!(end.look(&command), looks(Class::Counted, 0, Some(1), None));
     end.read(&command);
-    assert_eq!(end.look(&command), looks(Class::Counted, 255, Some(1), None));
-    // Without the command bit its rule is not that of the lane of this map; with rule and UPID it is read there.
+    assert_eq!(end.look(&command), looks_repeat(1));
+    // Without the command bit its rule is not that of the lane of this map; with rule and UPID it would be read there.
     command[6] = 0x81;
     assert_eq!(end.look(&command), looks_refused(12));
     command[8] = 0x25;
-    assert_eq!(end.look(&command), looks(Class::Read, 255, Some(1), Some(1)));
+    assert_eq!(end.look(&command), looks_repeat(1));
+    assert_eq!(end.look(&with_count(&command, 3)), looks(Class::Read, 254, Some(1), Some(1)));
     assert_eq!(end.reader.held, [11, 0]);
     let answer = end.read(&other_map);
     assert_eq!((answer.class, answer.missing, answer.dropped), (Class::Counted, 3, 11));
+}
+
+// Frames sent twice (document 02, A3)
+
+/// What a repeat answers: nothing of it is counted, and it is no lane's and no channel's.
+fn repeat() -> Answer {
+    let class = Class::Repeat;
+    Answer { class, units: 0, octets: 0, missing: 0, idle: 0, fill: 0, dropped: 0, channel: None, lane: None }
+}
+
+impl End {
+    /// A frame that has to be a repeat, of this channel: a look says so too, and nothing changes.
+    fn repeats(&mut self, frame: &[u8], channel: usize) {
+        let (reader, held) = (self.reader.clone(), self.held.clone());
+        assert_eq!(self.look(frame), looks_repeat(channel));
+        assert_eq!(self.read(frame), repeat());
+        assert_eq!(self.reader, reader);
+        assert!(self.held == held);
+    }
+
+    /// A frame that has to be read by lane 0, with so many missing; a look says the same.
+    fn reads(&mut self, frame: &[u8], missing: u64) -> Answer {
+        assert_eq!(self.look(frame), looks_read(missing));
+        let answer = self.read(frame);
+        assert_eq!((answer.class, answer.missing, answer.lane), (Class::Read, missing, Some(0)));
+        answer
+    }
+}
+
+/// The worked setting with a count of n octets, and its frame of a packet with the highest count.
+fn highest_count(n: u64) -> (Setting, Vec<u8>) {
+    let mut setting = worked_setting();
+    setting.channels[0].count_length = n;
+    let mut frame = frames_of(&setting, &packet(7)).remove(0);
+    frame[7..7 + n as usize].fill(0xFF);
+    (setting, frame)
+}
+
+#[test]
+fn a_fresh_readers_first_frame_is_no_repeat() {
+    for n in 1..=7 {
+        // A fresh reader has the number 0 beside a flag that is not set; the highest count is the one before 0.
+        let (setting, frame) = highest_count(n);
+        let mut end = End::fresh(&setting);
+        assert_eq!(end.reads(&frame, 0).units, 1);
+        // Now 0 is expected, and the highest count was taken last.
+        assert_eq!(end.reader.expected[0], Expected { known: true, count: 0 });
+        end.repeats(&frame, 0);
+        end.repeats(&frame, 0);
+    }
+}
+
+#[test]
+fn no_number_beside_a_flag_that_is_not_set_makes_a_repeat() {
+    let frame = frames_of(&worked_setting(), &packet(7)).remove(0);
+    for count in 0..=255 {
+        let mut end = End::fresh(&worked_setting());
+        let after = (u64::from(count) + 1) % 256;
+        end.reader.expected[0] = Expected { known: false, count: after };
+        end.reads(&with_count(&frame, count), 0);
+        end.reader.expected[0] = Expected { known: true, count: after };
+        end.repeats(&with_count(&frame, count), 0);
+    }
+}
+
+#[test]
+fn a_repeat_keeps_what_all_lanes_hold() {
+    // Three lanes of one channel, of which one is for access units, and one lane of the other service.
+    let mut setting = worked_setting();
+    setting.channels.push(Channel { virtual_channel: 3, service: 1, count_length: 1, ocf: false });
+    setting.lanes.push(Lane { channel: 0, map: 6, kind: Kind::Access, longest: 64, upid: 5 });
+    setting.lanes.push(Lane { channel: 1, map: 5, kind: Kind::Packet, longest: 64, upid: 0 });
+    setting.lanes.push(Lane { channel: 0, map: 7, kind: Kind::Packet, longest: 64, upid: 0 });
+    let frames = frames_of(&worked_setting(), &case_2_batch());
+    let unit: Vec<u8> = (1..=22).collect();
+    let mut access = frames_of(&access_setting(64), &unit);
+    for (count, frame) in access.iter_mut().enumerate() {
+        frame[3] = 0x6C;
+        frame[7] = count as u8 + 1;
+    }
+    let mut expedited = frames[0].clone();
+    expedited[6] = 0x81;
+    let mut end = End::fresh(&setting);
+    end.read(&frames[0]);
+    end.repeats(&frames[0], 0);
+    end.read(&access[0]);
+    end.read(&expedited);
+    assert_eq!(end.reader.held, [11, 21, 11, 0]);
+    // The access frame again; its count with lane 0's map, lane 3's and one of no lane; the other service's frame again.
+    end.repeats(&access[0], 0);
+    end.repeats(&with_count(&frames[1], 1), 0);
+    for map in [0x6E, 0x70] {
+        let mut other_map = with_count(&frames[1], 1);
+        other_map[3] = map;
+        end.repeats(&other_map, 0);
+    }
+    end.repeats(&expedited, 1);
+    assert_eq!(end.reader.held, [11, 21, 11, 0]);
+    // Both units go on where they were.
+    let answer = end.read(&access[1]);
+    assert_eq!((answer.missing, answer.units, answer.dropped), (0, 1, 0));
+    assert_eq!(end.units[..22], unit);
+    assert_eq!(end.reads(&with_count(&frames[1], 3), 0).units, 1);
+    assert_eq!(end.units[..18], case_2_batch()[10..]);
+}
+
+#[test]
+fn refusals_come_before_a_repeat() {
+    let frames = frames_of(&worked_setting(), &case_2_batch());
+    let mut end = End::fresh(&worked_setting());
+    end.read(&frames[0]);
+    end.read(&frames[1]);
+    // All these have count 1, which was taken last.
+    for (number, frame) in refused_frames() {
+        assert_eq!(end.look(&frame), looks_refused(number));
+        assert_eq!(end.read(&frame).class, Class::Refused(number));
+    }
+    for lengths in SHORT_AREAS {
+        assert_eq!(end.read_lent(&frames[1], lengths).class, Class::Refused(2));
+    }
+    end.repeats(&frames[1], 0);
+    end.reader.held[0] = 64;
+    assert_eq!(end.look(&frames[1]), looks_refused(1));
+    assert_eq!(end.read(&frames[1]).class, Class::Refused(1));
+}
+
+#[test]
+fn counted_frames_repeat_and_are_repeated() {
+    let mut setting = worked_setting();
+    setting.channels[0].service = 1;
+    let with = |place: usize, octet: u8, count: u8| {
+        let mut frame = with_count(&frames_of(&setting, &packet(7))[0], count);
+        frame[place] = octet;
+        frame
+    };
+    let read = |count: u8| with(0, 0xC0, count);
+    let command = |count: u8| with(6, 0xC1, count);
+    let other_map = |count: u8| with(3, 0x6C, count);
+    let mut end = End::fresh(&setting);
+    let counted = |answer: Answer| (answer.class, answer.missing, answer.channel, answer.lane);
+    assert_eq!(counted(end.read(&command(8))), (Class::Counted, 0, Some(0), None));
+    for again in [command(8), other_map(8), read(8)] {
+        end.repeats(&again, 0);
+    }
+    assert_eq!(counted(end.read(&other_map(9))), (Class::Counted, 0, Some(0), None));
+    for again in [other_map(9), read(9), command(9)] {
+        end.repeats(&again, 0);
+    }
+    end.reads(&read(10), 0);
+    for again in [read(10), command(10), other_map(10)] {
+        end.repeats(&again, 0);
+    }
+}
+
+#[test]
+fn each_service_has_its_own_last_count() {
+    let mut setting = worked_setting();
+    setting.channels.push(Channel { virtual_channel: 3, service: 1, count_length: 1, ocf: false });
+    setting.lanes.push(Lane { channel: 1, map: 5, kind: Kind::Packet, longest: 64, upid: 0 });
+    let one = frames_of(&worked_setting(), &packet(7)).remove(0);
+    let mut other = one.clone();
+    other[6] = 0x81;
+    let mut end = End::fresh(&setting);
+    end.reads(&one, 0);
+    assert_eq!(end.look(&other), looks(Class::Read, 0, Some(1), Some(1)));
+    end.read(&other);
+    // The other channel's frames between two copies change nothing.
+    end.repeats(&one, 0);
+    end.repeats(&other, 1);
+    end.reads(&with_count(&one, 1), 0);
+    end.repeats(&other, 1);
+}
+
+#[test]
+fn an_idle_frame_is_no_repeat() {
+    let frame = frames_of(&worked_setting(), &packet(7)).remove(0);
+    let mut end = End::fresh(&worked_setting());
+    end.read(&frame);
+    // Virtual channel 63 with the count that was taken last.
+    let mut idle = frame.clone();
+    idle[2..4].copy_from_slice(&[0xA7, 0xEA]);
+    assert_eq!(end.look(&idle), looks(Class::Idle, 0, None, None));
+    assert_eq!(end.read(&idle).class, Class::Idle);
+    end.repeats(&frame, 0);
+}
+
+#[test]
+fn a_block_of_frames_sent_twice_is_no_repeat() {
+    let frames = frames_of(&worked_setting(), &case_2_batch());
+    let mut end = End::fresh(&worked_setting());
+    let answers: Vec<(u64, u64, u64)> = [(0, 0), (1, 0), (0, 254), (1, 0)]
+        .into_iter()
+        .map(|(frame, missing)| end.reads(&frames[frame], missing))
+        .map(|answer| (answer.units, answer.octets, answer.dropped))
+        .collect();
+    assert_eq!(answers, [(1, 10, 0), (1, 18, 0), (1, 10, 0), (1, 18, 0)]);
+}
+
+#[test]
+fn the_most_frames_that_can_be_told_to_be_gone() {
+    let frame = frames_of(&worked_setting(), &packet(7)).remove(0);
+    let mut end = End::fresh(&worked_setting());
+    end.reads(&frame, 0);
+    // 254 are gone, and the next has 255: one value less than the counter has, and not the one that was taken last.
+    end.reads(&with_count(&frame, 255), 254);
+    // 255 are gone: the next has 255 once more. It is called a repeat, and nothing is missing before the one after it.
+    end.repeats(&with_count(&frame, 255), 0);
+    end.reads(&with_count(&frame, 0), 0);
 }
 
 #[test]
@@ -680,13 +899,15 @@ fn answers_to_looks_as_text() {
     assert_eq!(text([3, 1, 0, 0, 0, 0, 0, 0], None), Ok(printed("look 00\n")));
     assert_eq!(text([0, 0, 0, 0, 0, 0, 0, 0], None), said("idle missing 0 channel - lane -"));
     assert_eq!(text([1, 0, 1, 0, 1, 0, 0, 0], None), said("counted missing 1 channel 0 lane -"));
-    assert_eq!(text([2, 0, 2, 8, 255, 0, 0, 0], None), said("read missing 255 channel 1 lane 7"));
+    assert_eq!(text([2, 0, 2, 8, 254, 0, 0, 0], None), said("read missing 254 channel 1 lane 7"));
+    assert_eq!(text([4, 0, 1, 0, 0, 0, 0, 0], None), said("repeat missing 0 channel 0 lane -"));
     // Numbers that should be 0: of the answer, of a class with a refusal's number, of no class.
-    for wrong in [[2, 0, 2, 8, 255, 1, 0, 0], [2, 0, 2, 8, 255, 0, 1, 0], [2, 0, 2, 8, 255, 0, 0, 1]] {
+    for wrong in [[2, 0, 2, 8, 254, 1, 0, 0], [2, 0, 2, 8, 254, 0, 1, 0], [2, 0, 2, 8, 254, 0, 0, 1]] {
         assert!(text(wrong, None).is_err());
     }
     assert!(text([2, 1, 0, 0, 0, 0, 0, 0], None).is_err());
-    assert!(text([4, 0, 0, 0, 0, 0, 0, 0], None).is_err());
+    assert!(text([4, 1, 1, 0, 0, 0, 0, 0], None).is_err());
+    assert!(text([5, 0, 0, 0, 0, 0, 0, 0], None).is_err());
     // A setting that changed, of the writer and of the reader; an expected count, and octets held.
     for place in [64 + 7, 18 * 64 + 7] {
         assert!(text([0; 8], Some(place)).is_err());
