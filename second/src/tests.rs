@@ -951,5 +951,31 @@ fn other_calls_print_the_same_without_the_looks() {
 fn demand_3_in_some_runs() {
     let printed = printed(&demand3::script(5, 30));
     assert!(demand3::check(5, 30, &printed).unwrap().ends_with("ok"));
-    assert!(demand3::check(5, 30, &printed.replacen("read read", "read counted", 1)).is_err());
+    let repeat = "read repeat units 0 octets 0 missing 0 idle 0 fill 0 dropped 0\nunits -";
+    for (right, wrong) in [
+        ("read read", "read counted"),
+        ("read repeat", "read read"),
+        ("read counted", "read repeat"),
+        (repeat, &repeat.replace("missing 0", "missing 255")),
+        (repeat, &repeat.replace("units -", "units 00")),
+    ] {
+        assert!(printed.contains(right), "{right}");
+        assert!(demand3::check(5, 30, &printed.replacen(right, wrong, 1)).is_err(), "{wrong}");
+    }
+}
+
+#[test]
+fn demand_3_at_the_edge() {
+    // As many are gone before a kept frame as can be: 254, where a count has one octet.
+    let printed = printed(&demand3::script(6, 30));
+    let gone = |line: &str| line.contains("read read ") && line.contains(" missing 254 ");
+    assert!(printed.lines().filter(|line| gone(line)).count() > 1);
+    assert!(demand3::check(6, 30, &printed).unwrap().ends_with("ok"));
+}
+
+#[test]
+fn demand_3_with_another_frame_than_the_late_copy() {
+    // The version of each written frame, which nobody reads from the text but for the copies that come late.
+    let printed = printed(&demand3::script(5, 30)).replace("\nframe C", "\nframe D");
+    assert!(demand3::check(5, 30, &printed).unwrap_err().contains("a copy is not the frame that was written"));
 }
