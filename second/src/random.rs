@@ -510,15 +510,31 @@ impl Script {
         let lane = self.any_lane();
         let channel = self.setting.lanes[lane].channel;
         let modulus = self.setting.channels[channel].modulus();
-        for other in 0..self.setting.lanes.len() {
+        self.hold_lines();
+        let count = self.random.below(modulus);
+        // The greatest gap that there is, and one more, which is none but a repeat.
+        let gap = self.random.pick(&[0, 1, 1, 2, modulus - 2, modulus - 1]);
+        self.expect_line(channel, Some((count + modulus - gap) % modulus));
+        let mut frame = self.readable_frame(lane, count);
+        if self.random.one_in(4) {
+            self.forge_counted(&mut frame);
+        }
+        self.read_line(&frame);
+    }
+
+    /// Most lanes made to hold octets.
+    fn hold_lines(&mut self) {
+        for lane in 0..self.setting.lanes.len() {
             if self.random.percent(80) {
-                let octets = self.held_octets(other);
-                self.held_line(other, &octets);
+                let octets = self.held_octets(lane);
+                self.held_line(lane, &octets);
             }
         }
-        let count = self.random.below(modulus);
-        let gap = self.random.pick(&[0, 1, 1, 2, modulus - 1]);
-        self.expect_line(channel, Some((count + modulus - gap) % modulus));
+    }
+
+    /// A frame that this lane reads: a packet starts with the zone or nowhere in it, a unit ends with the zone's first octet or
+    /// nowhere in it.
+    fn readable_frame(&mut self, lane: usize, count: u64) -> Vec<u8> {
         let zone = self.zone_of(lane);
         let (rule, pointer) = match self.setting.lanes[lane].kind {
             Kind::Packet => (0, self.random.pick(&[0, NO_POINTER])),
@@ -526,28 +542,96 @@ impl Script {
         };
         let longest = (self.setting.lanes[lane].longest as usize).max(7);
         let octets = packet_stream(&mut self.random, longest, zone, zone);
-        let mut frame = self.lane_frame(lane, count, rule, pointer, &octets);
-        if self.random.one_in(4) {
-            // Counted: a command, or a map that may be no lane's.
-            let mut header = Header::from_octets(&frame);
-            header.map = self.random.below(16) as u8;
-            header.command = header.bypass && self.random.one_in(2);
-            frame[..7].copy_from_slice(&header.to_octets());
-            self.seal(&mut frame);
+        self.lane_frame(lane, count, rule, pointer, &octets)
+    }
+
+    /// Makes a frame a counted one: a command, or a map that may be no lane's.
+    fn forge_counted(&mut self, frame: &mut [u8]) {
+        let (map, command) = (self.random.below(16) as u8, self.random.one_in(2));
+        self.forge_header(frame, |header| {
+            header.map = map;
+            header.command = header.bypass && command;
+        });
+    }
+
+    /// Changes a frame's header, and puts the check right most of the time.
+    fn forge_header(&mut self, frame: &mut [u8], change: impl FnOnce(&mut Header)) {
+        let mut header = Header::from_octets(frame);
+        change(&mut header);
+        frame[..7].copy_from_slice(&header.to_octets());
+        self.seal(frame);
+    }
+
+    /// A frame with the count that its channel took last, or nearly so, while lanes hold octets. Mostly the frame follows
+    /// that is expected then: what the one before it has changed shows there.
+    fn repeated_read(&mut self) {
+        let lane = self.any_lane();
+        let channel = self.setting.lanes[lane].channel;
+        let modulus = self.setting.channels[channel].modulus();
+        self.hold_lines();
+        let any = self.random.below(modulus);
+        let count = self.random.pick(&[0, modulus - 1, modulus - 1, modulus - 1, modulus - 2, any, any]);
+        let after = (count + 1) % modulus;
+        match self.random.below(12) {
+            // None is expected, so it is no repeat, whatever number stands there.
+            0..=2 => self.line(&format!("expect {channel} 0 {after}")),
+            // Other channels took it last, and this one another or none.
+            3 => {
+                for other in 0..self.setting.channels.len() {
+                    let after = (count + 1) % self.setting.channels[other].modulus();
+                    self.expect_line(other, Some(after));
+                }
+                let not_this = self.random.pick(&[None, Some(count), Some((count + 2) % modulus)]);
+                self.expect_line(channel, not_this);
+            }
+            _ => self.expect_line(channel, Some(after)),
         }
-        self.read_line(&frame);
+        for _ in 0..self.random.pick(&[1, 1, 1, 2, 3]) {
+            let frame = self.readable_frame(lane, count);
+            let frame = self.repeated_frame(channel, frame);
+            self.read_line(&frame);
+        }
+        if self.random.percent(70) {
+            let next = self.readable_frame(lane, after);
+            self.read_line(&next);
+        }
+    }
+
+    /// A lane's frame as it is; or with another lane's map of the channel, counted, idle, with a data field that is
+    /// mostly refused, or with some other field forged.
+    fn repeated_frame(&mut self, channel: usize, mut frame: Vec<u8>) -> Vec<u8> {
+        let data_field = 7 + self.setting.channels[channel].count_length as usize + self.setting.insert as usize;
+        match self.random.below(12) {
+            0..=4 => {}
+            5 => {
+                let lanes = self.setting.lanes.iter().filter(|lane| lane.channel == channel);
+                let maps: Vec<u64> = lanes.map(|lane| lane.map).collect();
+                let map = self.random.pick(&maps) as u8;
+                self.forge_header(&mut frame, |header| header.map = map);
+            }
+            6..=8 => self.forge_counted(&mut frame),
+            9 => self.forge_header(&mut frame, |header| header.virtual_channel = 63),
+            10 => {
+                let place = data_field + self.random.below(3) as usize;
+                frame[place] ^= 1 << self.random.below(8);
+                self.seal(&mut frame);
+            }
+            _ => frame = self.forge_fields(frame),
+        }
+        frame
     }
 
     fn step(&mut self) {
         match self.random.below(100) {
-            0..=27 => self.good_write(),
-            28..=31 => self.look_alone(),
-            32..=36 => self.wrap(),
+            0..=26 => self.good_write(),
+            27..=32 => self.look_alone(),
+            33..=36 => self.wrap(),
             37..=41 => self.gap_over_lanes(),
             42..=49 => self.bad_write(),
             50..=57 => self.damaged_read(),
             58..=67 => self.forged_field_read(),
-            68..=84 => self.forged_lane_read(),
+            68..=80 => self.forged_lane_read(),
+            81..=84 => self.repeated_read(),
             85..=87 => self.odd_area_read(),
             88..=91 => self.writer_state(),
             92..=95 => self.reader_state(),
@@ -654,7 +738,7 @@ impl Script {
         Some(area)
     }
 
-    /// A frame of a good batch, read as it is, or lost, or repeated.
+    /// A frame of a good batch, read as it is, or lost, or sent several times, some copies late.
     fn good_write(&mut self) {
         let lane = self.any_lane();
         let zone = self.zone_of(lane);
@@ -679,17 +763,31 @@ impl Script {
             return;
         };
         match self.random.below(100) {
-            0..=79 => self.read_line(&frame),
-            80..=84 => {
-                self.read_line(&frame);
-                self.read_line(&frame);
-            }
+            0..=75 => self.read_line(&frame),
+            76..=84 => self.several_reads(&frame),
             85..=89 => {
                 let damaged = self.damage(&frame);
                 self.read_line(&damaged);
             }
             _ => {}
         }
+    }
+
+    /// Copies of a frame, damaged ones and other frames among them. Where another frame is of another channel the next copy
+    /// is a repeat all the same; where it is of this one, as an earlier frame that came again, it is none.
+    fn several_reads(&mut self, frame: &[u8]) {
+        for _ in 0..self.random.pick(&[1, 1, 2, 3]) {
+            self.read_line(frame);
+            match self.random.below(8) {
+                0 => {
+                    let damaged = self.damage(frame);
+                    self.read_line(&damaged);
+                }
+                1..=2 => self.read_some_frame(),
+                _ => {}
+            }
+        }
+        self.read_line(frame);
     }
 
     fn bad_write(&mut self) {
@@ -1014,16 +1112,17 @@ impl Script {
         let random = &mut self.random;
         let other = random.below(self.setting.channels.len() as u64) as usize;
         let other_lane = random.below(self.setting.lanes.len() as u64) as usize;
-        match random.below(16) {
-            0 => header.version = random.below(16) as u8,
+        // Fields that little else forges come more often.
+        match random.below(22) {
+            0 | 16 => header.version = random.below(16) as u8,
             1 => header.spacecraft ^= 1 << random.below(16),
             2 => header.destination = !header.destination,
             3 => header.virtual_channel = random.below(64) as u8,
-            4 => header.virtual_channel = 63,
+            4 | 18 => header.virtual_channel = 63,
             5 => header.virtual_channel = self.setting.channels[other].virtual_channel as u8,
             6 => header.map = random.below(16) as u8,
             7 => header.map = self.setting.lanes[other_lane].map as u8,
-            8 => header.end_of_header = true,
+            8 | 17 => header.end_of_header = true,
             9 => {
                 let any = random.next() as u16;
                 header.length = random.pick(&[header.length.wrapping_add(1), header.length.wrapping_sub(1), any]);
@@ -1034,8 +1133,8 @@ impl Script {
                 header.bypass |= random.percent(70);
             }
             12 => header.spare = random.below(4) as u8,
-            13 => header.ocf = !header.ocf,
-            14 => header.count_length = random.below(8) as u8,
+            13 | 19 | 21 => header.ocf = !header.ocf,
+            14 | 20 => header.count_length = random.below(8) as u8,
             _ => {}
         }
     }
@@ -1082,7 +1181,8 @@ impl Script {
         match self.random.below(20) {
             0 => {}
             1 => self.expect_line(channel, None),
-            2 => self.expect_line(channel, Some((count + 1) % modulus)),
+            // A repeat.
+            2..=3 => self.expect_line(channel, Some((count + 1) % modulus)),
             _ => self.expect_line(channel, Some(count)),
         }
         count
