@@ -202,9 +202,15 @@ fn spoil_words(random: &mut Random, words: &mut Vec<String>) {
     }
 }
 
-/// Frames of several lanes in turn, of which some are gone, twice there, damaged, idle or too short.
+/// Frames of several lanes in turn, of which some are gone, there several times, damaged, idle or too short.
 fn recording(random: &mut Random, setting: &Setting, insert: &[u8], ocf: &[u8]) -> Vec<u8> {
     let Ok(mut writer) = Writer::fresh(setting) else { return Vec::new() };
+    for (count, channel) in writer.counts.iter_mut().zip(&setting.channels) {
+        if random.one_in(3) {
+            // Near the wrap: the first frame may have the highest count.
+            *count = channel.modulus() - random.between(1, 10);
+        }
+    }
     let mut open: Vec<Option<Vec<u8>>> = vec![None; setting.lanes.len()];
     let mut octets = Vec::new();
     let mut frame = vec![0; setting.frame_length as usize];
@@ -231,26 +237,34 @@ fn recording(random: &mut Random, setting: &Setting, insert: &[u8], ocf: &[u8]) 
 
 fn add_frame(random: &mut Random, setting: &Setting, frame: &[u8], octets: &mut Vec<u8>) {
     let mut sent = frame.to_vec();
-    match random.below(24) {
+    match random.below(26) {
         0 | 1 => return,
-        2 => octets.extend(frame),
-        3 => {
+        2 | 3 => octets.extend(frame.repeat(random.between(1, 3) as usize)),
+        4 => {
+            // A frame from a little before once more; where it is of another channel, it may be the last one there.
+            let before = octets.chunks(frame.len()).rev().nth(random.below(3) as usize).map(<[u8]>::to_vec);
+            octets.extend(before.unwrap_or_default());
+        }
+        5 => {
             // Damage that the frame check sees, where there is one.
             let place = random.below(sent.len() as u64) as usize;
             sent[place] ^= 1 << random.below(8);
         }
-        4 => {
+        6 => {
             // Virtual channel 63: bits 21 to 26.
             sent[2] |= 0b0000_0111;
             sent[3] |= 0b1110_0000;
             check_anew(setting, &mut sent);
         }
-        5 => {
-            // Another map, in most settings one of no lane.
+        7 => {
+            // Another map, in most settings one of no lane; half the time after the frame itself, whose count it has.
+            if random.one_in(2) {
+                octets.extend(frame);
+            }
             sent[3] ^= 0b0001_1110 & random.octet();
             check_anew(setting, &mut sent);
         }
-        6 => {
+        8 => {
             // Octets of the zone, lengths of packets among them.
             let place = random.below(sent.len() as u64 - 10) as usize + 10;
             sent[place] = random.octet();
