@@ -4,7 +4,8 @@
 //! (document 02, A3): between two copies no other frame of its channel is sent, but frames of other channels may be. Some
 //! copies are removed or replaced by octets that the reader refuses, and a frame of which no copy is kept is gone. Each
 //! lane must then give out exactly the units of which no frame is gone, where "of which" means every frame of the lane's
-//! channel from the one where the unit begins to the one where it ends.
+//! channel from the one where the unit begins to the one where it ends. In some runs there are frames that no lane reads:
+//! idle ones, and those of another sender on a channel, who takes the writer's count and leaves it with the next (`count`).
 //!
 //! A kept copy is what the program that obeys the script wrote itself. Where another frame was written since, the script
 //! has to say its octets; they are this program's, and that they are what the other one wrote is held too. No reader of
@@ -121,6 +122,25 @@ enum Loss {
     Edge,
 }
 
+impl Loss {
+    /// How many frames are gone before the first one that is kept. There may be any number, and at the edge it is often so
+    /// many that the first one has the highest count.
+    fn first_row(self, random: &mut Random) -> u64 {
+        match self {
+            Loss::Edge => random.pick(&[0, 255, 255, 300]),
+            _ => 0,
+        }
+    }
+
+    /// One in so many copies that are lost is replaced by octets that the reader refuses; in long rows fewer are.
+    fn replaced(self) -> u64 {
+        match self {
+            Loss::Edge => 8,
+            _ => 2,
+        }
+    }
+}
+
 /// How often frames of a run are sent.
 #[derive(Clone, Copy)]
 struct Copies {
@@ -183,7 +203,7 @@ impl Run {
     fn new(random: &mut Random, number: u64) -> Run {
         if number % 10 == 9 {
             let setting = edge_setting(random);
-            return Run::of(random, setting, Loss::Edge, 700);
+            return Run::of(random, setting, Loss::Edge, 900);
         }
         let setting = valid_setting(random, &[1, 1, 1, 1, 2, 3, 7]);
         let light = random.between(1, 5);
@@ -213,7 +233,7 @@ impl Run {
             handed_out: (0..lanes).map(|_| Vec::new()).collect(),
             gone: vec![Vec::new(); channels],
             gone_since_kept: vec![None; channels],
-            row: vec![0; channels],
+            row: vec![loss.first_row(random); channels],
             link: (0..channels).map(|_| None).collect(),
             in_area: None,
             heard: 0,
@@ -259,7 +279,7 @@ impl Run {
         let Some(sent) = &self.link[channel] else { return };
         if !sent.gone && !random.percent(self.copies.lost) {
             self.keep(channel);
-        } else if random.one_in(2) {
+        } else if random.one_in(self.loss.replaced()) {
             let octets = sent.octets.clone();
             self.refuse(random, &octets);
         }
@@ -308,8 +328,7 @@ impl Run {
         }
     }
 
-    /// A frame that no lane reads, of any listed channel or of virtual channel 63. It is another sender's, who has the
-    /// writer's count and leaves it with the next.
+    /// A frame that no lane reads: another sender's, of any listed channel, or an idle one.
     fn send_other(&mut self, random: &mut Random) {
         let channel = random.below(self.setting().channels.len() as u64) as usize;
         let mut header = self.other_header(random, channel);

@@ -584,6 +584,11 @@ impl Script {
                 let not_this = self.random.pick(&[None, Some(count), Some((count + 2) % modulus)]);
                 self.expect_line(channel, not_this);
             }
+            // The one taken last differs in one bit, of any octet.
+            4 => {
+                let other = count ^ 1 << self.random.below(8 * self.setting.channels[channel].count_length);
+                self.expect_line(channel, Some((other + 1) % modulus));
+            }
             _ => self.expect_line(channel, Some(after)),
         }
         for _ in 0..self.random.pick(&[1, 1, 1, 2, 3]) {

@@ -539,6 +539,21 @@ fn no_number_beside_a_flag_that_is_not_set_makes_a_repeat() {
 }
 
 #[test]
+fn a_repeat_has_every_octet_of_the_count() {
+    for n in 1..=7 {
+        let (setting, mut frame) = highest_count(n);
+        let mut end = End::fresh(&setting);
+        end.reads(&frame, 0);
+        for bit in 0..8 * n {
+            // The highest count was taken last, and this one is without a bit: as many are missing as it is itself.
+            let count: u64 = (1 << (8 * n)) - 1 - (1 << bit);
+            frame[7..7 + n as usize].copy_from_slice(&count.to_be_bytes()[8 - n as usize..]);
+            assert_eq!(end.look(&frame), looks_read(count));
+        }
+    }
+}
+
+#[test]
 fn a_repeat_keeps_what_all_lanes_hold() {
     // Three lanes of one channel, of which one is for access units, and one lane of the other service.
     let mut setting = worked_setting();
@@ -879,6 +894,33 @@ fn answers_as_text() {
         changed[place] ^= 1;
         assert_ne!(text(script, &changed).as_ref(), Ok(&printed(script)), "octet {place}");
     }
+}
+
+#[test]
+fn answers_to_reads_as_text() {
+    let text = |row_0: [u64; 8]| {
+        let mut answer: Vec<u8> = row_0.iter().flat_map(|number| number.to_be_bytes()).collect();
+        answer.resize(2_240, 0);
+        answer.extend(vec![0x55; 4_200 + 65_552 + 12_304 + 9_632]);
+        let mut out = Vec::new();
+        stream::answers("read 00\n".as_bytes(), &answer[..], &mut out)?;
+        let text = String::from_utf8(out).unwrap();
+        Ok::<String, String>(text.lines().next().unwrap().to_string())
+    };
+    let said = |line: &str| Ok(format!("1 read {line}"));
+    let zeros = "units 0 octets 0 missing 0 idle 0 fill 0 dropped 0";
+    assert_eq!(text([0, 0, 0, 0, 0, 0, 0, 0]), said(&format!("idle {zeros}")));
+    assert_eq!(
+        text([1, 0, 0, 0, 254, 0, 0, 11]),
+        said("counted units 0 octets 0 missing 254 idle 0 fill 0 dropped 11")
+    );
+    assert_eq!(text([2, 0, 1, 10, 2, 3, 4, 5]), said("read units 1 octets 10 missing 2 idle 3 fill 4 dropped 5"));
+    assert_eq!(text([3, 12, 0, 0, 0, 0, 0, 0]), said(&format!("refused 12 {zeros}")));
+    assert_eq!(text([4, 0, 0, 0, 0, 0, 0, 0]), said(&format!("repeat {zeros}")));
+    // A repeat that counts something is told as it is, and differs from what is due.
+    assert_eq!(text([4, 0, 0, 0, 255, 0, 0, 0]), said("repeat units 0 octets 0 missing 255 idle 0 fill 0 dropped 0"));
+    assert!(text([4, 12, 0, 0, 0, 0, 0, 0]).is_err());
+    assert!(text([5, 0, 0, 0, 0, 0, 0, 0]).is_err());
 }
 
 #[test]
