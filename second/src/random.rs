@@ -512,7 +512,7 @@ impl Script {
         let modulus = self.setting.channels[channel].modulus();
         self.hold_lines();
         let count = self.random.below(modulus);
-        // The greatest gap that there is, and one more, which is none but a repeat.
+        // The greatest gap that there is; one more is no gap, but a repeat.
         let gap = self.random.pick(&[0, 1, 1, 2, modulus - 2, modulus - 1]);
         self.expect_line(channel, Some((count + modulus - gap) % modulus));
         let mut frame = self.readable_frame(lane, count);
