@@ -21,7 +21,7 @@ use Rattle.link.specs.Demand.{keptOn, fewGone, framesOf, Run}
 use Rattle.link.specs.Corollaries.{unitsSent, unitsEnded, afterCalls, Between, sentBefore, earlier, later, allKept, allGone, NothingGone, EverythingGone, NoMoreGone, LaterBatches}
 use Rattle.link.proofs.Ends.{Fresh}
 use Rattle.link.proofs.Views.{due-gone}
-use Rattle.link.proofs.Run.{flies, after, Runs}
+use Rattle.link.proofs.Flights.{flies, after, Runs}
 use Rattle.link.proofs.Later.{Begins, wroteBefore, later-due, later-units}
 use Rattle.link.proofs.Uslp.{uslp, facts}
 use Rattle.link.proofs.Theorem.{flies-flown, runs, fresh-ends, good-setting, demand}

@@ -9,7 +9,7 @@ use mathlib.Core.List.{List, [], _∷_, _++_, append-assoc}
 use borrow.Author.Tests.{ne-eqb, eq-eqb}
 use Rattle.rules.specs.Tests.{_=?_}
 use Rattle.rules.proofs.Tests.{split, same, and-left, and-right}
-use Rattle.link.specs.Link.{Frame, Event, Writes, Copy, Stray, arrives, sent}
+use Rattle.link.specs.Link.{Frame, Writes, Copy, Stray, arrives, sent}
 use Rattle.link.specs.Due.{ending, noneGone, clean, dueIn, due}
 use Rattle.link.specs.Demand.{lending}
 use Rattle.link.specs.Corollaries.{begunIn, endedIn, unitsSent, unitsEnded}
@@ -17,7 +17,7 @@ use Rattle.link.proofs.Spans.{Filled, Follows}
 use Rattle.link.proofs.Once.{endsIn, ends-on, ends-nowhere, ends-all}
 use Rattle.link.proofs.Ends.{Ends, Sends, start-own, units-own, start-same, units-same, Facts}
 use Rattle.link.proofs.Views.{Safe, clean-other, clean-now, clean-before, due-not}
-use Rattle.link.proofs.Run.{Events, flies, after, Runs}
+use Rattle.link.proofs.Flights.{Events, flies, after, Runs}
 
 -- ---- the frames of one batch
 

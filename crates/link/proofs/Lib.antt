@@ -9,6 +9,7 @@ pub mod Invariant
 pub mod Ends
 pub mod Views
 pub mod Steps
+pub mod Flights
 pub mod Run
 pub mod Later
 pub mod Records

@@ -112,7 +112,8 @@ module _ (E : Ends) where
 
           known : Inv (E .octets own) (E .bound own) v (whole own) (true ∷ flags own)
           known =
-              subst (Inv (E .octets own) (E .bound own) v (whole own)) (flags-on (c own) f rest true (k .channel) q) (moved (sym (k .starts)) refl refl refl refl i)
+              subst (Inv (E .octets own) (E .bound own) v (whole own)) (flags-on (c own) f rest true (k .channel) q)
+              (moved (sym (k .starts)) refl refl refl refl i)
 
           safe : Safe own (c own) f past
           safe = safe-kept own (c own) f past q
@@ -129,7 +130,8 @@ module _ (E : Ends) where
           own-due : out own ≡ dueIn own f past
           unfolding dueIn
           own-due =
-              units-due _ _ (bounded own (k .lane) .0) (bounded own (k .lane) .1) v (whole own) (flags own) known (f .units) (k .turn) (f .stop) on _ (h .delivers) (whole′ own) now else
+              units-due _ _ (bounded own (k .lane) .0) (bounded own (k .lane) .1) v (whole own) (flags own) known (f .units) (k .turn) (f .stop) on _
+              (h .delivers) (whole′ own) now else
               ∙ ap (λ (d : ℕ). ending (f .start) (f .stop) (clean own d (f ∷ past)) 0 (f .units)) (sym (k .channel))
               ∙ sym (rw (eq-eqb own own refl))
 
@@ -137,7 +139,8 @@ module _ (E : Ends) where
           own-next =
               moved (start-own E w last b f w′ k) (k .count-on own (k .lane) (k .channel)) (h .expect-on own (k .lane) (k .channel)) refl
               (units-own E w last b f w′ k)
-              (inv-next _ _ (bounded own (k .lane) .0) (bounded own (k .lane) .1) v (whole own) (flags own) known (f .units) (k .turn) (f .stop) on _ (h .delivers) (whole′ own) now else (E .start w′ own b)
+              (inv-next _ _ (bounded own (k .lane) .0) (bounded own (k .lane) .1) v (whole own) (flags own) known (f .units) (k .turn) (f .stop) on _
+              (h .delivers) (whole′ own) now else (E .start w′ own b)
               (k .follows))
 
         -- Whosever it is: what is handed out on lane l is due.

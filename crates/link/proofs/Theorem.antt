@@ -25,7 +25,8 @@ use Rattle.link.specs.Link.{Call, Frame, placeOf, frameBy, Event, Writes
 use Rattle.link.specs.Due.{due}
 use Rattle.link.specs.Demand.{lending, InOrder, enough, inert, passes, allPass, keptOn, fewGone, Demand}
 use Rattle.link.proofs.Ends.{Fresh}
-use Rattle.link.proofs.Run.{flies, hearing, Runs, from-fresh}
+use Rattle.link.proofs.Flights.{flies, hearing, Runs}
+use Rattle.link.proofs.Run.{from-fresh}
 use Rattle.link.proofs.Uslp.{Hearer, uslp, channel-8, facts}
 
 -- ---- a run of USLP's ends is a run

@@ -2,7 +2,7 @@
 -- read rule's, and frame k of a batch starts with its octet k * Z.
 use mathlib.Core.Path.{_≡_, refl, sym, ap, ap₂, _∙_, subst}
 use mathlib.Core.Logic.{_⊎_, inl, inr}
-use Prim.Native.Nat.{ℕ, _+_, _-_, _*_, _^_, _≤_, _<_}
+use Prim.Native.Nat.{ℕ, _+_, _-_, _*_, _^_, _<_}
 use native.Mathlib.Nat.{zero-mul}
 use native.Mathlib.Omega.{arith}
 use mathlib.Core.Bool.{Bool, true, false, cond}
@@ -239,7 +239,8 @@ module _ (w : Writer) (last : ℕ → List ℕ) (x : Call) (kept : Bool) (go : (
             slots = rw length-set gap-8;
             area = stored-length hs h (made .held) (keeps made) refl i lane-8 (r .slots) (r .area) (took .small);
             valid =
-                read-ready s es hs h lent i v (x .batch) (x .insert) (x .ocf) k ((frameBy s w x kept) .octets) back (r .valid) (takes .numbered) (r .area) fits new;
+                read-ready s es hs h lent i v (x .batch) (x .insert) (x .ocf) k ((frameBy s w x kept) .octets) back (r .valid) (takes .numbered)
+                (r .area) fits new;
           }
 
       -- What a lane of the channel expects and holds once the frame's count is taken.
@@ -267,7 +268,8 @@ module _ (w : Writer) (last : ℕ → List ℕ) (x : Call) (kept : Bool) (go : (
           (sym (stored-here gap h (made .held) (keeps made) refl i lane-8 gap-8 (r .area) (took .small))))
           (unfold makes in
           subst (λ (y : List ℕ). Delivers (unitsOf kind (x .batch)) (k * z) (k * z + z) y (yield made)) (gap-same i (takes .numbered) refl)
-          (lane-reads ((lane s i) .longest) z some (zone-small s g (channelOf s i)) k (x .batch) kind (holds gap h i) (g .lanes i (takes .numbered) .kind .enough)
+          (lane-reads ((lane s i) .longest) z some (zone-small s g (channelOf s i)) k (x .batch) kind (holds gap h i)
+          (g .lanes i (takes .numbered) .kind .enough)
           (takes .batch) (takes .below)))
 
       heard : Heard (uslp s) w (record { reader = reader s es hs; area = h }) (frameBy s w x kept) (leftBy answer) (λ (l : ℕ). handed l answer)

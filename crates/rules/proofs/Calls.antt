@@ -156,7 +156,8 @@ module _ (r : Reader) (f h u c : List ℕ) where
   ruled (Verdict.Repeat k) o = o
 
   -- The table's first two rows come before the frame's own.
-  pub verdict-cond : verdict r f h u c ≡ cond (not (readerOk r)) (Verdict.Refused 1) (cond (areasShort h u c) (Verdict.Refused 2) (again r f (judge (r .setting) f)))
+  pub verdict-cond :
+      verdict r f h u c ≡ cond (not (readerOk r)) (Verdict.Refused 1) (cond (areasShort h u c) (Verdict.Refused 2) (again r f (judge (r .setting) f)))
   unfolding verdict readRefusals given judged judge again
   verdict-cond = go (readerOk r) (areasShort h u c)
     where

@@ -125,7 +125,8 @@ no-repeat-few n hn e k he hk h = go (e .known) refl
     go true q =
         let x : e ≡ expects (e .count) = expect-by e true q in
         let b = missing-below n (expects (e .count)) k in
-        let z = eqb-false (missing n (expects (e .count)) k) (256 ^ n - 1) (sym (repeats-missing n (e .count) k he hk) ∙ ap (λ (y : Expect). repeats n y k) (sym x) ∙ h) in
+        let z = eqb-false (missing n (expects (e .count)) k) (256 ^ n - 1)
+        (sym (repeats-missing n (e .count) k he hk) ∙ ap (λ (y : Expect). repeats n y k) (sym x) ∙ h) in
         let l : missing n (expects (e .count)) k + 2 ≤ 256 ^ n = split (256 ^ n) (missing n (expects (e .count)) k + 1)
         (λ o. absurd (z (omega (arith, o, b)))) (λ o. omega (arith, o)) in
         subst (λ (y : Expect). missing n y k + 2 ≤ 256 ^ n) (sym x) l

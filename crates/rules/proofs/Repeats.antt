@@ -11,13 +11,13 @@ use Rattle.rules.specs.declared.Expects.{Expects}
 use Rattle.rules.specs.declared.Expect.{Expect}
 use Rattle.rules.specs.declared.Reader.{Reader}
 use Rattle.rules.specs.declared.Class.{Class}
-use Rattle.rules.specs.declared.Place.the-variants.{At, Nowhere}
+use Rattle.rules.specs.declared.Place.the-variants.{At}
 use Rattle.rules.specs.declared.Verdict.{Verdict}
 use Rattle.rules.specs.Settings.{countAt, channel, lane, channelOf, expectOn, expect, expecting, readerOk}
 use Rattle.rules.specs.Frames.{countIn}
 use Rattle.rules.specs.Reading.{expected, repeats, gap}
 use Rattle.rules.specs.Refusals.{judge}
-use Rattle.rules.specs.Calls.{Got, areasShort, bare, laidOut, readOn, repeatsAt, again, onVerdict, verdict, read, looked, missingAt, onLook, look}
+use Rattle.rules.specs.Calls.{Got, areasShort, bare, laidOut, readOn, repeatsAt, again, onVerdict, verdict, read, missingAt, onLook, look}
 use Rattle.rules.specs.Valid.{GoodReader}
 use Rattle.rules.proofs.Octets.{Octets, octets-drop, num-part}
 use Rattle.rules.proofs.Counts.{counts-many, no-repeat-few, taken-repeats}
