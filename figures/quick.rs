@@ -240,6 +240,7 @@ enum Class {
     Idle,
     Counted,
     Read,
+    Repeat,
     Refused(u8),
 }
 
@@ -349,6 +350,9 @@ impl Reader {
         let map = (word >> 1 & 15) as u8;
         let lane = setting.lanes.iter().position(|l| usize::from(l.channel) == place && l.map == map);
         let Some(lane) = lane.filter(|_| flags & 0x40 == 0) else {
+            if self.repeats(place, count) {
+                return Answer::of(Class::Repeat);
+            }
             let mut answer = Answer::of(Class::Counted);
             self.take(place, count, &mut answer);
             return answer;
@@ -361,6 +365,9 @@ impl Reader {
         if !rule_fits || upid != of.upid || (pointer >= zone && pointer != 0xFFFF) {
             return Answer::of(Class::Refused(12));
         }
+        if self.repeats(place, count) {
+            return Answer::of(Class::Repeat);
+        }
         let mut answer = Answer::of(Class::Read);
         self.take(place, count, &mut answer);
         let zone = &frame[data_field + 3..data_field + 3 + zone];
@@ -372,6 +379,12 @@ impl Reader {
             Kind::Access => self.access(lane, zone, rule, pointer, common, areas, &mut answer),
         }
         answer
+    }
+
+    /// Whether a count is the last one taken on its channel.
+    fn repeats(&self, place: usize, count: u64) -> bool {
+        let top = self.setting.channels[place].top();
+        self.expected[place].is_some_and(|expected| (count + 1) & top == expected)
     }
 
     /// Takes a count; a gap drops what all lanes of the channel hold.
