@@ -10,7 +10,7 @@ use native.Mathlib.Omega.{arith}
 use native.Mathlib.Numerals.{add-one, sub-one}
 use borrow.Author.Tests.{lt-ltb, le-ltb}
 use Rattle.rules.specs.declared.Class.{Class}
-use Rattle.rules.specs.declared.Class.the-variants.{Idle, Counted, Read, Refused}
+use Rattle.rules.specs.declared.Class.the-variants.{Idle, Counted, Read, Repeat, Refused}
 use Rattle.rules.specs.declared.Answer.{Answer}
 use Rattle.rules.specs.Areas.{laid}
 use Rattle.rules.specs.Tests.{_<?_}
@@ -120,6 +120,7 @@ unfolding word text
 length-word Idle = lit≤ tt
 length-word Counted = lit≤ tt
 length-word Read = lit≤ tt
+length-word Repeat = lit≤ tt
 length-word (Refused n) = lit≤ tt
 
 -- ---- lines

@@ -5,7 +5,7 @@ use mathlib.Core.Bool.{cond}
 use mathlib.Core.List.{List, [], _∷_, _++_}
 use lib.ListN.{length, getD, drop}
 use Rattle.rules.specs.declared.Class.{Class}
-use Rattle.rules.specs.declared.Class.the-variants.{Idle, Counted, Read, Refused}
+use Rattle.rules.specs.declared.Class.the-variants.{Idle, Counted, Read, Repeat, Refused}
 use Rattle.rules.specs.Areas.{laid}
 use Rattle.rules.specs.Tests.{_=?_}
 use Rattle.rules.specs.Listing.{text, decimal, word}
@@ -38,7 +38,8 @@ unfoldable pub place : Class → ℕ
 place Idle = 0
 place Counted = 1
 place Read = 2
-place (Refused n) = 3
+place Repeat = 3
+place (Refused n) = 4
 
 -- A line up to its third field.
 unfoldable pub front : ℕ → Class → List ℕ

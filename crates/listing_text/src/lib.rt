@@ -126,7 +126,8 @@ fn place_of(class: Class) -> usize
         Class::Idle => 0,
         Class::Counted => 1,
         Class::Read => 2,
-        Class::Refused(_) => 3,
+        Class::Repeat => 3,
+        Class::Refused(_) => 4,
     }
 }
 
@@ -138,6 +139,7 @@ fn amount_of(class: Class, units: usize) -> u64
         Class::Idle => units as u64,
         Class::Counted => units as u64,
         Class::Read => units as u64,
+        Class::Repeat => units as u64,
         Class::Refused(n) => n as u64,
     }
 }
@@ -149,7 +151,7 @@ pub fn put_front(area: &mut [u8], from: usize, k: u64, class: Class) -> usize
 {
     let at = put_decimal(area, from, k);
     let n = place_of(class);
-    put_part(area, at, b" idle | counted | read | refused ", n)
+    put_part(area, at, b" idle | counted | read | repeat | refused ", n)
 }
 
 // Puts the line of frame k's answer.
