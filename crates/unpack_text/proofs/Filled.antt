@@ -31,9 +31,9 @@ unfolding strung channelLine
 channel-strung vc service t = simp append-assoc
 
 pub total-strung : (t : Tally) (held : ℕ) → strung
-    (text "total frames " ∷ text " read " ∷ text " counted " ∷ text " idle " ∷ text " refused " ∷ text " left "
+    (text "total frames " ∷ text " read " ∷ text " counted " ∷ text " idle " ∷ text " repeat " ∷ text " refused " ∷ text " left "
     ∷ text " units " ∷ text " octets " ∷ text " idle " ∷ text " fill " ∷ text " dropped " ∷ text " held " ∷ [])
-    (t .classes .frames ∷ t .classes .read ∷ t .classes .counted ∷ t .classes .idle ∷ t .classes .refused ∷ t .classes .left
+    (t .classes .frames ∷ t .classes .read ∷ t .classes .counted ∷ t .classes .idle ∷ t .classes .repeats ∷ t .classes .refused ∷ t .classes .left
     ∷ t .sums .units ∷ t .sums .octets ∷ t .sums .idle ∷ t .sums .fill ∷ t .sums .dropped ∷ held ∷ [])
     (text "\n") ≡ totalLine t held
 unfolding strung totalLine classesText sumsText

@@ -8,7 +8,7 @@ use Rattle.rules.specs.declared.Class.{Class}
 use Rattle.rules.specs.declared.Reader.{Reader}
 use Rattle.rules.specs.declared.Channel.{Channel}
 use Rattle.rules.specs.declared.Verdict.{Verdict}
-use Rattle.rules.specs.declared.Verdict.the-variants.{Refused, Idle, Counted, Read}
+use Rattle.rules.specs.declared.Verdict.the-variants.{Refused, Idle, Counted, Read, Repeat}
 use Rattle.rules.specs.Settings.{noChannel}
 use Rattle.rules.specs.Listing.{text, decimal}
 use Rattle.listing_text.specs.Puts.{Put, front}
@@ -33,6 +33,7 @@ third (Refused n) = decimal n
 third Idle = text "-"
 third (Counted c) = text "-"
 third (Read l) = decimal l
+third (Repeat c) = text "-"
 
 -- "Units, unit octets, missing, idle, fill and dropped octets."
 unfoldable pub givenText : Answer → List ℕ
@@ -71,6 +72,7 @@ classesText t =
     ++ (text " read " ++ decimal (t .read))
     ++ (text " counted " ++ decimal (t .counted))
     ++ (text " idle " ++ decimal (t .idle))
+    ++ (text " repeat " ++ decimal (t .repeats))
     ++ (text " refused " ++ decimal (t .refused))
     ++ (text " left " ++ decimal (t .left))
 

@@ -4,7 +4,7 @@ use mathlib.Core.List.{List}
 use lib.ListN.{getD, set, replicate}
 use Rattle.rules.specs.declared.Answer.{Answer}
 use Rattle.rules.specs.declared.Class.{Class}
-use Rattle.rules.specs.declared.Class.the-variants.{Idle, Counted, Read, Refused}
+use Rattle.rules.specs.declared.Class.the-variants.{Idle, Counted, Read, Repeat, Refused}
 use Rattle.rules.specs.declared.Setting.{Setting}
 use Rattle.rules.specs.declared.Slot.{Slot}
 use Rattle.rules.specs.declared.Verdict.{Verdict}
@@ -21,10 +21,16 @@ add a b = min (a + b) 18446744073709551615
 
 -- One frame more, and one of its class.
 unfoldable pub classed : Classes → Class → Classes
-classed t Idle = record { frames = add (t .frames) 1; read = t .read; counted = t .counted; idle = add (t .idle) 1; refused = t .refused; left = t .left }
-classed t Counted = record { frames = add (t .frames) 1; read = t .read; counted = add (t .counted) 1; idle = t .idle; refused = t .refused; left = t .left }
-classed t Read = record { frames = add (t .frames) 1; read = add (t .read) 1; counted = t .counted; idle = t .idle; refused = t .refused; left = t .left }
-classed t (Refused n) = record { frames = add (t .frames) 1; read = t .read; counted = t .counted; idle = t .idle; refused = add (t .refused) 1; left = t .left }
+classed t Idle =
+    record { frames = add (t .frames) 1; read = t .read; counted = t .counted; idle = add (t .idle) 1; repeats = t .repeats; refused = t .refused; left = t .left }
+classed t Counted =
+    record { frames = add (t .frames) 1; read = t .read; counted = add (t .counted) 1; idle = t .idle; repeats = t .repeats; refused = t .refused; left = t .left }
+classed t Read =
+    record { frames = add (t .frames) 1; read = add (t .read) 1; counted = t .counted; idle = t .idle; repeats = t .repeats; refused = t .refused; left = t .left }
+classed t Repeat =
+    record { frames = add (t .frames) 1; read = t .read; counted = t .counted; idle = t .idle; repeats = add (t .repeats) 1; refused = t .refused; left = t .left }
+classed t (Refused n) =
+    record { frames = add (t .frames) 1; read = t .read; counted = t .counted; idle = t .idle; repeats = t .repeats; refused = add (t .refused) 1; left = t .left }
 
 -- An answer's units and octets, added.
 unfoldable pub summed : Sums → Answer → Sums
@@ -61,13 +67,15 @@ lanesAfter xs (Verdict.Refused n) units octets = xs
 lanesAfter xs Verdict.Idle units octets = xs
 lanesAfter xs (Verdict.Counted c) units octets = xs
 lanesAfter xs (Verdict.Read l) units octets = inLane xs l units octets
+lanesAfter xs (Verdict.Repeat c) units octets = xs
 
--- A channel has the frames that are counted on it, and those that its lanes read.
+-- A channel has the frames that are counted on it, and those that its lanes read: those that are taken, so no repeat.
 unfoldable pub channelsAfter : Setting → List ChannelTally → Verdict → ℕ → List ChannelTally
 channelsAfter s xs (Verdict.Refused n) missing = xs
 channelsAfter s xs Verdict.Idle missing = xs
 channelsAfter s xs (Verdict.Counted c) missing = inChannel xs c missing
 channelsAfter s xs (Verdict.Read l) missing = inChannel xs ((lane s l) .channel) missing
+channelsAfter s xs (Verdict.Repeat c) missing = xs
 
 -- The totals with one frame more.
 unfoldable pub tallied : Setting → Tally → Verdict → Answer → Tally
@@ -89,6 +97,7 @@ passedOver t =
             read = t .classes .read;
             counted = t .classes .counted;
             idle = t .classes .idle;
+            repeats = t .classes .repeats;
             refused = t .classes .refused;
             left = add (t .classes .left) 1;
           };
@@ -100,7 +109,7 @@ passedOver t =
 unfoldable pub noTally : Tally
 noTally =
     record {
-      classes = record { frames = 0; read = 0; counted = 0; idle = 0; refused = 0; left = 0 };
+      classes = record { frames = 0; read = 0; counted = 0; idle = 0; repeats = 0; refused = 0; left = 0 };
       sums = record { units = 0; octets = 0; idle = 0; fill = 0; dropped = 0 };
       lanes = replicate 8 noLaneTally;
       channels = replicate 8 noChannelTally;

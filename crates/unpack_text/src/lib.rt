@@ -22,6 +22,7 @@ pub struct Classes {
     pub read: u64,
     pub counted: u64,
     pub idle: u64,
+    pub repeats: u64,
     pub refused: u64,
     pub left: u64,
 }
@@ -42,7 +43,7 @@ pub struct LaneTally {
     pub octets: u64,
 }
 
-// What a channel took, counted or read.
+// What a channel took, counted or read; a repeat is not taken.
 pub struct ChannelTally {
     pub frames: u64,
     pub missing: u64,
@@ -83,6 +84,9 @@ fn count_class(t: Classes, class: Class) -> Classes
         }
         Class::Read => {
             c.read = add(t.read, 1);
+        }
+        Class::Repeat => {
+            c.repeats = add(t.repeats, 1);
         }
         Class::Refused(_) => {
             c.refused = add(t.refused, 1);
@@ -183,6 +187,7 @@ fn lanes_after(xs: [LaneTally; 8], v: Verdict, units: usize, octets: usize) -> [
         Verdict::Idle => xs,
         Verdict::Counted(_) => xs,
         Verdict::Read(l) => in_lane(xs, l, units, octets),
+        Verdict::Repeat(_) => xs,
     }
 }
 
@@ -198,6 +203,7 @@ fn channels_after(s: Setting, xs: [ChannelTally; 8], v: Verdict, missing: u64) -
             let c = channel_of(s, l);
             in_channel(xs, c, missing)
         }
+        Verdict::Repeat(_) => xs,
     }
 }
 
@@ -253,6 +259,7 @@ pub fn no_tally() -> Tally
             read: 0,
             counted: 0,
             idle: 0,
+            repeats: 0,
             refused: 0,
             left: 0,
         },
@@ -314,6 +321,7 @@ fn put_third(area: &mut [u8], from: usize, v: Verdict) -> usize
         Verdict::Idle => listing_text::put_octet(area, from, b'-'),
         Verdict::Counted(_) => listing_text::put_octet(area, from, b'-'),
         Verdict::Read(l) => listing_text::put_decimal(area, from, l as u64),
+        Verdict::Repeat(_) => listing_text::put_octet(area, from, b'-'),
     }
 }
 
@@ -434,8 +442,8 @@ pub fn put_places(area: &mut [u8], from: usize, r: Reader, t: Tally) -> usize
 
 // Puts the line of all frames of a recording, after which a reader has this state.
 pub fn put_last(area: &mut [u8], from: usize, r: Reader, t: Tally) -> usize
-    requires { ⌜ from + 332 ≤ length (now area) ⌝ }
-    ensures { λ e. ⌜ Wrote 332 (lastLine r t) (now (area .entry)) from (now (area .exit)) e ⌝ }
+    requires { ⌜ from + 360 ≤ length (now area) ⌝ }
+    ensures { λ e. ⌜ Wrote 360 (lastLine r t) (now (area .entry)) from (now (area .exit)) e ⌝ }
 {
     let slots = r.slots;
     let held = held_in(slots, r.setting.numbered);
@@ -444,6 +452,7 @@ pub fn put_last(area: &mut [u8], from: usize, r: Reader, t: Tally) -> usize
         t.classes.read,
         t.classes.counted,
         t.classes.idle,
+        t.classes.repeats,
         t.classes.refused,
         t.classes.left,
         t.sums.units,
@@ -456,7 +465,7 @@ pub fn put_last(area: &mut [u8], from: usize, r: Reader, t: Tally) -> usize
     listing_text::put_filled(
         area,
         from,
-        b"total frames # read # counted # idle # refused # left # units # octets # idle # fill # dropped # held #\n",
+        b"total frames # read # counted # idle # repeat # refused # left # units # octets # idle # fill # dropped # held #\n",
         &values,
     )
 }

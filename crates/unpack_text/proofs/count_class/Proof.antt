@@ -31,6 +31,12 @@ enum-told-4 c = search needs
 add-requires-5 : tie.Need-add-requires-5
 add-requires-5 c κs = search needs
 
+enum-told-5 : tie.Need-enum-told-5
+enum-told-5 c = search needs
+
+add-requires-6 : tie.Need-add-requires-6
+add-requires-6 c κs = search needs
+
 returns : tie.Need-returns
 unfolding classed
 returns c = rw (c .before .enum-told .given .1, c .before .before .before .add .ensures, c .add2 .ensures)
@@ -47,6 +53,10 @@ returns-4 : tie.Need-returns-4
 unfolding classed
 returns-4 c = rw (c .before .enum-told4 .given .1, c .before .before .before .add .ensures, c .add5 .ensures)
 
+returns-5 : tie.Need-returns-5
+unfolding classed
+returns-5 c = rw (c .before .enum-told5 .given .1, c .before .before .before .add .ensures, c .add6 .ensures)
+
 pub count-class-spec : {M : Type 1} → statement M
 count-class-spec =
     tie.close
@@ -60,7 +70,10 @@ count-class-spec =
     add-requires-4
     enum-told-4
     add-requires-5
+    enum-told-5
+    add-requires-6
     returns
     returns-2
     returns-3
-    returns-4)
+    returns-4
+    returns-5)

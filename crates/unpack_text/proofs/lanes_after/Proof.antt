@@ -19,6 +19,9 @@ enum-known-v c = search needs
 in-lane-requires : tie.Need-in-lane-requires
 in-lane-requires c κs = search needs
 
+enum-told-4 : tie.Need-enum-told-4
+enum-told-4 c = search needs
+
 returns : tie.Need-returns
 unfolding lanesAfter
 returns c = rw (c .enum-told .given .1)
@@ -35,6 +38,10 @@ returns-4 : tie.Need-returns-4
 unfolding lanesAfter
 returns-4 c = rw (c .before .before .v .given .1) (c .in-lane .ensures)
 
+returns-5 : tie.Need-returns-5
+unfolding lanesAfter
+returns-5 c = rw (c .enum-told4 .given .1)
+
 pub lanes-after-spec : {M : Type 1} → statement M
 lanes-after-spec =
     tie.close
@@ -44,7 +51,9 @@ lanes-after-spec =
     enum-told-3
     enum-known-v
     in-lane-requires
+    enum-told-4
     returns
     returns-2
     returns-3
-    returns-4)
+    returns-4
+    returns-5)

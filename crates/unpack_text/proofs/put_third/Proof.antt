@@ -35,6 +35,12 @@ enum-known-v-2 c = search needs
 put-decimal-requires-2 : tie.Need-put-decimal-requires-2
 put-decimal-requires-2 c κs = decimal-fits _ _ (search needs)
 
+enum-told-3 : tie.Need-enum-told-3
+enum-told-3 c = search needs
+
+put-octet-requires-3 : tie.Need-put-octet-requires-3
+put-octet-requires-3 c κs = search needs
+
 same-length : tie.Need-same-length
 same-length c = search needs
 
@@ -71,6 +77,15 @@ returns-4 c =
     wrote-third (c .before .before .before .before .before .before .before .before .args .v) _ (c .before .before .before .before .before .v2 .given .1)
     (wrote-decimal _ (c .before .before .put-decimal2 .ensures))
 
+same-length-5 : tie.Need-same-length-5
+same-length-5 c = search needs
+
+returns-5 : tie.Need-returns-5
+unfolding third text
+returns-5 c =
+    wrote-third (c .before .before .before .before .before .before .before .args .v) _ (c .before .before .before .before .enum-told3 .given .1)
+    (wrote-more 20 (lit≤ tt) (wrote-text (c .before .before .put-octet3 .ensures)))
+
 pub put-third-spec : {M : Type 1} → statement M
 put-third-spec =
     tie.close
@@ -84,6 +99,8 @@ put-third-spec =
     put-octet-requires-2
     enum-known-v-2
     put-decimal-requires-2
+    enum-told-3
+    put-octet-requires-3
     same-length
     returns
     same-length-2
@@ -91,4 +108,6 @@ put-third-spec =
     same-length-3
     returns-3
     same-length-4
-    returns-4)
+    returns-4
+    same-length-5
+    returns-5)
