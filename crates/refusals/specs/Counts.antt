@@ -31,6 +31,7 @@ refusedAfter t (Verdict.Refused n) k f = record { counts = raised (t .counts) n;
 refusedAfter t Verdict.Idle k f = t
 refusedAfter t (Verdict.Counted c) k f = t
 refusedAfter t (Verdict.Read l) k f = t
+refusedAfter t (Verdict.Repeat c) k f = t
 
 -- The totals with one frame more, whose number is how many there were before it.
 unfoldable pub totalled : Setting → Totals → Verdict → Answer → List ℕ → Totals

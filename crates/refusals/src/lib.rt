@@ -96,6 +96,7 @@ fn after(t: Refusals, v: Verdict, k: u64, frame: &[u8]) -> Refusals
         Verdict::Idle => t,
         Verdict::Counted(_) => t,
         Verdict::Read(_) => t,
+        Verdict::Repeat(_) => t,
     }
 }
 
@@ -224,8 +225,8 @@ fn put_refusals(area: &mut [u8], from: usize, counts: [u64; 13]) -> usize
 
 // Puts all totals of a recording, after which a reader has this state.
 pub fn put_totals(area: &mut [u8], from: usize, r: Reader, t: Totals) -> usize
-    requires { ⌜ (r .setting .listed ≤ 8) × (r .setting .numbered ≤ 8) × (from + 4368 ≤ length (now area)) ⌝ }
-    ensures { λ e. ⌜ Wrote 4368 (totalsText r t) (now (area .entry)) from (now (area .exit)) e ⌝ }
+    requires { ⌜ (r .setting .listed ≤ 8) × (r .setting .numbered ≤ 8) × (from + 4396 ≤ length (now area)) ⌝ }
+    ensures { λ e. ⌜ Wrote 4396 (totalsText r t) (now (area .entry)) from (now (area .exit)) e ⌝ }
 {
     let x = t.tally;
     let counts = t.refusals.counts;

@@ -33,6 +33,7 @@ originOf s t k Verdict.Idle = record { frame = k; base = 0; packets = false }
 originOf s t k (Verdict.Counted c) = record { frame = k; base = 0; packets = false }
 originOf s t k (Verdict.Read l) =
     record { frame = k; base = (getD (t .lanes) l noLaneTally) .octets; packets = isPackets ((lane s l) .kind) }
+originOf s t k (Verdict.Repeat c) = record { frame = k; base = 0; packets = false }
 
 -- ---- a line
 

@@ -85,6 +85,7 @@ pub fn origin_of(s: Setting, t: Tally, k: u64, v: Verdict) -> Origin
                 packets: packets,
             }
         }
+        Verdict::Repeat(_) => none,
     }
 }
 

@@ -26,6 +26,9 @@ enum-told-2 c = search needs
 enum-told-3 : tie.Need-enum-told-3
 enum-told-3 c = search needs
 
+enum-told-4 : tie.Need-enum-told-4
+enum-told-4 c = search needs
+
 returns : tie.Need-returns
 unfolding refusedAfter
 returns c = rw (c .before .before .v .given .1) (ap₂ (λ (x : List ℕ) (y : First). record { counts = x; first = y }) (c .note .ensures .0) (c .note .ensures .1))
@@ -42,6 +45,10 @@ returns-4 : tie.Need-returns-4
 unfolding refusedAfter
 returns-4 c = rw (c .enum-told3 .given .1)
 
+returns-5 : tie.Need-returns-5
+unfolding refusedAfter
+returns-5 c = rw (c .enum-told4 .given .1)
+
 pub after-spec : {M : Type 1} → statement M
 after-spec =
     tie.close
@@ -52,7 +59,9 @@ after-spec =
     enum-told
     enum-told-2
     enum-told-3
+    enum-told-4
     returns
     returns-2
     returns-3
-    returns-4)
+    returns-4
+    returns-5)

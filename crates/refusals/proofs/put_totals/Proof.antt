@@ -22,8 +22,8 @@ put-refusals-requires c κs =
 put-last-requires : tie.Need-put-last-requires
 put-last-requires c κs =
     let c₈ = c .before .before .before .before .before .before .before .before in
-    room-after 332 (c .before .before .before .put-refusals .ensures)
-    (room-after 2576 (c .before .before .before .before .before .before .before .put-places .ensures)
+    room-after 360 (c .before .before .before .put-refusals .ensures)
+    (room-after 2604 (c .before .before .before .before .before .before .before .put-places .ensures)
     (omega (arith, c₈ .before .before .before .before .pre .2)))
 
 same-length : tie.Need-same-length

@@ -22,6 +22,9 @@ octets-of-requires c κs = search needs
 carries-packets-requires : tie.Need-carries-packets-requires
 carries-packets-requires c κs = search needs
 
+enum-told-4 : tie.Need-enum-told-4
+enum-told-4 c = search needs
+
 returns : tie.Need-returns
 unfolding originOf
 returns c = rw (c .enum-told .given .1)
@@ -38,6 +41,10 @@ returns-4 : tie.Need-returns-4
 unfolding originOf
 returns-4 c = rw (c .before .before .before .before .before .v .given .1, c .before .before .octets-of .ensures, c .carries-packets .ensures)
 
+returns-5 : tie.Need-returns-5
+unfolding originOf
+returns-5 c = rw (c .enum-told4 .given .1)
+
 pub origin-of-spec : {M : Type 1} → statement M
 origin-of-spec =
     tie.close
@@ -48,7 +55,9 @@ origin-of-spec =
     enum-known-v
     octets-of-requires
     carries-packets-requires
+    enum-told-4
     returns
     returns-2
     returns-3
-    returns-4)
+    returns-4
+    returns-5)
