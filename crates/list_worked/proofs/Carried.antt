@@ -34,6 +34,7 @@ read-setting r f h u c = go (verdict r f h u c)
     go Verdict.Idle = refl
     go (Verdict.Counted k) = gap-setting r k _
     go (Verdict.Read l) = gap-setting r _ _
+    go (Verdict.Repeat k) = refl
 
 -- One whole frame's line, then the lines of the rest.
 lines-step : (n k : ℕ) (r : Reader) (h u c f rest : List ℕ) → r .setting .length ≡ 32 → length f ≡ 32
