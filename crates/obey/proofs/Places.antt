@@ -12,10 +12,11 @@ use Rattle.rules.specs.declared.Place.the-variants.{At}
 use Rattle.rules.specs.declared.Verdict.{Verdict}
 use Rattle.rules.specs.Settings.{readerOk}
 use Rattle.rules.specs.Refusals.{judge}
-use Rattle.rules.specs.Calls.{onLook, look}
+use Rattle.rules.specs.Calls.{again, onLook, look}
 use Rattle.rules.specs.Valid.{Inside}
 use Rattle.rules.proofs.Valid.{good-reader}
 use Rattle.rules.proofs.Judged.{Judged, judge-facts}
+use Rattle.rules.proofs.Calls.{again-judged}
 use Rattle.rules.proofs.Looks.{looked-cond}
 use Rattle.obey.specs.Requests.{placeNumber}
 
@@ -36,13 +37,14 @@ module _ (r : Reader) (f : List ℕ) where
   judged-near e (Verdict.Read l) j =
       let g = good-reader r e .setting in
       (omega (arith, g .lanes l (j .numbered) .channel, g .listed), omega (arith, j .numbered, g .numbered))
+  judged-near e (Verdict.Repeat c) j = (omega (arith, j .0, good-reader r e .setting .listed), tt)
 
   near : Near (look r f)
   unfolding look
   near = rw (looked-cond r f) (go (readerOk r) refl)
     where
-      go : (b : Bool) → readerOk r ≡ b → Near (onLook (cond (not b) (Verdict.Refused 1) (judge (r .setting) f)) r f)
-      go true e = judged-near e _ (judge-facts (r .setting) f)
+      go : (b : Bool) → readerOk r ≡ b → Near (onLook (cond (not b) (Verdict.Refused 1) (again r f (judge (r .setting) f))) r f)
+      go true e = judged-near e _ (again-judged r f (good-reader r e) _ (judge-facts (r .setting) f))
       go false e = unfold onLook in (tt, tt)
 
   pub channel-told : (i : ℕ) → (look r f) .channel ≡ At i → placeNumber ((look r f) .channel) ≡ i + 1

@@ -58,6 +58,7 @@ classNumber Class.Idle = 0
 classNumber Class.Counted = 1
 classNumber Class.Read = 2
 classNumber (Class.Refused n) = 3
+classNumber Class.Repeat = 4
 
 unfoldable pub answerRow : Answer → List ℕ
 answerRow a =

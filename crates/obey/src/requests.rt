@@ -106,6 +106,7 @@ fn class_number(c: Class) -> u64
         Class::Counted => 1,
         Class::Read => 2,
         Class::Refused(_) => 3,
+        Class::Repeat => 4,
     }
 }
 
@@ -117,6 +118,7 @@ fn class_refusal(c: Class) -> u64
         Class::Idle => 0,
         Class::Counted => 0,
         Class::Read => 0,
+        Class::Repeat => 0,
         Class::Refused(n) => n as u64,
     }
 }

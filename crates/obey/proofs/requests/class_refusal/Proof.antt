@@ -13,6 +13,9 @@ enum-told-2 c = search needs
 enum-told-3 : tie.Need-enum-told-3
 enum-told-3 c = search needs
 
+enum-told-4 : tie.Need-enum-told-4
+enum-told-4 c = search needs
+
 enum-known-c : tie.Need-enum-known-c
 enum-known-c c = search needs
 
@@ -35,6 +38,10 @@ returns-4 : tie.Need-returns-4
 unfolding classRefusal
 returns-4 c = search needs
 
+returns-5 : tie.Need-returns-5
+unfolding classRefusal
+returns-5 c = search needs
+
 pub class-refusal-spec : {M : Type 1} → statement M
 class-refusal-spec =
     tie.close
@@ -42,9 +49,11 @@ class-refusal-spec =
     enum-told
     enum-told-2
     enum-told-3
+    enum-told-4
     enum-known-c
     cast-result
     returns
     returns-2
     returns-3
-    returns-4)
+    returns-4
+    returns-5)
