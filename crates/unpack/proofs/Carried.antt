@@ -144,6 +144,7 @@ origin-frame s t k (Verdict.Refused n) = refl
 origin-frame s t k Verdict.Idle = refl
 origin-frame s t k (Verdict.Counted c) = refl
 origin-frame s t k (Verdict.Read l) = refl
+origin-frame s t k (Verdict.Repeat c) = refl
 
 -- A frame is passed.
 module _ (b : List Bool) (u : Turn) (f h us cs : List ℕ) (w : Passed) (h′ us′ cs′ : List ℕ) (p : Step)

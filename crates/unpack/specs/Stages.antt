@@ -114,6 +114,7 @@ outputOf (Verdict.Refused n) = 10
 outputOf Verdict.Idle = 10
 outputOf (Verdict.Counted c) = 10
 outputOf (Verdict.Read l) = l
+outputOf (Verdict.Repeat c) = 10
 
 -- The unit and record areas as the rules' pass of a frame, with this verdict and answer, left out or not, leaves them, with room for what it gave; and
 -- where its units come from.

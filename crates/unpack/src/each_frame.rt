@@ -159,6 +159,7 @@ fn output_of(v: Verdict) -> usize
         Verdict::Idle => 10,
         Verdict::Counted(_) => 10,
         Verdict::Read(l) => l,
+        Verdict::Repeat(_) => 10,
     }
 }
 
@@ -473,7 +474,7 @@ pub fn start_table(o: Sinks) -> Went {
 pub fn print_totals(r: Reader, t: Totals) -> bool
     requires { ⌜ readerOk r ≡ true ⌝ }
 {
-    let mut area = [0u8; 4368];
+    let mut area = [0u8; 4396];
     let end = refusals::put_totals(&mut area, 0, r, t);
     hand_totals(r, t, &area[..end])
 }

@@ -16,6 +16,9 @@ enum-told-3 c = search needs
 enum-known-v : tie.Need-enum-known-v
 enum-known-v c = search needs
 
+enum-told-4 : tie.Need-enum-told-4
+enum-told-4 c = search needs
+
 returns : tie.Need-returns
 unfolding outputOf
 returns c = search needs
@@ -32,7 +35,11 @@ returns-4 : tie.Need-returns-4
 unfolding outputOf
 returns-4 c = search needs
 
+returns-5 : tie.Need-returns-5
+unfolding outputOf
+returns-5 c = search needs
+
 pub output-of-spec : {M : Type 1} → statement M
 output-of-spec =
     tie.close
-    (tie.spec enum-told enum-told-2 enum-told-3 enum-known-v returns returns-2 returns-3 returns-4)
+    (tie.spec enum-told enum-told-2 enum-told-3 enum-known-v enum-told-4 returns returns-2 returns-3 returns-4 returns-5)
