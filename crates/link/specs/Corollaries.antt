@@ -131,7 +131,7 @@ unfoldable pub refusedOf : Setting → List Arrival → List (List ℕ)
 refusedOf s [] = []
 refusedOf s (a ∷ more) = cond (given (refusals s (a .octets)) =? 0) [] (a .octets ∷ []) ++ refusedOf s more
 
-unfoldable pub strays : {C : Type 0} → List (Event C) → List (List ℕ)
+unfoldable pub strays : List (Event Call) → List (List ℕ)
 strays [] = []
 strays (Writes x ∷ es) = strays es
 strays (Copy c lent ∷ es) = strays es

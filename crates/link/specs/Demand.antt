@@ -46,12 +46,12 @@ unfoldable pub inert : Setting → List ℕ → Bool
 inert s f = given (refusals s f) ≠? 0
 
 -- "Every read lent areas of the size asked for"; what arrives besides copies, in the place of frames that are gone or anywhere else, is refused.
-unfoldable pub passes : {C : Type 0} → Setting → Event C → Bool
+unfoldable pub passes : Setting → Event Call → Bool
 passes s (Writes x) = true
 passes s (Copy c lent) = enough lent
 passes s (Stray f lent) = inert s f && enough lent
 
-unfoldable pub allPass : {C : Type 0} → Setting → List (Event C) → Bool
+unfoldable pub allPass : Setting → List (Event Call) → Bool
 allPass s [] = true
 allPass s (e ∷ es) = passes s e && allPass s es
 

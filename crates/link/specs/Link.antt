@@ -73,8 +73,8 @@ pub data Event (C : Type 0) : Type 0 where
   Copy : ℕ → Lent → Event C
   Stray : List ℕ → Lent → Event C
 
--- "A frame is gone when no copy is kept": whether one of the frame that is now sent on channel c arrives, before the next frame of that channel.
--- Told of calls, or of frames, by the channel of each.
+-- "A frame is gone when no copy is kept": whether one of the frame that is now sent on channel c arrives, before the next frame of that channel. The
+-- channel of each call is given.
 unfoldable pub arrives : {C : Type 0} → (C → ℕ) → ℕ → List (Event C) → Bool
 arrives place c [] = false
 arrives place c (Writes x ∷ es) = cond (place x =? c) false (arrives place c es)
@@ -85,7 +85,7 @@ arrives place c (Stray f lent ∷ es) = arrives place c es
 abbrev pub placeIn : Setting → Call → ℕ
 placeIn s x = placeOf s (x .lane)
 
--- What happens, with frames in the places of their calls. Each call is "handed the state that the last one left".
+-- What happens, with frames in the places of their calls: each is kept, or gone. Each call is "handed the state that the last one left".
 unfoldable pub flown : Setting → Writer → List (Event Call) → List (Event Frame)
 flown s w [] = []
 flown s w (Writes x ∷ es) = Writes (frameBy s w x (arrives (placeIn s) (placeIn s x) es)) ∷ flown s ((called w x) .sender .state) es
