@@ -11,8 +11,7 @@ use Rattle.rules.specs.declared.Listener.{Listener}
 use Rattle.rules.specs.declared.Answer.{Answer}
 use Rattle.rules.specs.declared.Reader.{Reader}
 use Rattle.rules.specs.declared.Setting.{Setting}
-use Rattle.rules.specs.declared.Verdict.{Verdict}
-use Rattle.rules.specs.Calls.{setUpReader, Got, read, onVerdict, verdict, readOn, laidOut}
+use Rattle.rules.specs.Calls.{setUpReader, Got, read}
 use Rattle.rules.specs.Promises.{ReaderStarts}
 use Rattle.rules.proofs.Promises.{reader-starts-is}
 use Rattle.rules.specs.Listing.{line, lines}
@@ -20,21 +19,9 @@ use Rattle.rules.specs.Worked.{worked, packetLane}
 use Rattle.rules.specs.Settings.{settingOk, rangesOk, channelsOk, channelOk, channelsAgree, lanesOk, laneOk, lanesDiffer, kindOk, zone, freshReader, noReader, noSetting}
 use Rattle.rules.specs.Tests.{every, all}
 use lib.Seq.{take-at, drop-at}
-use Rattle.rules.proofs.States.{gap-setting}
+use Rattle.rules.proofs.Calls.{read-setting}
 use Rattle.list_worked.specs.Runs.{linesOf, Reached, GoesOn, Listed}
 use Rattle.rules.specs.Areas.{heldSize, recordsSize, unitsSize}
-
--- A read keeps the setting.
-read-setting : (r : Reader) (f h u c : List ℕ) → (read r f h u c) .taken .state .setting ≡ r .setting
-unfolding read onVerdict readOn laidOut
-read-setting r f h u c = go (verdict r f h u c)
-  where
-    go : (v : Verdict) → (onVerdict v r f h u c) .taken .state .setting ≡ r .setting
-    go (Verdict.Refused n) = refl
-    go Verdict.Idle = refl
-    go (Verdict.Counted k) = gap-setting r k _
-    go (Verdict.Read l) = gap-setting r _ _
-    go (Verdict.Repeat k) = refl
 
 -- One whole frame's line, then the lines of the rest.
 lines-step : (n k : ℕ) (r : Reader) (h u c f rest : List ℕ) → r .setting .length ≡ 32 → length f ≡ 32
