@@ -15,13 +15,13 @@ use Rattle.rules.specs.declared.Outcome.{Outcome}
 use Rattle.rules.specs.declared.Outcome.the-variants.{Done, Refused}
 use Rattle.rules.specs.declared.Verdict.{Verdict}
 use Rattle.rules.specs.Tests.{_=?_, _≠?_, given}
-use Rattle.rules.specs.Settings.{channel, lane, channelOf, readerOk}
-use Rattle.rules.specs.Frames.{vc, map, bypass, command, countIn}
+use Rattle.rules.specs.Settings.{readerOk}
+use Rattle.rules.specs.Frames.{vc, map, bypass, command}
 use Rattle.rules.specs.Refusals.{channelAt, laneAt, refusals, onChannel, passed, judged, judge}
-use Rattle.rules.specs.Calls.{setUpReader, setUpWriter, laidOut, readOn, repeatsAt, again, onVerdict, verdict, read}
+use Rattle.rules.specs.Calls.{setUpReader, setUpWriter, laidOut, readOn, again, onVerdict, verdict, read}
 use Rattle.rules.proofs.Tests.{and-left, and-right}
 use Rattle.rules.specs.Valid.{Good}
-use Rattle.rules.proofs.Calls.{verdict-cond, read-valid, read-setting, read-held}
+use Rattle.rules.proofs.Calls.{TakenOn, again-cases, verdict-cond, read-valid, read-setting, read-held}
 use Rattle.link.specs.Link.{Call, frameBy, Lent, Event, Writes, Copy, Stray, placeIn, flown, Arrival, Air, silence, sending, copied, arrivals, reads}
 use Rattle.link.specs.Demand.{lending, InOrder, enough, inert, passes, allPass, arrivalsOf}
 use Rattle.link.specs.Corollaries.{endOf, ends, refusedBy, applying, RefusedOctets, refusedOf, strays, KeptAccepted}
@@ -41,20 +41,14 @@ refusal (Verdict.Repeat c) = Done
 
 -- A repeat is not refused, as it would not be if it were none.
 again-is : (r : Reader) (f : List ℕ) (v : Verdict) → refusal (again r f v) ≡ refusal v
-unfolding again
-again-is r f (Verdict.Refused n) = refl
-again-is r f Verdict.Idle = refl
-again-is r f (Verdict.Counted c) = go (repeatsAt r c (countIn (channel (r .setting) c) f))
+again-is r f v = again-cases r f (λ (w : Verdict). refusal w ≡ refusal v) v (λ n. refl) (λ c t e. on v c t)
   where
-    go : (t : Bool) → refusal (cond t (Verdict.Repeat c) (Verdict.Counted c)) ≡ Done
-    go true = refl
-    go false = refl
-again-is r f (Verdict.Read l) = go (repeatsAt r ((lane (r .setting) l) .channel) (countIn (channelOf (r .setting) l) f))
-  where
-    go : (t : Bool) → refusal (cond t (Verdict.Repeat ((lane (r .setting) l) .channel)) (Verdict.Read l)) ≡ Done
-    go true = refl
-    go false = refl
-again-is r f (Verdict.Repeat c) = refl
+    on : (v : Verdict) (c : ℕ) → TakenOn (r .setting) v c → Done ≡ refusal v
+    on (Verdict.Refused n) c t = absurd t
+    on Verdict.Idle c t = refl
+    on (Verdict.Counted k) c t = refl
+    on (Verdict.Read l) c t = refl
+    on (Verdict.Repeat k) c t = refl
 
 judged-is : (s : Setting) (f : List ℕ) (n : ℕ) → refusal (judged s f n) ≡ refusedBy n
 unfolding judged refusedBy passed onChannel

@@ -129,23 +129,61 @@ Ruled r f h u c (Verdict.Counted k) = Ordered r f h u c (Verdict.Counted k)
 Ruled r f h u c (Verdict.Read l) = Ordered r f h u c (Verdict.Read l)
 Ruled r f h u c (Verdict.Repeat k) = Ordered r f h u c (Verdict.Repeat k)
 
+-- What would be Counted or Read, on channel c.
+abbrev pub TakenOn : Setting → Verdict → ℕ → Type 0
+TakenOn s (Verdict.Refused n) c = ⊥
+TakenOn s Verdict.Idle c = ⊥
+TakenOn s (Verdict.Counted k) c = k ≡ c
+TakenOn s (Verdict.Read l) c = (lane s l) .channel ≡ c
+TakenOn s (Verdict.Repeat k) c = ⊥
+
 module _ (r : Reader) (f : List ℕ) where
+  abbrev pub repeatsOn : ℕ → Bool
+  repeatsOn c = repeatsAt r c (countIn (channel (r .setting) c) f)
+
+  -- It has not the last count taken there.
+  abbrev pub New : Verdict → Type 0
+  New v = (c : ℕ) → TakenOn (r .setting) v c → repeatsOn c ≡ false
+
+  -- What is shown of a frame that is no repeat, and of a repeat on its channel, is shown of what it is.
+  pub again-cases : (P : Verdict → Type 0) (v : Verdict) → (New v → P v)
+      → ((c : ℕ) → TakenOn (r .setting) v c → repeatsOn c ≡ true → P (Verdict.Repeat c)) → P (again r f v)
+  unfolding again
+  again-cases P (Verdict.Refused n) a b = a (λ c t. absurd t)
+  again-cases P Verdict.Idle a b = a (λ c t. absurd t)
+  again-cases P (Verdict.Counted k) a b = go (repeatsOn k) refl
+    where
+      go : (t : Bool) → repeatsOn k ≡ t → P (cond t (Verdict.Repeat k) (Verdict.Counted k))
+      go true e = b k refl e
+      go false e = a (λ c q. rw (← q) e)
+  again-cases P (Verdict.Read l) a b = go (repeatsOn ((lane (r .setting) l) .channel)) refl
+    where
+      go : (t : Bool) → repeatsOn ((lane (r .setting) l) .channel) ≡ t → P (cond t (Verdict.Repeat ((lane (r .setting) l) .channel)) (Verdict.Read l))
+      go true e = b _ refl e
+      go false e = a (λ c q. rw (← q) e)
+  again-cases P (Verdict.Repeat k) a b = a (λ c t. absurd t)
+
+  pub again-taken : (v : Verdict) (c : ℕ) → TakenOn (r .setting) v c → repeatsOn c ≡ true → again r f v ≡ Verdict.Repeat c
+  unfolding again
+  again-taken (Verdict.Refused n) c t e = absurd t
+  again-taken Verdict.Idle c t e = absurd t
+  again-taken (Verdict.Counted k) c t e = rw (t, e)
+  again-taken (Verdict.Read l) c t e = rw (t, e)
+  again-taken (Verdict.Repeat k) c t e = absurd t
+
+  pub again-new : (v : Verdict) → New (again r f v)
+  again-new v = again-cases New v (λ n. n) (λ c t e d q. absurd q)
+
   -- What the checks say of a repeat holds of it.
   pub again-judged : GoodReader r → (v : Verdict) → Judged (r .setting) f v → Judged (r .setting) f (again r f v)
-  unfolding again
-  again-judged g (Verdict.Refused n) j = j
-  again-judged g Verdict.Idle j = j
-  again-judged g (Verdict.Counted k) j = go (repeatsAt r k (countIn (channel (r .setting) k) f))
+  again-judged g v j = again-cases (Judged (r .setting) f) v (λ n. j) (λ c t e. on v j c t)
     where
-      go : (t : Bool) → Judged (r .setting) f (cond t (Verdict.Repeat k) (Verdict.Counted k))
-      go true = j
-      go false = j
-  again-judged g (Verdict.Read l) j = go (repeatsAt r ((lane (r .setting) l) .channel) (countIn (channelOf (r .setting) l) f))
-    where
-      go : (t : Bool) → Judged (r .setting) f (cond t (Verdict.Repeat ((lane (r .setting) l) .channel)) (Verdict.Read l))
-      go true = (g .setting .lanes l (j .numbered) .channel, j .whole)
-      go false = j
-  again-judged g (Verdict.Repeat k) j = j
+      on : (v : Verdict) → Judged (r .setting) f v → (c : ℕ) → TakenOn (r .setting) v c → Judged (r .setting) f (Verdict.Repeat c)
+      on (Verdict.Refused n) j c t = absurd t
+      on Verdict.Idle j c t = absurd t
+      on (Verdict.Counted k) j c t = rw (← t) j
+      on (Verdict.Read l) j c t = rw (← t) (g .setting .lanes l (j .numbered) .channel, j .whole)
+      on (Verdict.Repeat k) j c t = absurd t
 
 module _ (r : Reader) (f h u c : List ℕ) where
   ruled : (v : Verdict) → Ordered r f h u c v → Ruled r f h u c v

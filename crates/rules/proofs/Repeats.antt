@@ -13,7 +13,7 @@ use Rattle.rules.specs.declared.Reader.{Reader}
 use Rattle.rules.specs.declared.Class.{Class}
 use Rattle.rules.specs.declared.Place.the-variants.{At}
 use Rattle.rules.specs.declared.Verdict.{Verdict}
-use Rattle.rules.specs.Settings.{countAt, channel, lane, channelOf, expectOn, expect, expecting, readerOk}
+use Rattle.rules.specs.Settings.{countAt, channel, lane, expectOn, expect, expecting, readerOk}
 use Rattle.rules.specs.Frames.{countIn}
 use Rattle.rules.specs.Reading.{expected, repeats, gap}
 use Rattle.rules.specs.Refusals.{judge}
@@ -24,7 +24,7 @@ use Rattle.rules.proofs.Counts.{counts-many, no-repeat-few, taken-repea
 use Rattle.rules.proofs.Valid.{good-reader}
 use Rattle.rules.proofs.Judged.{Judged, judge-facts}
 use Rattle.rules.proofs.States.{expect-same, gap-setting, gap-expects}
-use Rattle.rules.proofs.Calls.{again-judged, verdict-cond, read-valid, read-setting}
+use Rattle.rules.proofs.Calls.{TakenOn, repeatsOn, New, again-cases, again-taken, again-new, again-judged, verdict-cond, read-valid, read-setting}
 use Rattle.rules.proofs.Looks.{looked-cond}
 
 -- A frame's count fits its octets.
@@ -34,34 +34,7 @@ count-below s c f o = num-part ((channel s c) .octets) (drop countAt f) (octets-
 
 -- ---- before a frame that is no repeat
 
--- What is Counted or Read has not the last count taken.
-abbrev pub New : Reader → List ℕ → Verdict → Type 0
-New r f (Verdict.Refused n) = Unit {0}
-New r f Verdict.Idle = Unit {0}
-New r f (Verdict.Counted c) = repeatsAt r c (countIn (channel (r .setting) c) f) ≡ false
-New r f (Verdict.Read l) = repeatsAt r ((lane (r .setting) l) .channel) (countIn (channelOf (r .setting) l) f) ≡ false
-New r f (Verdict.Repeat c) = Unit {0}
-
 module _ (r : Reader) (f : List ℕ) where
-  pub again-new : (v : Verdict) → New r f (again r f v)
-  unfolding again
-  again-new (Verdict.Refused n) = tt
-  again-new Verdict.Idle = tt
-  again-new (Verdict.Counted c) = go (repeatsAt r c (countIn (channel (r .setting) c) f)) refl
-    where
-      go : (t : Bool) → repeatsAt r c (countIn (channel (r .setting) c) f) ≡ t → New r f (cond t (Verdict.Repeat c) (Verdict.Counted c))
-      go true e = tt
-      go false e = e
-  again-new (Verdict.Read l) = go (repeatsAt r c (countIn (channel (r .setting) c) f)) refl
-    where
-      c : ℕ
-      c = (lane (r .setting) l) .channel
-
-      go : (t : Bool) → repeatsAt r c (countIn (channel (r .setting) c) f) ≡ t → New r f (cond t (Verdict.Repeat c) (Verdict.Read l))
-      go true e = tt
-      go false e = e
-  again-new (Verdict.Repeat c) = tt
-
   -- "Missing is now at most 256^n - 2", of a look's answer; a read's is the same (`Looks.same-answers`).
   pub missing-few : Octets f → (c : ℕ) → (look r f) .channel ≡ At c → (look r f) .missing + 2 ≤ 256 ^ (channel (r .setting) c) .octets
   unfolding look onLook repeatsAt missingAt
@@ -70,7 +43,7 @@ module _ (r : Reader) (f : List ℕ) where
       Few : Verdict → Type 0
       Few v = (onLook v r f) .channel ≡ At c → (onLook v r f) .missing + 2 ≤ 256 ^ (channel (r .setting) c) .octets
 
-      on : GoodReader r → (d : ℕ) → d < r .setting .listed → d ≡ c → repeatsAt r d (countIn (channel (r .setting) d) f) ≡ false
+      on : GoodReader r → (d : ℕ) → d < r .setting .listed → d ≡ c → repeatsOn r f d ≡ false
           → missingAt r d (countIn (channel (r .setting) d) f) + 2 ≤ 256 ^ (channel (r .setting) c) .octets
       on g d h q n =
           rw (← q) (no-repeat-few _ (g .setting .channels d h .one) (expect r d) _ (g .counts d h) (count-below (r .setting) d f o) n)
@@ -81,10 +54,10 @@ module _ (r : Reader) (f : List ℕ) where
       few : (v : Verdict) → GoodReader r → Judged (r .setting) f v → New r f v → Few v
       few (Verdict.Refused n) g j w e = none n e
       few Verdict.Idle g j n e = let z : _≡_ {A = ℕ} 0 1 = cc in absurd (omega arith)
-      few (Verdict.Counted d) g j n e = let q : d ≡ c = cc in on g d (j .0) q n
+      few (Verdict.Counted d) g j n e = let q : d ≡ c = cc in on g d (j .0) q (n d refl)
       few (Verdict.Read l) g j n e =
           let q : (lane (r .setting) l) .channel ≡ c = cc in
-          on g ((lane (r .setting) l) .channel) (g .setting .lanes l (j .numbered) .channel) q n
+          on g ((lane (r .setting) l) .channel) (g .setting .lanes l (j .numbered) .channel) q (n _ refl)
       few (Verdict.Repeat d) g j n e =
           let q : d ≡ c = cc in
           rw (← q) (omega (arith, counts-many ((channel (r .setting) d) .octets) (g .setting .channels d (j .0) .one)))
@@ -93,7 +66,7 @@ module _ (r : Reader) (f : List ℕ) where
       valid true e =
           let g : GoodReader r = good-reader r e in
           few (again r f (judge (r .setting) f)) g (again-judged r f g (judge (r .setting) f) (judge-facts (r .setting) f))
-          (again-new (judge (r .setting) f))
+          (again-new r f (judge (r .setting) f))
       valid false e = none 1
 
 -- ---- a second copy
@@ -133,48 +106,36 @@ module _ (r : Reader) (f h u c u′ c′ : List ℕ) (counts : length (r .expect
       onVerdict (again (o .taken .state) f v) (o .taken .state) f (o .heldArea) u′ c′
       ≡ unchanged (secondly (o .taken .answer .class)) (o .taken .state) (o .heldArea) u′ c′
 
-  taken-on : (d : ℕ) → d < s .listed → (r′ : Reader) → r′ .setting ≡ s
-      → r′ .expects ≡ expecting (r .expects) d (expected ((channel s d) .octets) (countIn (channel s d) f))
-      → repeatsAt r′ d (countIn (channel s d) f) ≡ true
-  taken-on d h r′ es ee =
+  -- What takes the frame's count on channel d makes a repeat of it.
+  repeated : (v : Verdict) (d : ℕ) → TakenOn s v d → d < s .listed → (next : Reader) → next .setting ≡ s
+      → next .expects ≡ expecting (r .expects) d (expected ((channel s d) .octets) (countIn (channel s d) f)) → again next f v ≡ Verdict.Repeat d
+  repeated v d t h next es ee =
       let few = good-reader r ok .setting .listed in
-      repeats-after r d (countIn (channel s d) f) (omega (arith, h, few, counts)) (omega (arith, h, few, known)) (count-below s d f octets) r′ es ee
+      let i : d < length (r .expects .counts) = omega (arith, h, few, counts) in
+      let j : d < length (r .expects .known) = omega (arith, h, few, known) in
+      let e = repeats-after r d (countIn (channel s d) f) i j (count-below s d f octets) next es ee in
+      again-taken next f v d (subst (λ (y : Setting). TakenOn y v d) (sym es) t)
+      (ap (λ (y : Setting). repeatsAt next d (countIn (channel y d) f)) es ∙ e)
+
+  taken : (v : Verdict) → Judged s f v → Second v (onVerdict v r f h u c)
+  unfolding again onVerdict readOn laidOut secondly
+  taken (Verdict.Refused n) j = refl
+  taken Verdict.Idle j = refl
+  taken (Verdict.Counted d) j =
+      let next : Reader = (gap r d (countIn (channel s d) f)) .state in
+      ap (λ (w : Verdict). onVerdict w next f h u′ c′) (repeated (Verdict.Counted d) d refl (j .0) next (gap-setting r d _) (gap-expects r d _))
+  taken (Verdict.Read l) j =
+      let d : ℕ = (lane s l) .channel in
+      let o : Got = onVerdict (Verdict.Read l) r f h u c in
+      ap (λ (w : Verdict). onVerdict w (o .taken .state) f (o .heldArea) u′ c′)
+      (repeated (Verdict.Read l) d refl (good-reader r ok .setting .lanes l (j .numbered) .channel) (o .taken .state) (gap-setting r d _) (gap-expects r d _))
+  taken (Verdict.Repeat d) j = refl
 
   second : (v : Verdict) → Judged s f v → Second v (onVerdict (again r f v) r f h u c)
-  unfolding again onVerdict readOn laidOut secondly
-  second (Verdict.Refused n) j = refl
-  second Verdict.Idle j = refl
-  second (Verdict.Counted d) j = go (repeatsAt r d (countIn (channel s d) f)) refl
-    where
-      left : Reader
-      left = (gap r d (countIn (channel s d) f)) .state
-
-      go : (t : Bool) → repeatsAt r d (countIn (channel s d) f) ≡ t
-          → Second (Verdict.Counted d) (onVerdict (cond t (Verdict.Repeat d) (Verdict.Counted d)) r f h u c)
-      go true e = rw e
-      go false e =
-          let q : repeatsAt left d (countIn (channel (left .setting) d) f) ≡ true =
-          ap (λ (y : Setting). repeatsAt left d (countIn (channel y d) f)) (gap-setting r d _)
-          ∙ taken-on d (j .0) left (gap-setting r d _) (gap-expects r d _) in
-          rw q
-  second (Verdict.Read l) j = go (repeatsAt r d (countIn (channel s d) f)) refl
-    where
-      d : ℕ
-      d = (lane s l) .channel
-
-      left : Reader
-      left = (gap r d (countIn (channel s d) f)) .state
-
-      go : (t : Bool) → repeatsAt r d (countIn (channel s d) f) ≡ t
-          → Second (Verdict.Read l) (onVerdict (cond t (Verdict.Repeat d) (Verdict.Read l)) r f h u c)
-      go true e = rw e
-      go false e =
-          let next : Reader = (onVerdict (Verdict.Read l) r f h u c) .taken .state in
-          let q : repeatsAt next ((lane (left .setting) l) .channel) (countIn (channelOf (left .setting) l) f) ≡ true =
-          ap (λ (y : Setting). repeatsAt next ((lane y l) .channel) (countIn (channelOf y l) f)) (gap-setting r d _)
-          ∙ taken-on d (good-reader r ok .setting .lanes l (j .numbered) .channel) next (gap-setting r d _) (gap-expects r d _) in
-          rw q
-  second (Verdict.Repeat d) j = refl
+  unfolding onVerdict secondly
+  second v j =
+      again-cases r f (λ (w : Verdict). Second v (onVerdict w r f h u c)) v (λ n. taken v j)
+      (λ d t e. ap (λ (w : Verdict). onVerdict w r f h u′ c′) (again-taken r f v d t e))
 
   -- A second copy right after the first changes nothing.
   pub second-copy : areasShort h u c ≡ false → areasShort ((read r f h u c) .heldArea) u′ c′ ≡ false

@@ -1,8 +1,8 @@
 -- `gaps::repeats_of` meets its contract: what is expected is below 256^n, so that nothing wraps at 2^64, and the sum is the rule's.
 -- Where no count is expected the flag alone says no, whatever number stands there.
 use Prim.Native.Nat.{ℕ, _%_, _+_, _-_}
-use mathlib.Core.Path.{_≡_, refl, ap, _∙_}
-use mathlib.Core.Bool.{Bool, true, false, _&&_}
+use mathlib.Core.Path.{sym, ap, _∙_}
+use mathlib.Core.Bool.{and-true, and-false}
 use native.Mathlib.Omega.{arith}
 use borrow.Author.Tests.{eq-eqb, ne-eqb}
 use Rattle.rules.specs.Reading.{lastTaken, repeats}
@@ -11,14 +11,6 @@ use Rattle.gaps.proofs.Gaps.{modulus-is, modulus-small}
 use borrow.Author.Needs.{needs}
 use Rattle.gaps.proofs.repeats_of.Statement.{statement}
 use Rattle.gaps.proofs.repeats_of.Tie as tie
-
-and-true : (b : Bool) → b ≡ b && true
-and-true true = refl
-and-true false = refl
-
-and-false : (b : Bool) → false ≡ b && false
-and-false true = refl
-and-false false = refl
 
 modulus-requires : tie.Need-modulus-requires
 modulus-requires c κs = search needs
@@ -50,14 +42,14 @@ unfolding repeats lastTaken
 returns c =
     let a = c .before .before .before in
     let e = modulus-is (a .args .n) (c .before .before .modulus .result) (a .pre .0) (c .before .before .modulus .ensures) in
-    rw (eq-eqb _ _ (c .if1 .taken ∙ ap (λ (m : ℕ). (a .args .e .count + m - 1) % m) e)) (and-true (a .args .e .known))
+    rw (eq-eqb _ _ (c .if1 .taken ∙ ap (λ (m : ℕ). (a .args .e .count + m - 1) % m) e)) (sym (and-true (a .args .e .known)))
 
 returns-2 : tie.Need-returns-2
 unfolding repeats lastTaken
 returns-2 c =
     let a = c .before .before .before in
     let e = modulus-is (a .args .n) (c .before .before .modulus .result) (a .pre .0) (c .before .before .modulus .ensures) in
-    rw (ne-eqb _ _ (rw e at (c .if1 .left))) (and-false (a .args .e .known))
+    rw (ne-eqb _ _ (rw e at (c .if1 .left))) (sym (and-false (a .args .e .known)))
 
 pub repeats-of-spec : {M : Type 1} → statement M
 repeats-of-spec =
