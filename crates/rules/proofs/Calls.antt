@@ -5,7 +5,8 @@ use native.Mathlib.Nat.{zero-lt-suc, le-trans}
 use native.Mathlib.Omega.{arith}
 use mathlib.Core.Bool.{Bool, true, false, cond, not}
 use mathlib.Core.List.{List}
-use lib.ListN.{length, take, drop, length-take}
+use lib.ListN.{length, take, drop, length-take, length-drop}
+use lib.Seq.{length-take-le}
 use borrow.Author.Tests.{leb-false, ltb-false, eqb-true, not-false}
 use Rattle.rules.specs.declared.Channel.{Channel}
 use Rattle.rules.specs.declared.Setting.{Setting}
@@ -22,14 +23,14 @@ use Rattle.rules.specs.Areas.{joined, part, heldSize, partSize, recordSi
 use Rattle.rules.specs.Settings.{channel, lane, channelOf, heldBy, number, zoneAt, zoneFor, zone, ocfOctets, settingOk, readerOk, writerOk, freshReader, freshWriter, noReader, noWriter}
 use Rattle.rules.specs.Frames.{countIn, ruleIn, pointerIn, zoneIn, pointsTo}
 use Rattle.rules.specs.Writing.{batchOk, frames}
-use Rattle.rules.specs.Reading.{gap, octetsOf, Made}
+use Rattle.rules.specs.Reading.{gap, octetsOf, Made, keeps}
 use Rattle.rules.specs.Refusals.{refusals, judged, judge}
-use Rattle.rules.specs.Calls.{setUpReader, setUpWriter, writeRefusals, written, write, areasShort, bare, laidOut, madeBy, readOn, repeatsAt, again, onVerdict, readRefusals, verdict, read}
+use Rattle.rules.specs.Calls.{setUpReader, setUpWriter, writeRefusals, written, write, areasShort, bare, laidOut, holding, madeBy, readOn, repeatsAt, again, onVerdict, readRefusals, verdict, read}
 use Rattle.rules.proofs.Tests.{or-none, given-zero}
 use Rattle.rules.proofs.Areas.{length-laid}
-use Rattle.rules.specs.Valid.{GoodKind, GoodReader, GoodWriter}
+use Rattle.rules.specs.Valid.{GoodKind, GoodSlot, GoodReader, GoodWriter}
 use Rattle.rules.proofs.Valid.{good-reader, good-writer, good-channelOf}
-use Rattle.rules.proofs.Lanes.{total, lane-total, lane-below, lane-few}
+use Rattle.rules.proofs.Lanes.{total, lane-total, lane-below, lane-few, Sound, MadeSound, lane-sound}
 use Rattle.rules.proofs.Judged.{Judged, judge-facts}
 use Rattle.rules.proofs.States.{reader-ok, writer-ok, fresh-reader, fresh-writer, no-reader, no-writer, gap-setting, good-gap, good-slot, frames-few, good-batch, good-after}
 
@@ -251,7 +252,7 @@ module _ (r : Reader) (f h : List ℕ) (l : ℕ) (g : GoodReader r) (lh : l < r 
   lane-kind = good-gapped .setting .lanes l still-numbered .kind
 
   -- It holds fewer octets than its longest unit.
-  pub made-below : (c : Channel) → length ((madeBy after l c f h) .held) < (lane (after .state .setting) l) .longest
+  pub made-below : (c : Channel) → length ((madeBy after l c f h) .held .octets) < (lane (after .state .setting) l) .longest
   unfolding madeBy
   made-below c = lane-below _ _ _ _ _ _ (lane-kind .enough)
 
@@ -263,8 +264,31 @@ module _ (r : Reader) (f h : List ℕ) (l : ℕ) (g : GoodReader r) (lh : l < r 
   few-held : length (take (heldBy (after .state) l) (part l h)) ≤ 8191
   few-held =
       let a = length-take (heldBy (after .state) l) (part l h) in
-      let b = good-gapped .held l still-numbered in
+      let b = good-gapped .slots l still-numbered .below in
       omega (arith, a, b, lane-kind .most)
+
+  -- A unit, handed out or held, has an octet in each frame that carries it.
+  module _ (full : length h ≡ heldSize) where
+    pub held-long : length (take (heldBy (after .state) l) (part l h)) ≡ heldBy (after .state) l
+    held-long =
+        let a = length-take partSize (drop (partSize * l) h) in
+        let b = length-drop (partSize * l) h in
+        let x = good-gapped .slots l still-numbered in
+        length-take-le (heldBy (after .state) l) (part l h)
+        (omega (arith, a, b, x .below, lane-kind .most, good-gapped .setting .numbered, still-numbered))
+
+    held-sound : Sound (holding (after .state) l h)
+    held-sound =
+        let x = good-gapped .slots l still-numbered in
+        record { within = rw held-long (x .within); some = λ k. x .some (rw held-long at k) }
+
+    pub made-sound : (c : Channel) → MadeSound (madeBy after l c f h)
+    unfolding madeBy
+    made-sound c = lane-sound _ _ _ _ _ _ held-sound
+
+    -- So what it keeps is as it should be.
+    pub kept-good : (c : Channel) → GoodSlot ((lane (after .state .setting) l) .longest) (keeps (madeBy after l c f h))
+    kept-good c = record { below = made-below c; within = made-sound c .held .within; some = made-sound c .held .some }
 
   module _ (whole : length f ≡ r .setting .length) where
     small-zone : (c : Channel) → length (zoneIn (after .state .setting) c f) ≤ 4086
@@ -279,13 +303,22 @@ module _ (r : Reader) (f h : List ℕ) (l : ℕ) (g : GoodReader r) (lh : l < r 
     made-fits c =
         let kind = (lane (after .state .setting) l) .kind in
         let longest = (lane (after .state .setting) l) .longest in
-        let held = take (heldBy (after .state) l) (part l h) in
+        let held = holding (after .state) l h in
         let place = pointsTo (pointerIn (after .state .setting) c f) in
         let zone = zoneIn (after .state .setting) c f in
         let t = lane-total kind longest (ruleIn (after .state .setting) c f) held place zone in
         let n = lane-few kind longest (ruleIn (after .state .setting) c f) held place zone in
         let z = small-zone c in
         record { octets = omega (arith, t, few-held, z); records = omega (arith, n, z) }
+
+-- ---- areas that are not too short
+
+pub areas-long : (h u c : List ℕ) → areasShort h u c ≡ false → (length h ≡ heldSize) × (unitsSize ≤ length u) × (recordsSize ≤ length c)
+unfolding areasShort
+areas-long h u c e =
+    let a = or-none _ _ e in
+    let b = or-none _ _ (a .0) in
+    (eqb-true _ _ (not-false _ (b .0)), ltb-false _ _ (b .1), ltb-false _ _ (a .1))
 
 -- ---- a valid state stays valid, and what is handed out fits, over every read
 
@@ -301,7 +334,7 @@ read-valid r f h u c ok = go (verdict r f h u c) (verdict-facts r f h u c)
         unfold onVerdict readOn laidOut in
         let k : ℕ = countIn (channelOf (r .setting) l) f in
         reader-ok _ (good-slot _ (good-gap r (o .good) ((lane (r .setting) l) .channel) k) l _
-        (made-below r f h l (o .good) (o .judged .numbered) k (channelOf (r .setting) l)))
+        (kept-good r f h l (o .good) (o .judged .numbered) k (areas-long h u c (o .areas) .0) (channelOf (r .setting) l)))
     go (Verdict.Repeat k) o = unfold onVerdict in ok
 
 -- A read leaves the setting, and the held area's length.
@@ -333,7 +366,7 @@ read-held r f h u c full = go (verdict r f h u c) (verdict-facts r f h u c)
         length-laid h (partSize * l) _ (omega (arith, few, most, same, o .judged .numbered, o .good .setting .numbered)) ∙ full
     go (Verdict.Repeat k) o = unfold onVerdict in full
 
--- Units and records of any frame fit 12,288 and 9,600 octets.
+-- Units and records of any frame fit 12,288 and 14,400 octets.
 pub record Small (a : Answer) : Type 0 where
   pub octets : a .octets ≤ unitsSize
   pub records : recordSize * a .units ≤ recordsSize

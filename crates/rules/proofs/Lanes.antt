@@ -20,7 +20,7 @@ use Rattle.rules.specs.declared.Fate.the-variants.{Hand, Blank, Hold, Dr
 use Rattle.rules.specs.Tests.{_≤?_, _<?_, _=?_}
 use Rattle.rules.specs.Areas.{joined}
 use Rattle.rules.specs.Packets.{measure}
-use Rattle.rules.specs.Reading.{DataUnit, unitFrom, octetsOf, Made, nothing, drops, fills, hands, idles, both, become, endFate, joinedFate, leadFate, lead, sizedNext, nextOf, front, walkUpTo, walk, packetLane, unitFate, followFate, portion, accessLane, laneStep}
+use Rattle.rules.specs.Reading.{DataUnit, noUnit, carries, unitFrom, unitOf, octetsOf, Made, nothing, drops, fills, hands, idles, both, become, endFate, joinedFate, leadFate, lead, sizedNext, nextOf, front, walkUpTo, walk, packetLane, unitFate, followFate, portion, accessLane, laneStep}
 use Rattle.rules.proofs.Areas.{joined-append}
 use Rattle.rules.proofs.Measures.{measure-cases, measure-none}
 use Rattle.rules.specs.Valid.{least}
@@ -112,11 +112,11 @@ module _ (longest : ℕ) where
       → front (nextOf longest (measure xs) (length xs)) xs f ≡ front (nextOf longest (measure xs) (length xs)) xs g
   front-same xs f g h =
       next-cases (λ (s : Next). front s xs f ≡ front s xs g) longest xs
-      (λ n a b c. ap (hands (unitFrom [] (take n xs))) (h (drop n xs) (rw length-drop (omega arith))))
+      (λ n a b c. ap (hands (unitOf (take n xs))) (h (drop n xs) (rw length-drop (omega arith))))
       (λ n a b c. ap (idles n) (h (drop n xs) (rw length-drop (omega arith)))) (λ k. refl) refl
 
   none-left : (n : ℕ) (xs : List ℕ) → length xs ≤ 0 → walkUpTo longest n xs ≡ nothing
-  unfolding walkUpTo nextOf
+  unfolding walkUpTo nextOf carries
   none-left zero xs h = refl
   none-left (suc n) [] h = rw measure-none
   none-left (suc n) (x ∷ xs) h = absurd (not-suc-le-zero h)
@@ -137,7 +137,7 @@ module _ (longest : ℕ) where
 
 -- All octets that something is said of.
 unfoldable pub total : Made → ℕ
-total m = length (joined (octetsOf (m .units))) + (length (m .held) + (m .idle + (m .fill + m .dropped)))
+total m = length (joined (octetsOf (m .units))) + (length (m .held .octets) + (m .idle + (m .fill + m .dropped)))
 
 -- Units one after the other, back to back.
 pub octets-append : (us vs : List DataUnit) → joined (octetsOf (us ++ vs)) ≡ joined (octetsOf us) ++ joined (octetsOf vs)
@@ -146,10 +146,10 @@ octets-append us vs = ap joined (map-append (λ (u : DataUnit). u .octets) us vs
 pub octets-both : (us vs : List DataUnit) → length (joined (octetsOf (us ++ vs))) ≡ length (joined (octetsOf us)) + length (joined (octetsOf vs))
 octets-both us vs = ap length (octets-append us vs) ∙ length-append (joined (octetsOf us)) (joined (octetsOf vs))
 
-both-total : (a b : Made) → a .held ≡ [] → total (both a b) ≡ total a + total b
+both-total : (a b : Made) → a .held ≡ noUnit → total (both a b) ≡ total a + total b
 unfolding total both
 both-total a b h =
-    let z : length (a .held) ≡ 0 = ap length h in
+    let z : length (a .held .octets) ≡ 0 = ap (λ (u : DataUnit). length (u .octets)) h in
     let j = octets-both (a .units) (b .units) in
     omega arith
 
@@ -161,10 +161,10 @@ become-total Hold u = omega arith
 become-total Drop u = omega arith
 
 -- Only a lead that may go on is held.
-pub lead-held : (longest : ℕ) (held xs : List ℕ) → (lead longest false held xs) .held ≡ []
+pub lead-held : (longest : ℕ) (held : DataUnit) (xs : List ℕ) → (lead longest false held xs) .held ≡ noUnit
 unfolding lead
 lead-held longest held xs =
-    lead-cases (λ (f : Fate). (become f (unitFrom held xs)) .held ≡ []) longest false held xs (λ h. refl) refl (λ e h. absurd (false≢true e)) refl
+    lead-cases (λ (f : Fate). (become f (unitFrom held xs)) .held ≡ noUnit) longest false (held .octets) xs (λ h. refl) refl (λ e h. absurd (false≢true e)) refl
 
 module _ (longest : ℕ) where
   front-total : (xs : List ℕ) (rest : List ℕ → Made) → ((ys : List ℕ) → length ys < length xs → total (rest ys) ≡ length ys)
@@ -189,12 +189,13 @@ module _ (longest : ℕ) where
   upTo-total zero xs h = omega arith
   upTo-total (suc n) xs h = front-total xs (walkUpTo longest n) (λ ys l. upTo-total n ys (omega arith))
 
-  lead-total : (on : Bool) (held xs : List ℕ) → total (lead longest on held xs) ≡ length held + length xs
+  lead-total : (on : Bool) (held : DataUnit) (xs : List ℕ) → total (lead longest on held xs) ≡ length (held .octets) + length xs
   unfolding lead
   lead-total on held xs =
-      become-total (leadFate longest on (measure (held ++ xs)) (length held) (length xs)) (unitFrom held xs) ∙ length-append held xs
+      become-total (leadFate longest on (measure (held .octets ++ xs)) (length (held .octets)) (length xs)) (unitFrom held xs)
+      ∙ length-append (held .octets) xs
 
-  packet-total : (held : List ℕ) (p : Place) (z : List ℕ) → total (packetLane longest held p z) ≡ length held + length z
+  packet-total : (held : DataUnit) (p : Place) (z : List ℕ) → total (packetLane longest held p z) ≡ length (held .octets) + length z
   unfolding packetLane walk
   packet-total held (At p) z =
       let a = lead-total false held (take p z) in
@@ -204,15 +205,16 @@ module _ (longest : ℕ) where
       both-total (lead longest false held (take p z)) (walk longest (drop p z)) (lead-held longest held (take p z)) ∙ omega (arith, a, b, c, d)
   packet-total held Nowhere z = lead-total true held z
 
-  portion-total : (finished begins : Bool) (held xs : List ℕ) → total (portion longest finished begins held xs) ≡ length held + length xs
+  portion-total : (finished begins : Bool) (held : DataUnit) (xs : List ℕ)
+      → total (portion longest finished begins held xs) ≡ length (held .octets) + length xs
   unfolding portion total
   portion-total finished true held xs =
-      both-total (drops (length held)) (become (unitFate longest finished (length xs)) (unitFrom [] xs)) refl
-      ∙ ap₂ _+_ (become-total Drop (unitFrom [] held)) (become-total (unitFate longest finished (length xs)) (unitFrom [] xs))
+      both-total (drops (length (held .octets))) (become (unitFate longest finished (length xs)) (unitOf xs)) refl
+      ∙ ap₂ _+_ (become-total Drop held) (become-total (unitFate longest finished (length xs)) (unitOf xs))
   portion-total finished false held xs =
-      become-total (followFate longest finished (length held) (length xs)) (unitFrom held xs) ∙ length-append held xs
+      become-total (followFate longest finished (length (held .octets)) (length xs)) (unitFrom held xs) ∙ length-append (held .octets) xs
 
-  access-total : (begins : Bool) (held : List ℕ) (p : Place) (z : List ℕ) → total (accessLane longest begins held p z) ≡ length held + length z
+  access-total : (begins : Bool) (held : DataUnit) (p : Place) (z : List ℕ) → total (accessLane longest begins held p z) ≡ length (held .octets) + length z
   unfolding accessLane total joined
   access-total begins held (At p) z =
       let a = portion-total true begins held (take (p + 1) z) in
@@ -221,54 +223,136 @@ module _ (longest : ℕ) where
   access-total begins held Nowhere z = portion-total false begins held z
 
 -- Where every octet goes: held ones and those of the zone are handed out, held, idle, fill or dropped.
-pub lane-total : (k : Kind) (longest rule : ℕ) (held : List ℕ) (p : Place) (z : List ℕ)
-    → total (laneStep k longest rule held p z) ≡ length held + length z
+pub lane-total : (k : Kind) (longest rule : ℕ) (held : DataUnit) (p : Place) (z : List ℕ)
+    → total (laneStep k longest rule held p z) ≡ length (held .octets) + length z
 unfolding laneStep
 lane-total Packets longest rule held p z = packet-total longest held p z
 lane-total Access longest rule held p z = access-total longest (rule =? 0b001) held p z
 
 -- ---- what is held is less than the longest unit
 
+abbrev few : ℕ → Made → Type 0
+few longest m = length (m .held .octets) < longest
+
 module _ (longest : ℕ) (seven : 7 ≤ longest) where
-  upTo-below : (n : ℕ) (xs : List ℕ) → length ((walkUpTo longest n xs) .held) < longest
+  upTo-below : (n : ℕ) (xs : List ℕ) → few longest (walkUpTo longest n xs)
   unfolding walkUpTo
   upTo-below zero xs = omega arith
   upTo-below (suc n) xs =
-      next-cases (λ (s : Next). length ((front s xs (walkUpTo longest n)) .held) < longest) longest xs (λ k a b c. upTo-below n (drop k xs))
+      next-cases (λ (s : Next). few longest (front s xs (walkUpTo longest n))) longest xs (λ k a b c. upTo-below n (drop k xs))
       (λ k a b c. upTo-below n (drop k xs)) (λ h. h seven) (omega arith)
 
-  lead-below : (on : Bool) (held xs : List ℕ) → length ((lead longest on held xs) .held) < longest
+  lead-below : (on : Bool) (held : DataUnit) (xs : List ℕ) → few longest (lead longest on held xs)
   unfolding lead
   lead-below on held xs =
-      let e = length-append held xs in
-      lead-cases (λ (f : Fate). length ((become f (unitFrom held xs)) .held) < longest) longest on held xs (λ h. omega arith) (omega arith)
-      (λ g h. let l : length held + length xs < longest = h seven in omega (arith, e)) (omega arith)
+      let e = length-append (held .octets) xs in
+      lead-cases (λ (f : Fate). few longest (become f (unitFrom held xs))) longest on (held .octets) xs (λ h. omega arith) (omega arith)
+      (λ g h. let l : length (held .octets) + length xs < longest = h seven in omega (arith, e)) (omega arith)
 
-  packet-below : (held : List ℕ) (p : Place) (z : List ℕ) → length ((packetLane longest held p z) .held) < longest
+  packet-below : (held : DataUnit) (p : Place) (z : List ℕ) → few longest (packetLane longest held p z)
   unfolding packetLane walk both
   packet-below held (At p) z = upTo-below (length (drop p z)) (drop p z)
   packet-below held Nowhere z = lead-below true held z
 
 module _ (longest : ℕ) (one : 1 ≤ longest) where
-  portion-below : (finished begins : Bool) (held xs : List ℕ) → length ((portion longest finished begins held xs) .held) < longest
+  portion-below : (finished begins : Bool) (held : DataUnit) (xs : List ℕ) → few longest (portion longest finished begins held xs)
   unfolding portion both
   portion-below finished true held xs =
-      unit-cases (λ (f : Fate). length ((become f (unitFrom [] xs)) .held) < longest) longest finished (length xs) (λ h. omega arith) (λ h. h) (omega arith)
+      unit-cases (λ (f : Fate). few longest (become f (unitOf xs))) longest finished (length xs) (λ h. omega arith) (λ h. h) (omega arith)
   portion-below finished false held xs =
-      let e = length-append held xs in
-      follow-cases (λ (f : Fate). length ((become f (unitFrom held xs)) .held) < longest) longest finished (length held) (length xs)
+      let e = length-append (held .octets) xs in
+      follow-cases (λ (f : Fate). few longest (become f (unitFrom held xs))) longest finished (length (held .octets)) (length xs)
       (λ h. omega arith) (λ h. omega (arith, e)) (omega arith)
 
-  access-below : (begins : Bool) (held : List ℕ) (p : Place) (z : List ℕ) → length ((accessLane longest begins held p z) .held) < longest
+  access-below : (begins : Bool) (held : DataUnit) (p : Place) (z : List ℕ) → few longest (accessLane longest begins held p z)
   unfolding accessLane both
   access-below begins held (At p) z = portion-below true begins held (take (p + 1) z)
   access-below begins held Nowhere z = portion-below false begins held z
 
-pub lane-below : (k : Kind) (longest rule : ℕ) (held : List ℕ) (p : Place) (z : List ℕ) → least k ≤ longest
-    → length ((laneStep k longest rule held p z) .held) < longest
+pub lane-below : (k : Kind) (longest rule : ℕ) (held : DataUnit) (p : Place) (z : List ℕ) → least k ≤ longest
+    → few longest (laneStep k longest rule held p z)
 unfolding laneStep
 lane-below Packets longest rule held p z h = packet-below longest h held p z
 lane-below Access longest rule held p z h = access-below longest h (rule =? 0b001) held p z
+
+-- ---- spans: a unit has an octet in each frame that carries it
+
+-- No more frames than octets, and some where there are octets.
+pub record Sound (u : DataUnit) : Type 0 where
+  pub within : u .span ≤ length (u .octets)
+  pub some : 0 < length (u .octets) → 0 < u .span
+
+abbrev AllSound : List DataUnit → Type 0
+AllSound [] = Unit {0}
+AllSound (u ∷ us) = Sound u × AllSound us
+
+pub record MadeSound (m : Made) : Type 0 where
+  pub units : AllSound (m .units)
+  pub held : Sound (m .held)
+
+none-sound : Sound noUnit
+none-sound = record { within = omega arith; some = λ h. h }
+
+-- A frame with octets of it is one more, so both stay true.
+pub sound-from : (held : DataUnit) → Sound held → (xs : List ℕ) → Sound (unitFrom held xs)
+unfolding carries
+sound-from held s [] = rw (append-nil (held .octets)) (record { within = omega (arith, s .within); some = λ h. omega (arith, s .some h) })
+sound-from held s (x ∷ xs) =
+    let e = length-append (held .octets) (x ∷ xs) in
+    record { within = omega (arith, e, s .within); some = λ h. omega arith }
+
+sound-of : (xs : List ℕ) → Sound (unitOf xs)
+sound-of xs = sound-from noUnit none-sound xs
+
+sounds-append : (us vs : List DataUnit) → AllSound us → AllSound vs → AllSound (us ++ vs)
+sounds-append [] vs s t = t
+sounds-append (u ∷ us) vs s t = (s .0, sounds-append us vs (s .1) t)
+
+-- Nothing is handed out and nothing held.
+bare-sound : (idle fill dropped : ℕ) → MadeSound (record { units = []; held = noUnit; idle = idle; fill = fill; dropped = dropped })
+bare-sound idle fill dropped = record { units = tt; held = none-sound }
+
+both-sound : (a b : Made) → MadeSound a → MadeSound b → MadeSound (both a b)
+unfolding both
+both-sound a b s t = record { units = sounds-append (a .units) (b .units) (s .units) (t .units); held = t .held }
+
+become-sound : (f : Fate) (u : DataUnit) → Sound u → MadeSound (become f u)
+become-sound Hand u s = record { units = (s, tt); held = none-sound }
+become-sound Blank u s = bare-sound _ 0 0
+become-sound Hold u s = record { units = tt; held = s }
+become-sound Drop u s = bare-sound 0 0 _
+
+upTo-sound : (longest n : ℕ) (xs : List ℕ) → MadeSound (walkUpTo longest n xs)
+unfolding walkUpTo
+upTo-sound longest zero xs = bare-sound 0 0 0
+upTo-sound longest (suc n) xs = go (upTo-sound longest n) (nextOf longest (measure xs) (length xs))
+  where
+    go : ((ys : List ℕ) → MadeSound (walkUpTo longest n ys)) → (s : Next) → MadeSound (front s xs (walkUpTo longest n))
+    go rest (Give k) = record { units = (sound-of (take k xs), rest (drop k xs) .units); held = rest (drop k xs) .held }
+    go rest (Skip k) = record { units = rest (drop k xs) .units; held = rest (drop k xs) .held }
+    go rest Keep = record { units = tt; held = sound-of xs }
+    go rest Lose = bare-sound 0 0 _
+
+portion-sound : (longest : ℕ) (finished begins : Bool) (held : DataUnit) (xs : List ℕ) → Sound held → MadeSound (portion longest finished begins held xs)
+unfolding portion
+portion-sound longest finished true held xs s =
+    both-sound _ _ (bare-sound 0 0 _) (become-sound (unitFate longest finished (length xs)) (unitOf xs) (sound-of xs))
+portion-sound longest finished false held xs s =
+    become-sound (followFate longest finished (length (held .octets)) (length xs)) (unitFrom held xs) (sound-from held s xs)
+
+lead-sound : (longest : ℕ) (on : Bool) (held : DataUnit) (xs : List ℕ) → Sound held → MadeSound (lead longest on held xs)
+unfolding lead
+lead-sound longest on held xs s =
+    become-sound (leadFate longest on (measure (held .octets ++ xs)) (length (held .octets)) (length xs)) (unitFrom held xs) (sound-from held s xs)
+
+pub lane-sound : (k : Kind) (longest rule : ℕ) (held : DataUnit) (p : Place) (z : List ℕ) → Sound held → MadeSound (laneStep k longest rule held p z)
+unfolding laneStep packetLane accessLane walk
+lane-sound Packets longest rule held (At p) z s =
+    both-sound _ _ (lead-sound longest false held (take p z) s) (upTo-sound longest (length (drop p z)) (drop p z))
+lane-sound Packets longest rule held Nowhere z s = lead-sound longest true held z s
+lane-sound Access longest rule held (At p) z s =
+    both-sound _ _ (bare-sound 0 _ 0) (portion-sound longest true (rule =? 0b001) held (take (p + 1) z) s)
+lane-sound Access longest rule held Nowhere z s = portion-sound longest false (rule =? 0b001) held z s
 
 -- ---- few units: each from the pointer on has seven octets, and the lead ends one
 
@@ -286,21 +370,21 @@ upTo-few longest (suc n) xs =
     (λ k a b c. let q = upTo-few longest n (drop k xs) in let v = length-drop k xs in omega (arith, q, v))
     (λ k a b c. let q = upTo-few longest n (drop k xs) in let v = length-drop k xs in omega (arith, q, v)) (λ h. omega arith) (omega arith)
 
-portion-few : (longest : ℕ) (finished begins : Bool) (held xs : List ℕ) → length ((portion longest finished begins held xs) .units) ≤ 1
+portion-few : (longest : ℕ) (finished begins : Bool) (held : DataUnit) (xs : List ℕ) → length ((portion longest finished begins held xs) .units) ≤ 1
 unfolding portion both
-portion-few longest finished true held xs = become-few (unitFate longest finished (length xs)) (unitFrom [] xs)
-portion-few longest finished false held xs = become-few (followFate longest finished (length held) (length xs)) (unitFrom held xs)
+portion-few longest finished true held xs = become-few (unitFate longest finished (length xs)) (unitOf xs)
+portion-few longest finished false held xs = become-few (followFate longest finished (length (held .octets)) (length xs)) (unitFrom held xs)
 
-pub lane-few : (k : Kind) (longest rule : ℕ) (held : List ℕ) (p : Place) (z : List ℕ)
+pub lane-few : (k : Kind) (longest rule : ℕ) (held : DataUnit) (p : Place) (z : List ℕ)
     → 7 * length ((laneStep k longest rule held p z) .units) ≤ 7 + length z
 unfolding laneStep packetLane accessLane lead walk both
 lane-few Packets longest rule held (At p) z =
-    let a = become-few (leadFate longest false (measure (held ++ take p z)) (length held) (length (take p z))) (unitFrom held (take p z)) in
+    let a = become-few (leadFate longest false (measure (held .octets ++ take p z)) (length (held .octets)) (length (take p z))) (unitFrom held (take p z)) in
     let b = upTo-few longest (length (drop p z)) (drop p z) in
     let c = length-drop p z in
     let d = length-append ((lead longest false held (take p z)) .units) ((walk longest (drop p z)) .units) in
     omega (arith, a, b, c, d)
 lane-few Packets longest rule held Nowhere z =
-    let a = become-few (leadFate longest true (measure (held ++ z)) (length held) (length z)) (unitFrom held z) in omega (arith, a)
+    let a = become-few (leadFate longest true (measure (held .octets ++ z)) (length (held .octets)) (length z)) (unitFrom held z) in omega (arith, a)
 lane-few Access longest rule held (At p) z = let a = portion-few longest true (rule =? 0b001) held (take (p + 1) z) in omega (arith, a)
 lane-few Access longest rule held Nowhere z = let a = portion-few longest false (rule =? 0b001) held z in omega (arith, a)

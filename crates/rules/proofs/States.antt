@@ -5,11 +5,11 @@ use mathlib.Core.Logic.{_≢_}
 use Prim.Native.Nat.{ℕ, zero, suc, _+_, _-_, _*_, _^_, _≤_, _<_}
 use native.Mathlib.Nat.{mod-lt, not-suc-le-zero, div-le-of-le-mul}
 use native.Mathlib.Omega.{arith}
-use mathlib.Core.Bool.{Bool, true, false, cond}
+use mathlib.Core.Bool.{Bool, true, false, cond, not, _&&_}
 use mathlib.Core.List.{List, [], _∷_}
 use lib.ListN.{length, getD, set, replicate, getD-replicate}
 use lib.Seq.{getD-set-same, getD-set-other}
-use borrow.Author.Tests.{lt-ltb, le-leb, leb-true, eqb-false}
+use borrow.Author.Tests.{lt-ltb, le-ltb, le-leb, leb-true, eqb-true, eqb-false, eq-eqb}
 use Rattle.rules.specs.declared.Kind.{Kind}
 use Rattle.rules.specs.declared.Kind.the-variants.{Packets, Access}
 use Rattle.rules.specs.declared.Lane.{Lane}
@@ -19,26 +19,37 @@ use Rattle.rules.specs.declared.Expects.{Expects}
 use Rattle.rules.specs.declared.Slot.{Slot}
 use Rattle.rules.specs.declared.Reader.{Reader}
 use Rattle.rules.specs.declared.Writer.{Writer}
-use Rattle.rules.specs.Tests.{_=?_, all}
+use Rattle.rules.specs.Tests.{_=?_, _≠?_, all}
 use Rattle.rules.specs.Settings
-use Rattle.rules.specs.Settings.{channel, lane, channelOf, expectOn, expect, expecting, noExpects, noSlot, withExpect, withSlot, number, zone, settingOk, readerOk, writerOk, freshReader, freshWriter, noReader, noWriter}
+use Rattle.rules.specs.Settings.{channel, lane, channelOf, expectOn, expect, expecting, noExpects, noSlot, slot, withExpect, withSlot, number, zone, settingOk, slotOk, readerOk, writerOk, freshReader, freshWriter, noReader, noWriter}
 use Rattle.rules.specs.Writing.{batchOk, frames, numberAfter, countAfter, writerAfter}
 use Rattle.rules.specs.Reading.{missing, expected, emptied, lanesOf, gapBy, gap}
-use Rattle.rules.proofs.Tests.{all-at, all-cons, all-nil, at-every}
+use Rattle.rules.proofs.Tests.{split, all-at, all-cons, all-nil, at-every}
 use Rattle.rules.proofs.Octets.{pow256-pos}
 use Rattle.rules.proofs.Counts.{expected-below}
-use Rattle.rules.specs.Valid.{GoodReader, GoodWriter}
+use Rattle.rules.specs.Valid.{GoodSlot, GoodReader, GoodWriter}
 use Rattle.rules.proofs.Valid.{good, some-longest}
 use Rattle.rules.specs.Areas.{batchSize}
 
 -- ---- a state is valid when each fact holds
+
+slot-ok : (longest : ℕ) (x : Slot) → GoodSlot longest x → slotOk longest x ≡ true
+unfolding slotOk
+slot-ok longest x g =
+    all-cons _ _ (lt-ltb _ _ (g .below)) (all-cons _ _ (rw (le-ltb _ _ (g .within))) (all-cons _ _ (by (x .span =? 0) refl) all-nil))
+  where
+    by : (t : Bool) → (x .span =? 0) ≡ t → not (t && x .held ≠? 0) ≡ true
+    by true e =
+        let z : x .span ≡ 0 = eqb-true _ _ e in
+        split 1 (x .held) (λ h. absurd (omega (arith, g .some h))) (λ h. rw (eq-eqb (x .held) 0 (omega arith)))
+    by false e = refl
 
 pub reader-ok : (r : Reader) → GoodReader r → readerOk r ≡ true
 unfolding readerOk
 reader-ok r g =
     all-cons _ _ (g .ok)
     (all-cons _ _ (at-every _ (r .setting .listed) (λ c h. lt-ltb _ _ (g .counts c h)))
-    (all-cons _ _ (at-every _ (r .setting .numbered) (λ l h. lt-ltb _ _ (g .held l h))) all-nil))
+    (all-cons _ _ (at-every _ (r .setting .numbered) (λ l h. slot-ok _ (slot r l) (g .slots l h))) all-nil))
 
 pub writer-ok : (w : Writer) → GoodWriter w → writerOk w ≡ true
 unfolding writerOk
@@ -68,6 +79,10 @@ none-expected c h = getD-replicate 8 c false false h
 zeros : (i : ℕ) → i < 8 → _≡_ {A = ℕ} (getD (replicate 8 0) i 0) 0
 zeros i h = getD-replicate {A = ℕ} 8 i 0 0 h
 
+-- A lane that holds nothing.
+none-good : {longest : ℕ} → 1 ≤ longest → GoodSlot longest noSlot
+none-good h = record { below = h; within = omega arith; some = λ k. k }
+
 module _ (s : Setting) (ok : settingOk s ≡ true) where
   pub fresh-reader : readerOk (freshReader s) ≡ true
   unfolding freshReader
@@ -78,9 +93,9 @@ module _ (s : Setting) (ok : settingOk s ≡ true) where
         setting = good s ok;
         counts = λ c h.
             rw (zeros c (omega (arith, good s ok .listed))) (pow256-pos ((channel s c) .octets));
-        held = λ l h.
-            let k = good s ok .lanes l h .kind in
-            rw (getD-replicate 8 l noSlot noSlot (omega (arith, good s ok .numbered))) (some-longest _ _ _ k);
+        slots = λ l h.
+            let k = some-longest _ _ _ (good s ok .lanes l h .kind) in
+            rw (getD-replicate 8 l noSlot noSlot (omega (arith, good s ok .numbered))) (none-good k);
       })
 
   pub fresh-writer : writerOk (freshWriter s) ≡ true
@@ -159,7 +174,7 @@ module _ (r : Reader) where
         counts = λ i h.
             set-cases (λ (x : ℕ). x < 256 ^ (channel (r .setting) i) .octets) (r .expects .counts) c i _ 0
             (λ q. rw q (expected-below ((channel (r .setting) c) .octets) k)) (g .counts i h);
-        held = g .held;
+        slots = g .slots;
       }
 
   good-gapBy : GoodReader r → (c m : ℕ) → GoodReader ((gapBy r c m) .state)
@@ -170,20 +185,20 @@ module _ (r : Reader) where
         ok = g .ok;
         setting = g .setting;
         counts = g .counts;
-        held = λ l h.
-            let b = g .held l h in
-            emptied-cases (λ (x : Lane). x .channel =? c) (lanesOf (r .setting)) (r .slots) l (λ (x : Slot). x .held < (lane (r .setting) l) .longest)
-            (omega (arith, b)) b;
+        slots = λ l h.
+            let b = g .slots l h in
+            emptied-cases (λ (x : Lane). x .channel =? c) (lanesOf (r .setting)) (r .slots) l (GoodSlot ((lane (r .setting) l) .longest))
+            (none-good (omega (arith, b .below))) b;
       }
 
   -- Lane l has another slot now.
-  pub good-slot : GoodReader r → (l : ℕ) (x : Slot) → x .held < (lane (r .setting) l) .longest → GoodReader (withSlot r l x)
+  pub good-slot : GoodReader r → (l : ℕ) (x : Slot) → GoodSlot ((lane (r .setting) l) .longest) x → GoodReader (withSlot r l x)
   good-slot g l x b =
       record {
         ok = g .ok;
         setting = g .setting;
         counts = g .counts;
-        held = λ i h. set-cases (λ (y : Slot). y .held < (lane (r .setting) i) .longest) (r .slots) l i x noSlot (λ q. rw q b) (g .held i h);
+        slots = λ i h. set-cases (GoodSlot ((lane (r .setting) i) .longest)) (r .slots) l i x noSlot (λ q. rw q b) (g .slots i h);
       }
 
 pub good-gap : (r : Reader) → GoodReader r → (c k : ℕ) → GoodReader ((gap r c k) .state)

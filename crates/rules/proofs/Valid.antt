@@ -1,21 +1,22 @@
 -- The rules of a valid setting and a valid state give each fact that they are made of.
-use mathlib.Core.Path.{_≡_, refl, ap₂}
+use mathlib.Core.Path.{_≡_, refl, sym, ap₂, _∙_}
 use Prim.Native.Nat.{ℕ, _≤_, _<_}
 use native.Mathlib.Omega.{arith}
-use mathlib.Core.Bool.{Bool, true, false, cond, not, _&&_, Bool·beq, false≢true}
-use borrow.Author.Tests.{ltb-true, leb-true, eqb-true, eq-eqb}
+use mathlib.Core.Bool.{Bool, true, false, cond, not, _&&_, Bool·beq, true≢false, false≢true}
+use borrow.Author.Tests.{ltb-true, ltb-false, leb-true, eqb-true, eq-eqb, ne-eqb, not-true}
 use Rattle.rules.specs.declared.Kind.{Kind}
 use Rattle.rules.specs.declared.Kind.the-variants.{Packets, Access}
 use Rattle.rules.specs.declared.Channel.{Channel}
 use Rattle.rules.specs.declared.Lane.{Lane}
 use Rattle.rules.specs.declared.Setting.{Setting}
+use Rattle.rules.specs.declared.Slot.{Slot}
 use Rattle.rules.specs.declared.Reader.{Reader}
 use Rattle.rules.specs.declared.Writer.{Writer}
-use Rattle.rules.specs.Tests.{_=?_}
-use Rattle.rules.specs.Settings.{channel, lane, rangesOk, channelOk, channelsAgree, channelsOk, kindOk, laneOk, lanesDiffer, lanesOk, settingOk, readerOk, writerOk}
+use Rattle.rules.specs.Tests.{_=?_, _≠?_}
+use Rattle.rules.specs.Settings.{channel, lane, slot, rangesOk, channelOk, channelsAgree, channelsOk, kindOk, laneOk, lanesDiffer, lanesOk, settingOk, slotOk, readerOk, writerOk}
 use Rattle.rules.specs.Refusals.{channelAt, laneAt}
-use Rattle.rules.specs.Valid.{GoodKind, GoodChannel, GoodLane, Good, GoodReader, GoodWriter}
-use Rattle.rules.proofs.Tests.{all-at, every-at, first-at}
+use Rattle.rules.specs.Valid.{GoodKind, GoodChannel, GoodLane, Good, GoodSlot, GoodReader, GoodWriter}
+use Rattle.rules.proofs.Tests.{split, all-at, every-at, first-at}
 
 -- ---- a lane's kind
 
@@ -111,6 +112,18 @@ good-channelOf {s} g l h = g .channels ((lane s l) .channel) (g .lanes l h .chan
 
 -- ---- states
 
+some-span : (x : Slot) → 0 < x .held → x .span ≡ 0 → (x .span =? 0 && x .held ≠? 0) ≡ true
+some-span x h z = rw (eq-eqb (x .span) 0 z, ne-eqb (x .held) 0 (λ q. omega arith))
+
+good-slot-of : (longest : ℕ) (x : Slot) → slotOk longest x ≡ true → GoodSlot longest x
+unfolding slotOk
+good-slot-of longest x e =
+    record {
+      below = ltb-true _ _ (all-at _ 0 e);
+      within = ltb-false _ _ (not-true _ (all-at _ 1 e));
+      some = λ h. split 1 (x .span) (λ k. k) (λ k. absurd (true≢false (sym (some-span x h (omega arith)) ∙ not-true _ (all-at _ 2 e))));
+    }
+
 pub good-reader : (r : Reader) → readerOk r ≡ true → GoodReader r
 unfolding readerOk
 good-reader r e =
@@ -118,7 +131,7 @@ good-reader r e =
       ok = all-at _ 0 e;
       setting = good (r .setting) (all-at _ 0 e);
       counts = λ c h. ltb-true _ _ (every-at _ (r .setting .listed) (all-at _ 1 e) c h);
-      held = λ l h. ltb-true _ _ (every-at _ (r .setting .numbered) (all-at _ 2 e) l h);
+      slots = λ l h. good-slot-of _ (slot r l) (every-at _ (r .setting .numbered) (all-at _ 2 e) l h);
     }
 
 pub good-writer : (w : Writer) → writerOk w ≡ true → GoodWriter w

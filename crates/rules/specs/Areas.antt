@@ -12,8 +12,8 @@ unfoldable pub joined : List (List ℕ) → List ℕ
 joined [] = []
 joined (x ∷ xs) = x ++ joined xs
 
--- ---- sizes: "Areas lent: held octets, 65,536, lane k's from 8,192k; units, at least 12,288; records, at least 9,600." "Each with one
--- 16-octet record." "A packet batch is 1 to 32,768 octets."
+-- ---- sizes: "Areas lent: held octets, 65,536, lane k's from 8,192k; units, at least 12,288; records, at least 9,600": with A2 of document 02,
+-- "record areas become at least 14,400 octets" and "the record becomes 24 octets". "A packet batch is 1 to 32,768 octets."
 
 abbrev pub heldSize : ℕ
 heldSize = 65536
@@ -25,10 +25,10 @@ abbrev pub unitsSize : ℕ
 unitsSize = 12288
 
 abbrev pub recordsSize : ℕ
-recordsSize = 9600
+recordsSize = 14400
 
 abbrev pub recordSize : ℕ
-recordSize = 16
+recordSize = 24
 
 abbrev pub batchSize : ℕ
 batchSize = 32768

@@ -21,10 +21,10 @@ use Rattle.rules.specs.declared.Verdict.{Verdict}
 use Rattle.rules.specs.declared.Gap.{Gap}
 use Rattle.rules.specs.Tests.{_≤?_, _<?_, _≠?_, Refusal, refuse, given}
 use Rattle.rules.specs.Areas.{laid, joined, part, heldSize, partSize, recordsSize, unitsSize}
-use Rattle.rules.specs.Settings.{channel, lane, channelOf, expect, heldBy, withSlot, count, number, zone, ocfOctets, settingOk, readerOk, writerOk, freshReader, freshWriter, noReader, noWriter}
+use Rattle.rules.specs.Settings.{channel, lane, channelOf, expect, heldBy, spanBy, withSlot, count, number, zone, ocfOctets, settingOk, readerOk, writerOk, freshReader, freshWriter, noReader, noWriter}
 use Rattle.rules.specs.Frames.{countIn, ruleIn, pointerIn, zoneIn, pointsTo}
 use Rattle.rules.specs.Writing.{batchOk, frames, frameOf, writerAfter}
-use Rattle.rules.specs.Reading.{missing, repeats, gap, octetsOf, Made, keeps, laneStep, recordsFrom, infoOf}
+use Rattle.rules.specs.Reading.{missing, repeats, gap, DataUnit, octetsOf, Made, keeps, laneStep, recordsFrom, infoOf}
 use Rattle.rules.specs.Refusals.{refusals, judged}
 
 -- ---- the paper's number for each case of an answer; 0 where none is refused
@@ -84,7 +84,7 @@ written w l batch insert ocf area (suc n) = record { sender = record { outcome =
 unfoldable pub write : Writer → ℕ → List ℕ → List ℕ → List ℕ → List ℕ → Sent
 write w l batch insert ocf area = written w l batch insert ocf area (given (writeRefusals w l batch insert ocf area))
 
--- ---- read: "Areas lent: held octets, 65,536, ...; units, at least 12,288; records, at least 9,600."
+-- ---- read: "Areas lent: held octets, 65,536, ...; units, at least 12,288; records, at least 9,600", and 14,400 with A2 of document 02.
 
 -- What a read hands back, and the three areas after it.
 pub record Got : Type 0 where
@@ -124,16 +124,20 @@ laidOut g l k m h u c =
                 };
             state = withSlot (g .state) l (keeps m);
           };
-      heldArea = laid h (partSize * l) (m .held);
+      heldArea = laid h (partSize * l) (m .held .octets);
       unitArea = laid u 0 (joined (octetsOf (m .units)));
       recordArea = laid c 0 (recordsFrom (infoOf (g .state .setting) l k) 0 (m .units));
     }
+
+-- What lane l holds: the first octets of its part of the held area, and the span so far.
+abbrev pub holding : Reader → ℕ → List ℕ → DataUnit
+holding r l h = record { octets = take (heldBy r l) (part l h); span = spanBy r l }
 
 -- What lane l makes of a frame of its channel, after a gap.
 unfoldable pub madeBy : Gap → ℕ → Channel → List ℕ → List ℕ → Made
 madeBy g l ch f h =
     laneStep ((lane (g .state .setting) l) .kind) ((lane (g .state .setting) l) .longest) (ruleIn (g .state .setting) ch f)
-    (take (heldBy (g .state) l) (part l h))
+    (holding (g .state) l h)
     (pointsTo (pointerIn (g .state .setting) ch f)) (zoneIn (g .state .setting) ch f)
 
 unfoldable pub readOn : Gap → ℕ → Channel → List ℕ → List ℕ → List ℕ → List ℕ → Got

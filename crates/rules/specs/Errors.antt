@@ -12,12 +12,12 @@ use Rattle.rules.specs.declared.Looked.{Looked}
 use Rattle.rules.specs.declared.Place.{Place}
 use Rattle.rules.specs.declared.Place.the-variants.{At, Nowhere}
 use Rattle.rules.specs.Tests.{given}
-use Rattle.rules.specs.Octets.{flag, checkOf}
-use Rattle.rules.specs.Settings.{noChannel, noLane, noReader, noWriter, freshReader, withExpect}
-use Rattle.rules.specs.Reading.{DataUnit, octetsOf, Made, laneStep}
+use Rattle.rules.specs.Octets.{checkOf}
+use Rattle.rules.specs.Settings.{noChannel, noLane, noReader, noWriter, freshReader, heldBy, spanBy, withExpect, withSlot}
+use Rattle.rules.specs.Reading.{DataUnit, unitOf, octetsOf, Made, laneStep}
 use Rattle.rules.specs.Refusals.{refusals}
 use Rattle.rules.specs.Calls.{refusalOf, classRefusal, Sent, write, Got, read, look}
-use Rattle.rules.specs.Worked.{small, worked, packetLane, Case, case, each, classShown, answer, packet₀, packet₁, frame₀, frame₁, recounted, packetOf, reads}
+use Rattle.rules.specs.Worked.{small, worked, packetLane, Case, case, each, classShown, answer, recordIn, packet₀, packet₁, frame₀, frame₁, recounted, packetOf, reads}
 
 -- ---- a setting of two channels and three lanes, all zones of 21 octets
 
@@ -63,18 +63,20 @@ commandFrame k = forged (6 ∷ []) (0xC1 ∷ []) (accessFrame k 2 20 data21)
 
 -- The units that a lane hands out, what it then holds, and the idle, fill and dropped octets.
 unfoldable pub shown : Made → List (List ℕ)
-shown m = octetsOf (m .units) ++ (m .held ∷ (m .idle ∷ m .fill ∷ m .dropped ∷ []) ∷ [])
+shown m = octetsOf (m .units) ++ (m .held .octets ∷ (m .idle ∷ m .fill ∷ m .dropped ∷ []) ∷ [])
 
--- Of each unit, whether it was begun in a frame before.
-abbrev pub begunBefore : Made → List ℕ
-begunBefore m = map (λ (u : DataUnit). flag (u .earlier)) (m .units)
+-- A packet lane and an access lane whose longest units have 64 and 42 octets: what is held of one frame, what the pointer points to, the zone.
+abbrev pub packetStep : List ℕ → Place → List ℕ → Made
+packetStep held p z = laneStep Packets 64 0b000 (unitOf held) p z
 
--- A packet lane and an access lane whose longest units have 64 and 42 octets: what is held, what the pointer points to, the zone.
+abbrev pub unitStep : ℕ → List ℕ → Place → List ℕ → Made
+unitStep rule held p z = laneStep Access 42 rule (unitOf held) p z
+
 abbrev pub ofPackets : List ℕ → Place → List ℕ → List (List ℕ)
-ofPackets held p z = shown (laneStep Packets 64 0b000 held p z)
+ofPackets held p z = shown (packetStep held p z)
 
 abbrev pub ofUnits : ℕ → List ℕ → Place → List ℕ → List (List ℕ)
-ofUnits rule held p z = shown (laneStep Access 42 rule held p z)
+ofUnits rule held p z = shown (unitStep rule held p z)
 
 -- The numbers of the refusals given.
 unfoldable pub refused : Setting → List (List ℕ) → List ℕ
@@ -153,14 +155,7 @@ edges =
     ∷ case 14
     (ofPackets [] (At 0) ((0x03 ∷ 0xFF ∷ drop 2 (packetOf 10)) ++ replicate 11 0xE0)
     ++ ofPackets [] (At 0) ((0x07 ∷ 0xFE ∷ drop 2 (packetOf 10)) ++ replicate 11 0xE0))
-    ((0x03 ∷ 0xFF ∷ drop 2 (packetOf 10)) ∷ [] ∷ (11 ∷ 0 ∷ 0 ∷ []) ∷ (0x07 ∷ 0xFE ∷ drop 2 (packetOf 10)) ∷ [] ∷ (11 ∷ 0 ∷ 0 ∷ []) ∷ [])
-    -- The packet that the lead ends was begun before, the one from the pointer on was not; nor was a unit by 001, but one by 010 was.
-    ∷ case 15
-    (begunBefore (laneStep Packets 64 0b000 (take 3 packet₀) (At 7) (drop 3 packet₀ ++ packet₀ ++ replicate 4 0xE0))
-    ∷ begunBefore (laneStep Access 42 0b001 data21 (At 20) data21)
-    ∷ begunBefore (laneStep Access 42 0b010 data21 (At 20) data21)
-    ∷ [])
-    ((1 ∷ 0 ∷ []) ∷ (0 ∷ []) ∷ (1 ∷ []) ∷ []) ∷ []
+    ((0x03 ∷ 0xFF ∷ drop 2 (packetOf 10)) ∷ [] ∷ (11 ∷ 0 ∷ 0 ∷ []) ∷ (0x07 ∷ 0xFE ∷ drop 2 (packetOf 10)) ∷ [] ∷ (11 ∷ 0 ∷ 0 ∷ []) ∷ []) ∷ []
 
 -- ---- frames sent twice (document 02, A3)
 
@@ -187,6 +182,95 @@ copies =
     -- A block of two frames that is sent twice: frame 0 comes again with 254 missing, and all units come a second time.
     ∷ case 6 (each answer (reads paired (frame₀ ∷ frame₁ ∷ frame₀ ∷ frame₁ ∷ [])))
     ((103 ∷ 1 ∷ 10 ∷ 0 ∷ 0 ∷ 0 ∷ 0 ∷ []) ∷ (103 ∷ 1 ∷ 18 ∷ 0 ∷ 14 ∷ 0 ∷ 0 ∷ []) ∷ (103 ∷ 1 ∷ 10 ∷ 254 ∷ 0 ∷ 0 ∷ 0 ∷ []) ∷ (103 ∷ 1 ∷ 18 ∷ 0 ∷ 14 ∷ 0 ∷ 0 ∷ []) ∷ []) ∷ []
+
+-- ---- the whole count and the span in the record (document 02, A2)
+
+-- The spans of the units that a lane hands out, and of what it then holds.
+abbrev pub spansOf : Made → List ℕ
+spansOf m = map (λ (u : DataUnit). u .span) (m .units) ++ (m .held .span ∷ [])
+
+-- What a state keeps of each of three lanes: octets held, and their span.
+abbrev pub keptBy : Got → List ℕ
+keptBy o =
+    let r : Reader = o .taken .state in
+    heldBy r 0 ∷ spanBy r 0 ∷ heldBy r 1 ∷ spanBy r 1 ∷ heldBy r 2 ∷ spanBy r 2 ∷ []
+
+-- Three frames of a packet of 60 octets on map m, by its count: the first 21, the next 21, the last 18 with fill.
+abbrev pub firstOf60 : ℕ → ℕ → List ℕ
+firstOf60 m k = packetFrame m k 0 (take 21 (packetOf 60))
+
+abbrev pub moreOf60 : ℕ → ℕ → List ℕ
+moreOf60 m k = packetFrame m k 0xFFFF data21
+
+abbrev pub lastOf60 : ℕ → ℕ → List ℕ
+lastOf60 m k = packetFrame m k 18 (replicate 18 0x77 ++ replicate 3 0xE0)
+
+-- The three, with two of a packet of the other map among them, one of a map of no lane, and its copy.
+abbrev pub among60 : List (List ℕ)
+among60 =
+    firstOf60 5 0 ∷ firstOf60 6 1 ∷ moreOf60 5 2 ∷ packetFrame 7 3 0 fill21 ∷ packetFrame 7 3 0 fill21 ∷ moreOf60 6 4 ∷ lastOf60 5 5 ∷ []
+
+-- A reader of the worked setting whose lane l keeps this: the number that a read is refused by for it, and that a look is.
+abbrev pub keeping : ℕ → ℕ → ℕ → Reader
+keeping l held span = withSlot (freshReader (worked packetLane)) l (record { held = held; span = span })
+
+abbrev pub keptRefusal : ℕ → ℕ → ℕ → List ℕ
+keptRefusal l held span =
+    classRefusal ((read (keeping l held span) (take 31 frame₀) (replicate 65536 0) (replicate 12288 0) (replicate 14400 0)) .taken .answer .class)
+    ∷ classRefusal ((look (keeping l held span) (take 31 frame₀)) .class) ∷ []
+
+-- The worked setting with counts of seven octets: Z is 15.
+unfoldable pub wide : Setting
+wide = small false (record { vc = 3; service = 0; octets = 7; ocf = false } ∷ []) (packetLane ∷ [])
+
+-- A frame of it: the count's octets, pointer, zone.
+abbrev pub wideFrame : List ℕ → ℕ → List ℕ → List ℕ
+wideFrame k p z = (0xC0 ∷ 0x02 ∷ 0xA0 ∷ 0x6A ∷ 0x00 ∷ 0x1F ∷ 0x07 ∷ []) ++ k ++ (0x00 ∷ 0x00 ∷ p ∷ []) ++ z
+
+unfoldable pub spans : List Case
+spans =
+    -- The frame that ends a unit counts. One that ends a packet and begins the next, which is whole, or is held; one that carries a packet on.
+    case 1
+    (spansOf (packetStep (take 3 packet₀) (At 7) (drop 3 packet₀ ++ packet₀ ++ replicate 4 0xE0))
+    ∷ spansOf (packetStep (take 3 packet₀) (At 7) (drop 3 packet₀ ++ take 14 packet₁))
+    ∷ spansOf (packetStep (take 21 (packetOf 60)) Nowhere data21) ∷ [])
+    ((2 ∷ 1 ∷ 0 ∷ []) ∷ (2 ∷ 1 ∷ []) ∷ (2 ∷ []) ∷ [])
+    -- What is dropped, and what was idle, leaves no span: pointer 0; an idle packet over two frames; 010 with nothing held; one above the longest.
+    ∷ case 2
+    (spansOf (packetStep (take 11 packet₁) (At 0) fill21)
+    ∷ spansOf (packetStep (0x07 ∷ 0xFF ∷ 0xC0 ∷ []) (At 7) (0x00 ∷ 0x00 ∷ 0x03 ∷ replicate 4 0x77 ++ replicate 14 0xE0))
+    ∷ spansOf (unitStep 0b010 [] (At 4) data21) ∷ spansOf (unitStep 0b010 data21 Nowhere data21) ∷ [])
+    ((0 ∷ []) ∷ (0 ∷ []) ∷ (0 ∷ []) ∷ (0 ∷ []) ∷ [])
+    -- 001 over held octets begins anew, finished and not; 010 follows them, finished and not.
+    ∷ case 3
+    (spansOf (unitStep 0b001 data21 (At 20) data21) ∷ spansOf (unitStep 0b001 data21 Nowhere data21) ∷ spansOf (unitStep 0b010 data21 (At 20) data21)
+    ∷ spansOf (unitStep 0b010 (take 20 data21) Nowhere data21) ∷ [])
+    ((1 ∷ 0 ∷ []) ∷ (1 ∷ []) ∷ (2 ∷ 0 ∷ []) ∷ (2 ∷ []) ∷ [])
+    -- Frames of its lane alone: neighbors', Counted ones and copies do not count. The record says count 5, span 3.
+    ∷ case 4
+    (each keptBy (reads paired among60) ++ drop 6 (each recordIn (reads paired among60)))
+    ((21 ∷ 1 ∷ 0 ∷ 0 ∷ 0 ∷ 0 ∷ []) ∷ (21 ∷ 1 ∷ 21 ∷ 1 ∷ 0 ∷ 0 ∷ []) ∷ (42 ∷ 2 ∷ 21 ∷ 1 ∷ 0 ∷ 0 ∷ []) ∷ (42 ∷ 2 ∷ 21 ∷ 1 ∷ 0 ∷ 0 ∷ [])
+    ∷ (42 ∷ 2 ∷ 21 ∷ 1 ∷ 0 ∷ 0 ∷ []) ∷ (42 ∷ 2 ∷ 42 ∷ 2 ∷ 0 ∷ 0 ∷ []) ∷ (0 ∷ 0 ∷ 42 ∷ 2 ∷ 0 ∷ 0 ∷ [])
+    ∷ (0x00 ∷ 0x03 ∷ 0x05 ∷ 0x00 ∷ 0 ∷ 0 ∷ 0 ∷ 0 ∷ 0 ∷ 0 ∷ 0 ∷ 60 ∷ 0 ∷ 0 ∷ 0 ∷ 0 ∷ 0 ∷ 0 ∷ 0 ∷ 5 ∷ 0 ∷ 0 ∷ 0 ∷ 3 ∷ 0x55 ∷ []) ∷ [])
+    -- A gap clears the spans of all lanes of its channel and of no other, also where a Counted frame shows it; what comes next is read.
+    ∷ case 5
+    (each keptBy (reads paired (firstOf60 5 0 ∷ firstOf60 6 1 ∷ accessFrame 0 1 0xFFFF data21 ∷ packetFrame 7 9 0 fill21 ∷ firstOf60 5 10 ∷ [])))
+    ((21 ∷ 1 ∷ 0 ∷ 0 ∷ 0 ∷ 0 ∷ []) ∷ (21 ∷ 1 ∷ 21 ∷ 1 ∷ 0 ∷ 0 ∷ []) ∷ (21 ∷ 1 ∷ 21 ∷ 1 ∷ 21 ∷ 1 ∷ []) ∷ (0 ∷ 0 ∷ 0 ∷ 0 ∷ 21 ∷ 1 ∷ [])
+    ∷ (21 ∷ 1 ∷ 0 ∷ 0 ∷ 21 ∷ 1 ∷ []) ∷ [])
+    -- "A held span exceeds the octets held, or is 0 while some are": 1, of a read and of a look; 3 otherwise, for the frame is short. A slot of no lane is not
+    -- judged.
+    ∷ case 6
+    (keptRefusal 0 0 0 ∷ keptRefusal 0 0 1 ∷ keptRefusal 0 1 0 ∷ keptRefusal 0 1 1 ∷ keptRefusal 0 1 2 ∷ keptRefusal 0 63 63 ∷ keptRefusal 0 63 64
+    ∷ keptRefusal 0 64 1 ∷ keptRefusal 1 0 1 ∷ [])
+    ((3 ∷ 3 ∷ []) ∷ (1 ∷ 1 ∷ []) ∷ (1 ∷ 1 ∷ []) ∷ (3 ∷ 3 ∷ []) ∷ (1 ∷ 1 ∷ []) ∷ (3 ∷ 3 ∷ []) ∷ (1 ∷ 1 ∷ []) ∷ (1 ∷ 1 ∷ []) ∷ (3 ∷ 3 ∷ []) ∷ [])
+    -- Counts above 2^32, whole: 01 00 00 00 00 00 05 and the one after it.
+    ∷ case 7
+    (each recordIn
+    (reads wide
+    (wideFrame (1 ∷ 0 ∷ 0 ∷ 0 ∷ 0 ∷ 0 ∷ 5 ∷ []) 0 (packet₀ ++ take 5 packet₁)
+    ∷ wideFrame (1 ∷ 0 ∷ 0 ∷ 0 ∷ 0 ∷ 0 ∷ 6 ∷ []) 13 (drop 5 packet₁ ++ replicate 2 0xE0) ∷ [])))
+    ((0x00 ∷ 0x03 ∷ 0x05 ∷ 0x00 ∷ 0 ∷ 0 ∷ 0 ∷ 0 ∷ 0 ∷ 0 ∷ 0 ∷ 10 ∷ 0 ∷ 1 ∷ 0 ∷ 0 ∷ 0 ∷ 0 ∷ 0 ∷ 5 ∷ 0 ∷ 0 ∷ 0 ∷ 1 ∷ 0x55 ∷ [])
+    ∷ (0x00 ∷ 0x03 ∷ 0x05 ∷ 0x00 ∷ 0 ∷ 0 ∷ 0 ∷ 0 ∷ 0 ∷ 0 ∷ 0 ∷ 18 ∷ 0 ∷ 1 ∷ 0 ∷ 0 ∷ 0 ∷ 0 ∷ 0 ∷ 6 ∷ 0 ∷ 0 ∷ 0 ∷ 2 ∷ 0x55 ∷ []) ∷ []) ∷ []
 
 -- ---- edges of the frame and of the calls
 
@@ -285,9 +369,9 @@ wholes =
     ((1 ∷ 2 ∷ 13 ∷ 14 ∷ 15 ∷ 16 ∷ 0 ∷ []) ∷ [])
     -- A read's 1, then 2 and 3 for each area, then 3.
     ∷ case 5
-    ((readRefusal noReader 0 0 0 ∷ readRefusal (freshReader (worked packetLane)) 65535 12288 9600
-    ∷ readRefusal (freshReader (worked packetLane)) 65536 12287 9600 ∷ readRefusal (freshReader (worked packetLane)) 65536 12288 9599
-    ∷ readRefusal (freshReader (worked packetLane)) 65536 12288 9600 ∷ [])
+    ((readRefusal noReader 0 0 0 ∷ readRefusal (freshReader (worked packetLane)) 65535 12288 14400
+    ∷ readRefusal (freshReader (worked packetLane)) 65536 12287 14400 ∷ readRefusal (freshReader (worked packetLane)) 65536 12288 14399
+    ∷ readRefusal (freshReader (worked packetLane)) 65536 12288 14400 ∷ [])
     ∷ [])
     ((1 ∷ 2 ∷ 2 ∷ 2 ∷ 3 ∷ []) ∷ [])
     -- The areas after frame 0, and after a gap has dropped what was held: its octets stay where they were.
@@ -303,7 +387,7 @@ wholes =
     ∷ (104 ∷ 0 ∷ 1 ∷ 0 ∷ []) ∷ (104 ∷ 0 ∷ 1 ∷ 0 ∷ []) ∷ [])
     -- A bad frame with a short area: a look says what the frame is refused by, a read says 2. A state of zeros: both say 1.
     ∷ case 8
-    ((classRefusal ((look (freshReader (worked packetLane)) (take 31 frame₀)) .class) ∷ readRefusal (freshReader (worked packetLane)) 65535 12288 9600
-    ∷ classRefusal ((look noReader (take 31 frame₀)) .class) ∷ readRefusal noReader 65536 12288 9600 ∷ [])
+    ((classRefusal ((look (freshReader (worked packetLane)) (take 31 frame₀)) .class) ∷ readRefusal (freshReader (worked packetLane)) 65535 12288 14400
+    ∷ classRefusal ((look noReader (take 31 frame₀)) .class) ∷ readRefusal noReader 65536 12288 14400 ∷ [])
     ∷ [])
     ((3 ∷ 2 ∷ 1 ∷ 1 ∷ []) ∷ []) ∷ []

@@ -179,8 +179,8 @@ pub record ReadGives (r : Reader) (f h u c : List ℕ) (o : Taken) (h′ u′ c�
   pub values : valuesIn (o .answer) ≡ classValues (o .answer .class) (gapIn r f) (madeIn r f h)
   pub state : o .state ≡ classState (o .answer .class) r (gapIn r f) (laneIn (r .setting) f) (madeIn r f h)
   -- "In the held area only the octets that the Read lane holds after the call may change."
-  pub held : h′ ≡ classArea (o .answer .class) h (laid h (partSize * laneIn (r .setting) f) ((madeIn r f h) .held))
-  -- "Units stand back to back from the start of the unit area, each with one 16-octet record." "Areas past these are untouched."
+  pub held : h′ ≡ classArea (o .answer .class) h (laid h (partSize * laneIn (r .setting) f) ((madeIn r f h) .held .octets))
+  -- "Units stand back to back from the start of the unit area, each with one ... record." "Areas past these are untouched."
   pub units : u′ ≡ classArea (o .answer .class) u (laid u 0 (joined (octetsOf ((madeIn r f h) .units))))
   pub records :
       c′

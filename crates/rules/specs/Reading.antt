@@ -20,7 +20,7 @@ use Rattle.rules.specs.declared.Fate.{Fate}
 use Rattle.rules.specs.declared.Fate.the-variants.{Hand, Blank, Hold, Drop}
 use Rattle.rules.specs.declared.Gap.{Gap}
 use Rattle.rules.specs.declared.Info.{Info}
-use Rattle.rules.specs.Tests.{_≤?_, _<?_, _=?_, _≠?_}
+use Rattle.rules.specs.Tests.{_≤?_, _<?_, _=?_}
 use Rattle.rules.specs.Octets.{be}
 use Rattle.rules.specs.Settings.{noSlot, channel, lane, channelOf, expect, withExpect}
 use Rattle.rules.specs.Packets.{measure}
@@ -78,14 +78,27 @@ gap r c k =
 
 -- ---- units
 
--- A unit that a lane hands out: its octets, and whether it was begun in a frame before.
+-- Octets of a unit, and "the unit's frame span (frames of its lane that carry it, first to last)" (document 02, A2), so far.
 pub record DataUnit : Type 0 where
   pub octets : List ℕ
-  pub earlier : Bool
+  pub span : ℕ
 
--- Held octets, and those of this frame that follow them. Where none are held, it is wholly in this frame.
-abbrev pub unitFrom : List ℕ → List ℕ → DataUnit
-unitFrom held xs = record { octets = held ++ xs; earlier = length held ≠? 0 }
+-- What a lane has in hand that holds nothing.
+abbrev pub noUnit : DataUnit
+noUnit = record { octets = []; span = 0 }
+
+-- A frame carries a unit where octets of it stand in the frame: one frame more, or none.
+unfoldable pub carries : List ℕ → ℕ
+carries [] = 0
+carries (x ∷ xs) = 1
+
+-- What is held of a unit, and the octets of this frame that follow it.
+abbrev pub unitFrom : DataUnit → List ℕ → DataUnit
+unitFrom held xs = record { octets = held .octets ++ xs; span = held .span + carries xs }
+
+-- A unit that begins in this frame.
+abbrev pub unitOf : List ℕ → DataUnit
+unitOf xs = unitFrom noUnit xs
 
 -- The octets of each.
 abbrev pub octetsOf : List DataUnit → List (List ℕ)
@@ -96,26 +109,26 @@ octetsOf us = map (λ (u : DataUnit). u .octets) us
 -- The units that it hands out, what it holds afterwards, and how many octets were idle, fill or dropped.
 pub record Made : Type 0 where
   pub units : List DataUnit
-  pub held : List ℕ
+  pub held : DataUnit
   pub idle : ℕ
   pub fill : ℕ
   pub dropped : ℕ
 
 -- What a lane keeps of what it made.
 abbrev pub keeps : Made → Slot
-keeps m = record { held = length (m .held) }
+keeps m = record { held = length (m .held .octets); span = m .held .span }
 
 abbrev pub nothing : Made
-nothing = record { units = []; held = []; idle = 0; fill = 0; dropped = 0 }
+nothing = record { units = []; held = noUnit; idle = 0; fill = 0; dropped = 0 }
 
-abbrev pub holds : List ℕ → Made
-holds xs = record { units = []; held = xs; idle = 0; fill = 0; dropped = 0 }
+abbrev pub holds : DataUnit → Made
+holds u = record { units = []; held = u; idle = 0; fill = 0; dropped = 0 }
 
 abbrev pub drops : ℕ → Made
-drops n = record { units = []; held = []; idle = 0; fill = 0; dropped = n }
+drops n = record { units = []; held = noUnit; idle = 0; fill = 0; dropped = n }
 
 abbrev pub fills : ℕ → Made
-fills n = record { units = []; held = []; idle = 0; fill = n; dropped = 0 }
+fills n = record { units = []; held = noUnit; idle = 0; fill = n; dropped = 0 }
 
 -- A unit, and then what is made of the octets after it.
 abbrev pub hands : DataUnit → Made → Made
@@ -140,7 +153,7 @@ both a b =
 abbrev pub become : Fate → DataUnit → Made
 become Hand u = hands u nothing
 become Blank u = idles (length (u .octets)) nothing
-become Hold u = holds (u .octets)
+become Hold u = holds u
 become Drop u = drops (length (u .octets))
 
 -- ---- "Packet lane": held octets and lead
@@ -164,8 +177,9 @@ joinedFate longest on Unreadable n = Drop
 unfoldable pub leadFate : ℕ → Bool → Measure → ℕ → ℕ → Fate
 leadFate longest on m h n = cond (h =? 0) Drop (cond (n =? 0) Drop (joinedFate longest on m (h + n)))
 
-unfoldable pub lead : ℕ → Bool → List ℕ → List ℕ → Made
-lead longest on held xs = become (leadFate longest on (measure (held ++ xs)) (length held) (length xs)) (unitFrom held xs)
+unfoldable pub lead : ℕ → Bool → DataUnit → List ℕ → Made
+lead longest on held xs =
+    become (leadFate longest on (measure (held .octets ++ xs)) (length (held .octets)) (length xs)) (unitFrom held xs)
 
 -- ---- "Packet lane": the packets from the pointer on
 
@@ -183,9 +197,9 @@ nextOf longest Unreadable n = Lose
 
 -- The packet at the front, and then what the octets after it make.
 abbrev pub front : Next → List ℕ → (List ℕ → Made) → Made
-front (Give n) xs rest = hands (unitFrom [] (take n xs)) (rest (drop n xs))
+front (Give n) xs rest = hands (unitOf (take n xs)) (rest (drop n xs))
 front (Skip n) xs rest = idles n (rest (drop n xs))
-front Keep xs rest = holds xs
+front Keep xs rest = holds (unitOf xs)
 front Lose xs rest = drops (length xs)
 
 -- At most n packets.
@@ -198,7 +212,7 @@ unfoldable pub walk : ℕ → List ℕ → Made
 walk longest xs = walkUpTo longest (length xs) xs
 
 -- "The lead is the octets before the pointer, or the whole zone for FFFF." Told where the first packet starts, or that none does.
-unfoldable pub packetLane : ℕ → List ℕ → Place → List ℕ → Made
+unfoldable pub packetLane : ℕ → DataUnit → Place → List ℕ → Made
 packetLane longest held (At p) z = both (lead longest false held (take p z)) (walk longest (drop p z))
 packetLane longest held Nowhere z = lead longest true held z
 
@@ -214,31 +228,32 @@ unfoldable pub followFate : ℕ → Bool → ℕ → ℕ → Fate
 followFate longest finished h n = cond (h =? 0) Drop (unitFate longest finished (h + n))
 
 -- "Rule 001 drops what is held and begins."
-unfoldable pub portion : ℕ → Bool → Bool → List ℕ → List ℕ → Made
-portion longest finished true held xs = both (drops (length held)) (become (unitFate longest finished (length xs)) (unitFrom [] xs))
-portion longest finished false held xs = become (followFate longest finished (length held) (length xs)) (unitFrom held xs)
+unfoldable pub portion : ℕ → Bool → Bool → DataUnit → List ℕ → Made
+portion longest finished true held xs = both (drops (length (held .octets))) (become (unitFate longest finished (length xs)) (unitOf xs))
+portion longest finished false held xs = become (followFate longest finished (length (held .octets)) (length xs)) (unitFrom held xs)
 
 -- "Octets after the last are fill." Told where the unit's last octet is, or that it goes on.
-unfoldable pub accessLane : ℕ → Bool → List ℕ → Place → List ℕ → Made
+unfoldable pub accessLane : ℕ → Bool → DataUnit → Place → List ℕ → Made
 accessLane longest begins held (At p) z = both (fills (length z - (p + 1))) (portion longest true begins held (take (p + 1) z))
 accessLane longest begins held Nowhere z = portion longest false begins held z
 
 -- ---- a lane of either kind: its longest, the construction rule, what it holds, what the pointer points to, and the zone
 
-unfoldable pub laneStep : Kind → ℕ → ℕ → List ℕ → Place → List ℕ → Made
+unfoldable pub laneStep : Kind → ℕ → ℕ → DataUnit → Place → List ℕ → Made
 laneStep Packets longest rule held p z = packetLane longest held p z
 laneStep Access longest rule held p z = accessLane longest (rule =? 0b001) held p z
 
 -- ---- records
 
--- "Record, sizes in octets: lane 1, virtual channel 1, map 1, service 1, start 4, length 4, finishing frame's count modulo 2^32 4."
-unfoldable pub recordOf : Info → ℕ → ℕ → List ℕ
-recordOf i start size = i .lane ∷ i .vc ∷ i .map ∷ i .service ∷ be 4 start ++ be 4 size ++ be 4 (i .count)
+-- "Record, sizes in octets: lane 1, virtual channel 1, map 1, service 1, start 4, length 4", and "as before up to the length, then the count in 8
+-- octets, then 4 octets: the unit's frame span" (document 02, A2). The count is the finishing frame's.
+unfoldable pub recordOf : Info → ℕ → ℕ → ℕ → List ℕ
+recordOf i start size span = i .lane ∷ i .vc ∷ i .map ∷ i .service ∷ be 4 start ++ be 4 size ++ be 8 (i .count) ++ be 4 span
 
--- "Units stand back to back from the start of the unit area, each with one 16-octet record."
+-- "Units stand back to back from the start of the unit area, each with one ... record."
 unfoldable pub recordsFrom : Info → ℕ → List DataUnit → List ℕ
 recordsFrom i start [] = []
-recordsFrom i start (u ∷ us) = recordOf i start (length (u .octets)) ++ recordsFrom i (start + length (u .octets)) us
+recordsFrom i start (u ∷ us) = recordOf i start (length (u .octets)) (u .span) ++ recordsFrom i (start + length (u .octets)) us
 
 unfoldable pub infoOf : Setting → ℕ → ℕ → Info
 infoOf s l k =

@@ -27,7 +27,7 @@ abbrev pub noExpects : Expects
 noExpects = record { counts = replicate 8 0; known = replicate 8 false }
 
 abbrev pub noSlot : Slot
-noSlot = record { held = 0 }
+noSlot = record { held = 0; span = 0 }
 
 abbrev pub channel : Setting → ℕ → Channel
 channel s c = getD (s .channels) c noChannel
@@ -53,6 +53,10 @@ slot r l = getD (r .slots) l noSlot
 -- How many octets lane l holds.
 abbrev pub heldBy : Reader → ℕ → ℕ
 heldBy r l = (slot r l) .held
+
+-- "Each lane now also keeps the span so far" (document 02, A2).
+abbrev pub spanBy : Reader → ℕ → ℕ
+spanBy r l = (slot r l) .span
 
 -- With something else expected on channel c, or another slot of lane l, all others as they were.
 abbrev pub expecting : Expects → ℕ → Expect → Expects
@@ -163,13 +167,18 @@ freshReader s = record { setting = s; expects = noExpects; slots = replicate 8 n
 unfoldable pub freshWriter : Setting → Writer
 freshWriter s = record { setting = s; counts = replicate 8 0; next = replicate 8 0 }
 
+-- "Each lane holds fewer octets than its longest unit"; not valid also "when a held span exceeds the octets held, or is 0 while some are"
+-- (document 02, A2).
+unfoldable pub slotOk : ℕ → Slot → Bool
+slotOk longest x = all (x .held <? longest ∷ not (x .held <? x .span) ∷ not (x .span =? 0 && x .held ≠? 0) ∷ [])
+
 -- "A state handed in is valid when its setting is, each count is below 256^n, each lane holds fewer octets than its longest unit,
 -- and next frame numbers are at most 32,767." A count is judged whether or not one is expected.
 unfoldable pub readerOk : Reader → Bool
 readerOk r =
     all (settingOk (r .setting)
     ∷ every (r .setting .listed) (λ (c : ℕ). (expect r c) .count <? 256 ^ (channel (r .setting) c) .octets)
-    ∷ every (r .setting .numbered) (λ (l : ℕ). heldBy r l <? (lane (r .setting) l) .longest) ∷ [])
+    ∷ every (r .setting .numbered) (λ (l : ℕ). slotOk ((lane (r .setting) l) .longest) (slot r l)) ∷ [])
 
 unfoldable pub writerOk : Writer → Bool
 writerOk w =

@@ -8,11 +8,12 @@ use lib.ListN.{length}
 use Rattle.rules.specs.declared.Kind.{Kind}
 use Rattle.rules.specs.declared.Kind.the-variants.{Packets, Access}
 use Rattle.rules.specs.declared.Setting.{Setting}
+use Rattle.rules.specs.declared.Slot.{Slot}
 use Rattle.rules.specs.declared.Reader.{Reader}
 use Rattle.rules.specs.declared.Writer.{Writer}
 use Rattle.rules.specs.declared.Place.{Place}
 use Rattle.rules.specs.declared.Place.the-variants.{At, Nowhere}
-use Rattle.rules.specs.Settings.{channel, lane, channelOf, expect, heldBy, count, number, zone, settingOk}
+use Rattle.rules.specs.Settings.{channel, lane, channelOf, expect, slot, count, number, zone, settingOk}
 use Rattle.rules.specs.Frames.{ruleIn, pointerIn, pointsTo}
 use Rattle.rules.specs.Refusals.{channelAt, laneAt, ruleFits}
 
@@ -57,11 +58,17 @@ pub record Good (s : Setting) : Type 0 where
 
 -- ---- states
 
+-- What is held is less than the longest unit. Each frame that carries it has an octet of it, and where something is held, some frame does.
+pub record GoodSlot (longest : ℕ) (x : Slot) : Type 0 where
+  pub below : x .held < longest
+  pub within : x .span ≤ x .held
+  pub some : 0 < x .held → 0 < x .span
+
 pub record GoodReader (r : Reader) : Type 0 where
   pub ok : settingOk (r .setting) ≡ true
   pub setting : Good (r .setting)
   pub counts : (c : ℕ) → c < r .setting .listed → (expect r c) .count < 256 ^ (channel (r .setting) c) .octets
-  pub held : (l : ℕ) → l < r .setting .numbered → heldBy r l < (lane (r .setting) l) .longest
+  pub slots : (l : ℕ) → l < r .setting .numbered → GoodSlot ((lane (r .setting) l) .longest) (slot r l)
 
 pub record GoodWriter (w : Writer) : Type 0 where
   pub ok : settingOk (w .setting) ≡ true

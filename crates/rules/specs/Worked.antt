@@ -91,7 +91,7 @@ missingOf o = o .taken .answer .missing
 
 -- The record area's first record, and one octet more.
 abbrev pub recordIn : Got → List ℕ
-recordIn o = take 17 (o .recordArea)
+recordIn o = take 25 (o .recordArea)
 
 -- Each of the reads.
 unfoldable pub each {ℓ} : {A : Type ℓ} → (Got → A) → List Got → List A
@@ -153,9 +153,10 @@ cases =
     case 1 (take 4 (getD (packetSends 1 (packet₀ ++ packet₁)) 0 []) ∷ []) ((0xC0 ∷ 0x02 ∷ 0xA0 ∷ 0x6A ∷ []) ∷ [])
     ∷ case 2 (packetSends 1 (packet₀ ++ packet₁)) (frame₀ ∷ [])
     ∷ case 3 (drop 1 (packetSends 2 (packet₀ ++ packet₁))) (frame₁ ∷ [])
+    -- "Case 4 is amended" (document 02, A2): up to the length as printed, then the counts 0 and 1 in 8 octets, and the spans 1 and 2.
     ∷ case 4 (each recordIn (packetReads (frame₀ ∷ frame₁ ∷ [])))
-    ((0x00 ∷ 0x03 ∷ 0x05 ∷ 0x00 ∷ 0 ∷ 0 ∷ 0 ∷ 0 ∷ 0 ∷ 0 ∷ 0 ∷ 0x0A ∷ 0 ∷ 0 ∷ 0 ∷ 0 ∷ 0x55 ∷ [])
-    ∷ (0x00 ∷ 0x03 ∷ 0x05 ∷ 0x00 ∷ 0 ∷ 0 ∷ 0 ∷ 0 ∷ 0 ∷ 0 ∷ 0 ∷ 0x12 ∷ 0 ∷ 0 ∷ 0 ∷ 0x01 ∷ 0x55 ∷ []) ∷ [])
+    ((0x00 ∷ 0x03 ∷ 0x05 ∷ 0x00 ∷ 0 ∷ 0 ∷ 0 ∷ 0 ∷ 0 ∷ 0 ∷ 0 ∷ 0x0A ∷ 0 ∷ 0 ∷ 0 ∷ 0 ∷ 0 ∷ 0 ∷ 0 ∷ 0 ∷ 0 ∷ 0 ∷ 0 ∷ 0x01 ∷ 0x55 ∷ [])
+    ∷ (0x00 ∷ 0x03 ∷ 0x05 ∷ 0x00 ∷ 0 ∷ 0 ∷ 0 ∷ 0 ∷ 0 ∷ 0 ∷ 0 ∷ 0x12 ∷ 0 ∷ 0 ∷ 0 ∷ 0 ∷ 0 ∷ 0 ∷ 0 ∷ 0x01 ∷ 0 ∷ 0 ∷ 0 ∷ 0x02 ∷ 0x55 ∷ []) ∷ [])
     ∷ case 5 (each numbers (packetReads (frame₁ ∷ []))) ((0 ∷ 0 ∷ 0 ∷ 14 ∷ 0 ∷ 7 ∷ []) ∷ [])
     ∷ case 6 (drop 1 (each numbers (packetReads (frame₀ ∷ recounted 2 frame₁ ∷ [])))) ((0 ∷ 0 ∷ 1 ∷ 14 ∷ 0 ∷ 18 ∷ []) ∷ [])
     ∷ case 7 (dataHeaders (packetSends 3 (packetOf 60) ++ packetSends 3 (packetOf 63)))

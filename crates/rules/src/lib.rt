@@ -8,9 +8,9 @@ pub const PART_SIZE: usize = 8192;
 
 pub const UNITS_SIZE: usize = 12288;
 
-pub const RECORDS_SIZE: usize = 9600;
+pub const RECORDS_SIZE: usize = 14400;
 
-pub const RECORD_SIZE: usize = 16;
+pub const RECORD_SIZE: usize = 24;
 
 pub const BATCH_SIZE: usize = 32768;
 
@@ -64,9 +64,10 @@ pub struct Expects {
     pub known: [bool; 8],
 }
 
-// What a reader keeps of a lane: how many octets it holds.
+// What a reader keeps of a lane: how many octets it holds, and how many frames of the lane carry them.
 pub struct Slot {
     pub held: usize,
+    pub span: usize,
 }
 
 // A reader's state: of each channel the count that it expects, of each lane its slot.
