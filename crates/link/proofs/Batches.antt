@@ -17,12 +17,12 @@ use Rattle.rules.specs.Areas.{joined}
 use Rattle.rules.specs.Packets.{packets}
 use Rattle.rules.specs.Frames.{pointerTo, pointsTo}
 use Rattle.rules.specs.Writing.{batchOk, unitsOf, frames, zoneOf, ruleOf, startFrom, offsetOf, inside, pointerOf, numberAfter}
-use Rattle.rules.specs.Reading.{laneStep, packetLane, accessLane}
+use Rattle.rules.specs.Reading.{DataUnit, laneStep, packetLane, accessLane}
 use Rattle.rules.proofs.Tests.{same, all-at}
 use Rattle.rules.specs.Valid.{least}
 use Rattle.link.specs.Due.{ending}
 use Rattle.link.proofs.Whole.{Batch, packet-batch}
-use Rattle.link.proofs.Spans.{Filled, yields, yield, heldFrom, Delivers, Follows}
+use Rattle.link.proofs.Spans.{Filled, yields, yield, spanned, onward, heldFrom, Delivers, Follows}
 use Rattle.link.proofs.PacketLane.{wholes-filled, packet-lane}
 use Rattle.link.proofs.AccessLane.{access-lane}
 
@@ -82,26 +82,27 @@ module _ (longest z : ℕ) (zp : 0 < z) (zl : z ≤ 4096) (k : ℕ) (b : List �
       (λ e. let p : 0 < k * z = mul-pos (omega arith) zp in rw (ne-eqb k 0 e, ne-eqb (k * z) 0 (λ q. omega arith)))
 
   -- Frame k of a batch, as either kind of lane reads it.
-  pub lane-reads : (kind : Kind) (h : List ℕ) → least kind ≤ longest → batchOk kind longest b ≡ true → k < frames z b
+  pub lane-reads : (kind : Kind) (h : DataUnit) → least kind ≤ longest → batchOk kind longest b ≡ true → k < frames z b
       → Delivers (unitsOf kind b) (k * z) (k * z + z) h (yield (laneStep kind longest (ruleOf kind k) h (pointsTo (pointerOf kind z b k)) (zoneOf kind z b k)))
   unfolding laneStep pointerOf offsetOf zoneOf
-  lane-reads Packets h enough ok f j js e =
+  lane-reads Packets h enough ok f j n js e =
       let p : Batch longest b = packet-batch longest b ok in
       let l : k * z < length (joined (packets b)) = rw (p .joins) (frame-within z zp b k f) in
-      ap₂ (λ (x : List ℕ) (q : Place). yield (packetLane longest x q (zoneOf Packets z b k))) e (points-back z (startFrom (packets b) (k * z) - k * z) zl)
+      ap₂ (λ (x : DataUnit) (q : Place). yield (packetLane longest x q (zoneOf Packets z b k))) e (points-back z (startFrom (packets b) (k * z) - k * z) zl)
       ∙ subst
       (λ (x : List ℕ).
-      yield (packetLane longest (heldFrom j 0 (k * z) (packets b)) (inside z (startFrom (packets b) (k * z) - k * z)) (zoneOf Packets z x k))
-      ≡ yields (ending (k * z) (k * z + z) (λ (i : ℕ). j ≤? i) 0 (packets b)) (heldFrom j 0 (k * z + z) (packets b)))
+      yield (packetLane longest (heldFrom j n 0 (k * z) (packets b)) (inside z (startFrom (packets b) (k * z) - k * z)) (zoneOf Packets z x k))
+      ≡ yields (ending (k * z) (k * z + z) (λ (i : ℕ). j ≤? i) (spanned (onward (k * z) n)) 0 (packets b))
+      (heldFrom j (onward (k * z) n) 0 (k * z + z) (packets b)))
       (p .joins)
-      (packet-lane longest z zp j (k * z) js (omega arith) (packets b) 0 (k * z) (p .wholes) (zero-add (k * z)) l)
-  lane-reads Access h enough ok f j js e =
+      (packet-lane longest z zp j n (k * z) js (omega arith) (packets b) 0 (k * z) (p .wholes) (zero-add (k * z)) l)
+  lane-reads Access h enough ok f j n js e =
       unfold batchOk in
-      ap₂ (λ (x : List ℕ) (q : Place). yield (accessLane longest (ruleOf Access k =? 0b001) x q (zoneOf Access z b k))) e
+      ap₂ (λ (x : DataUnit) (q : Place). yield (accessLane longest (ruleOf Access k =? 0b001) x q (zoneOf Access z b k))) e
       (points-back z (length b - 1 - k * z) zl)
-      ∙ ap (λ (t : Bool). yield (accessLane longest t (heldFrom j 0 (k * z) (b ∷ [])) (inside z (length b - 1 - k * z)) (zoneOf Access z b k)))
+      ∙ ap (λ (t : Bool). yield (accessLane longest t (heldFrom j n 0 (k * z) (b ∷ [])) (inside z (length b - 1 - k * z)) (zoneOf Access z b k)))
       (sym starts-unit)
-      ∙ access-lane longest z zp j (k * z) js b (leb-true _ _ (all-at _ 1 ok)) (frame-within z zp b k f)
+      ∙ access-lane longest z zp j n (k * z) js b (leb-true _ _ (all-at _ 1 ok)) (frame-within z zp b k f)
 
 -- ---- the frame after it
 

@@ -4,12 +4,12 @@ use mathlib.Core.Path.{_≡_, refl, sym, ap, _∙_}
 use Prim.Native.Nat.{ℕ}
 use native.Mathlib.Omega.{arith}
 use mathlib.Core.Bool.{true, false}
-use mathlib.Core.List.{List, [], _∷_, _++_}
+use mathlib.Core.List.{List, [], _∷_, _++_, map}
 use lib.ListN.{length, getD, take, drop, replicate}
 use Rattle.rules.specs.Worked.{each, answer}
 use Rattle.link.specs.Link.{Call, Event}
 use Rattle.link.specs.Demand.{keptOn, fewGone, framesOf, readsOf, Run, Exact}
-use Rattle.link.specs.Examples.{a₀, d₀, mixed, gapOf, held, onEach, got, dueOnEach, owed, mixedLanes}
+use Rattle.link.specs.Examples.{a₀, d₀, told, mixed, gapOf, held, onEach, got, dueOnEach, owed, mixedLanes}
 use Rattle.link.proofs.Computes.{all}
 use Rattle.link.proofs.LongRuns.{meets-far}
 
@@ -36,8 +36,8 @@ pub called-repeat :
 unfolding all
 called-repeat = refl
 
--- The mixture is handed out, and nothing is due.
-pub mixture-out : got mixed mixedLanes far ≡ (mixture ∷ []) ∷ [] ∷ []
+-- The mixture is handed out, with count 1 and span 2, and nothing is due.
+pub mixture-out : got mixed mixedLanes far ≡ ((1 ∷ 2 ∷ mixture) ∷ []) ∷ [] ∷ []
 unfolding all
 mixture-out = refl
 
@@ -50,7 +50,7 @@ pub bound-needed : ((h : List ℕ) (es : List (Event Call)) → Run mixed h es �
 unfolding onEach got dueOnEach owed
 bound-needed d =
     let first : List (List (List ℕ)) → List (List ℕ) = λ (xs : List (List (List ℕ))). getD xs 0 [] in
-    let e : mixture ∷ [] ≡ [] = sym (ap first mixture-out) ∙ d held far meets-far ∙ ap first nothing-due in
+    let e : (1 ∷ 2 ∷ mixture) ∷ [] ≡ [] = sym (ap first mixture-out) ∙ ap (map told) (d held far meets-far) ∙ ap first nothing-due in
     let n : _≡_ {A = ℕ} 1 0 = ap length e in
     absurd (omega arith)
 

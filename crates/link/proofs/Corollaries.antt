@@ -15,7 +15,7 @@ use Rattle.rules.specs.Calls.{setUpReader, setUpWriter}
 use Rattle.rules.specs.Valid.{Good}
 use Rattle.rules.proofs.Counts.{counts-many}
 use Rattle.rules.proofs.Tests.{and-left, and-right, and-both}
-use Rattle.link.specs.Link.{Call, Frame, placeOf, startOf, frameBy, Event, Writes, Copy, Stray, arrives, placeIn, flown, sent}
+use Rattle.link.specs.Link.{Call, Frame, placeOf, startOf, frameBy, Event, Writes, Copy, Stray, arrives, placeIn, flown, sent, octetsIn}
 use Rattle.link.specs.Due.{noneGone, due}
 use Rattle.link.specs.Demand.{keptOn, fewGone, framesOf, Run}
 use Rattle.link.specs.Corollaries.{unitsSent, unitsEnded, afterCalls, Between, sentBefore, earlier, later, allKept, allGone, NothingGone, EverythingGone, NoMoreGone, LaterBatches}
@@ -123,12 +123,12 @@ module _ (s : Setting) (held : List ℕ) (xs ys : List (Event Call)) (run : Run 
 
   module _ (b : Begins (uslp s) l (after (uslp s) w xs)) where
     due-later : noneGone (placeOf s l) (later s xs ys) ≡ true
-        → due l [] (framesOf s (xs ++ ys)) ≡ due l [] (earlier s xs ys) ++ unitsEnded l (later s xs ys)
+        → octetsIn (due l [] (framesOf s (xs ++ ys))) ≡ octetsIn (due l [] (earlier s xs ys)) ++ unitsEnded l (later s xs ys)
     due-later n =
-        ap (λ (fs : List (Event Frame)). due l [] (sent fs)) (sym (flies-flown s (xs ++ ys) w))
+        ap (λ (fs : List (Event Frame)). octetsIn (due l [] (sent fs))) (sym (flies-flown s (xs ++ ys) w))
         ∙ later-due (uslp s) (facts s good) l xs ys w _ [] (new .writer) goes b
         (subst (λ (fs : List Frame). noneGone (placeOf s l) fs ≡ true) (sym (wrote-later s xs ys w)) n)
-        ∙ ap₂ (λ (fs gs : List Frame). due l [] fs ++ unitsEnded l gs) (wrote-before s xs ys w) (wrote-later s xs ys w)
+        ∙ ap₂ (λ (fs gs : List Frame). octetsIn (due l [] fs) ++ unitsEnded l gs) (wrote-before s xs ys w) (wrote-later s xs ys w)
 
     units-later : Between s (xs ++ ys) l → unitsEnded l (later s xs ys) ≡ unitsSent l (later s xs ys)
     units-later e =
@@ -137,7 +137,7 @@ module _ (s : Setting) (held : List ℕ) (xs ys : List (Event Call)) (run : Run 
 
 pub no-more-gone : NoMoreGone
 no-more-gone s held xs ys run near l b n =
-    demand s held (xs ++ ys) run near l ∙ due-later s held xs ys run l (between s xs ((setUpWriter s) .state) l b) n
+    ap octetsIn (demand s held (xs ++ ys) run near l) ∙ due-later s held xs ys run l (between s xs ((setUpWriter s) .state) l b) n
 
 pub later-batches : LaterBatches
 later-batches s held xs ys run l b e = units-later s held xs ys run l (between s xs ((setUpWriter s) .state) l b) e
@@ -146,8 +146,8 @@ pub nothing-gone : NothingGone
 unfolding after afterCalls due sentBefore
 nothing-gone s held xs run h l e =
     let b = (new s held [] xs run l) .start l in
-    demand s held xs run
+    ap octetsIn (demand s held xs run
     (λ c p.
     let n = counts-many ((channel s c) .octets) (good-setting s (run .writer) .channels c p .one) in
-    kept-few c (256 ^ (channel s c) .octets - 1) (omega (arith, n)) false (framesOf s xs) h) l
+    kept-few c (256 ^ (channel s c) .octets - 1) (omega (arith, n)) false (framesOf s xs) h) l)
     ∙ due-later s held [] xs run l b (kept-none-gone (placeOf s l) (framesOf s xs) h) ∙ units-later s held [] xs run l b e

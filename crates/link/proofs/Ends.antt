@@ -4,12 +4,12 @@ use mathlib.Core.Path.{_≡_, refl, sym, ap, _∙_}
 use mathlib.Core.Logic.{_⊎_}
 use Prim.Native.Nat.{ℕ, _^_, _≤_, _<_}
 use mathlib.Core.Bool.{Bool, false}
-use mathlib.Core.List.{List, []}
+use mathlib.Core.List.{List, [], map}
 use borrow.Author.Tests.{ne-eqb, eq-eqb}
 use Rattle.rules.specs.declared.Expect.{Expect}
 use Rattle.rules.specs.Writing.{countAfter}
-use Rattle.rules.specs.Reading.{missing, expected}
-use Rattle.link.specs.Link.{Lent, Arrival, Frame}
+use Rattle.rules.specs.Reading.{missing, expected, DataUnit, noUnit}
+use Rattle.link.specs.Link.{Lent, Arrival, Frame, Filed}
 use Rattle.link.specs.Demand.{lending}
 use Rattle.link.proofs.Spans.{Filled, yields, Delivers, Follows}
 use Rattle.link.proofs.Invariant.{heldAfter}
@@ -26,7 +26,7 @@ pub record Ends : Type 1 where
   pub next : Writer → Call → Writer
   -- The reader that a read leaves, and what it hands out on each lane.
   pub heard : Hearer → Arrival → Hearer
-  pub hands : Hearer → Arrival → ℕ → List (List ℕ)
+  pub hands : Hearer → Arrival → ℕ → List Filed
   -- How many lanes there are; the place of a lane's channel, how many octets its counts have, and how many frames gone between two kept ones are
   -- one too many; and the units of a batch.
   pub lanes : ℕ
@@ -35,11 +35,11 @@ pub record Ends : Type 1 where
   pub bound : ℕ → ℕ
   pub units : ℕ → List ℕ → List (List ℕ)
   -- Of a lane: the octet with which its next frame starts, if this is the batch that it is at, and its channel's count; the count that is
-  -- expected there, and the octets that are held.
+  -- expected there, and what is held.
   pub start : Writer → ℕ → List ℕ → ℕ
   pub count : Writer → ℕ → ℕ
   pub expect : Hearer → ℕ → Expect
-  pub held : Hearer → ℕ → List ℕ
+  pub held : Hearer → ℕ → DataUnit
   -- What is asked of a run: the call is accepted in its turn, where each lane last lent these batches; areas are of the size asked for; what
   -- arrives changes nothing at the reader.
   pub Goes : Writer → (ℕ → List ℕ) → Call → Type 0
@@ -52,6 +52,10 @@ pub record Ends : Type 1 where
 -- A copy of a frame that arrives.
 abbrev pub whole : Frame → Lent → Arrival
 whole f lent = record { octets = f .octets; lent = lent }
+
+-- A unit that is handed out with this count.
+abbrev pub filed : ℕ → DataUnit → Filed
+filed k u = record { octets = u .octets; count = k; span = u .span }
 
 module _ (E : Ends) where
   -- ---- an accepted call that lends b and writes f, after which the writer is w′
@@ -106,10 +110,10 @@ module _ (E : Ends) where
   -- ---- a kept frame, after whose read the reader is r′ and these units are handed out
 
   -- What lane l then holds, before the frame is read.
-  abbrev pub holding : E .Writer → E .Hearer → ℕ → List ℕ
+  abbrev pub holding : E .Writer → E .Hearer → ℕ → DataUnit
   holding w r l = heldAfter (E .octets l) (E .expect r l) (E .count w l) (E .held r l)
 
-  pub record Heard (w : E .Writer) (r : E .Hearer) (f : Frame) (r′ : E .Hearer) (out : ℕ → List (List ℕ)) : Type 0 where
+  pub record Heard (w : E .Writer) (r : E .Hearer) (f : Frame) (r′ : E .Hearer) (out : ℕ → List Filed) : Type 0 where
     pub sound : E .SoundHearer r′
     pub expect-on : (l : ℕ) → l < E .lanes → f .channel ≡ E .channel l → E .expect r′ l ≡ expected (E .octets l) (E .count w l)
     pub expect-other : (l : ℕ) → (f .channel ≡ E .channel l → ⊥) → E .expect r′ l ≡ E .expect r l
@@ -117,8 +121,10 @@ module _ (E : Ends) where
     pub held-beside : (l : ℕ) → l < E .lanes → f .channel ≡ E .channel l → (f .lane ≡ l → ⊥) → E .held r′ l ≡ holding w r l
     pub held-other : (l : ℕ) → l < E .lanes → (f .channel ≡ E .channel l → ⊥) → (f .lane ≡ l → ⊥) → E .held r′ l ≡ E .held r l
     pub none : (l : ℕ) → (f .lane ≡ l → ⊥) → out l ≡ []
-    -- The frame's own lane.
-    pub delivers : Delivers (f .units) (f .start) (f .stop) (holding w r (f .lane)) (yields (out (f .lane)) (E .held r′ (f .lane)))
+    -- The frame's own lane: units with the frame's count.
+    pub made : List DataUnit
+    pub files : out (f .lane) ≡ map (filed (f .count)) made
+    pub delivers : Delivers (f .units) (f .start) (f .stop) (holding w r (f .lane)) (yields made (E .held r′ (f .lane)))
 
   -- ---- the facts
 
@@ -154,4 +160,4 @@ module _ (E : Ends) where
     pub start : (l : ℕ) (b : List ℕ) → E .start w l b ≡ 0
     pub unknown : (l : ℕ) → l < E .lanes → (E .expect r l) .known ≡ false
     pub below : (l : ℕ) → l < E .lanes → (E .expect r l) .count < 256 ^ E .octets l
-    pub held : (l : ℕ) → l < E .lanes → E .held r l ≡ []
+    pub held : (l : ℕ) → l < E .lanes → E .held r l ≡ noUnit

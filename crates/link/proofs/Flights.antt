@@ -8,7 +8,7 @@ use mathlib.Core.Bool.{Bool}
 use mathlib.Core.List.{List, [], _∷_, _++_}
 use borrow.Author.Tests.{eq-eqb, ne-eqb}
 use Rattle.rules.proofs.Tests.{same}
-use Rattle.link.specs.Link.{Frame, Lent, Event, Writes, Copy, Stray, arrives, sent, Arrival, Air, sending, copied, arrivals}
+use Rattle.link.specs.Link.{Frame, Lent, Event, Writes, Copy, Stray, arrives, sent, Arrival, Air, sending, copied, arrivals, Filed}
 use Rattle.link.specs.Due.{due}
 use Rattle.link.specs.Demand.{lending}
 use Rattle.link.proofs.Ends.{Ends, whole, Sends, Unmoved, Heard, Copied, Facts}
@@ -31,7 +31,7 @@ module _ (E : Ends) where
   after w (Copy c a ∷ es) = after w es
   after w (Stray f a ∷ es) = after w es
 
-  unfoldable pub hearing : ℕ → E .Hearer → List Arrival → List (List ℕ)
+  unfoldable pub hearing : ℕ → E .Hearer → List Arrival → List Filed
   hearing l r [] = []
   hearing l r (a ∷ more) = E .hands r a l ++ hearing l (E .heard r a) more
 
@@ -68,7 +68,7 @@ module _ (E : Ends) where
   abbrev pub heardBy : {c : ℕ} {o : List ℕ} → Flight c o → E .Hearer → Lent → E .Hearer
   heardBy g r lent = E .heard r (whole (frame g) lent)
 
-  abbrev pub handsBy : {c : ℕ} {o : List ℕ} → Flight c o → E .Hearer → Lent → ℕ → List (List ℕ)
+  abbrev pub handsBy : {c : ℕ} {o : List ℕ} → Flight c o → E .Hearer → Lent → ℕ → List Filed
   handsBy g r lent = E .hands r (whole (frame g) lent)
 
   -- It is heard, or it changes nothing.
@@ -130,7 +130,7 @@ module _ (E : Ends) where
           let f : Frame = E .frame w x k in
           let now : Flight (f .channel) (f .octets) = flight w last x k sw (g .0) refl in
           no-run es (E .next w x) r _ (f ∷ past) (sending f air) ((facts .sends w last x k sw (g .0)) .sound) sr (flying-on f air fly now) (g .1)
-          ∙ ap (λ (us : List (List ℕ)). us ++ due l (f ∷ past) (sent (flies (E .next w x) es))) (sym (due-not l f past (not-sent now)))
+          ∙ ap (λ (us : List Filed). us ++ due l (f ∷ past) (sent (flies (E .next w x) es))) (sym (due-not l f past (not-sent now)))
       no-run (Copy d lent ∷ es) w r last past air sw sr fly g =
           by (air d) (fly d) (λ r′ sr′. no-run es w r′ last past air sw sr′ fly (g .1))
         where
@@ -142,7 +142,7 @@ module _ (E : Ends) where
               subst (λ (y : List ℕ). E .hands r (record { octets = y; lent = lent }) l
               ++ hearing l (E .heard r (record { octets = y; lent = lent })) (arrivals air (flies w es)) ≡ due l past (sent (flies w es))) (sym (q .octets))
               (let z = no-hands q r lent sr (g .0) in
-              ap (λ (us : List (List ℕ)). us ++ hearing l (E .heard r (whole (frame q) lent)) (arrivals air (flies w es))) (z .1)
+              ap (λ (us : List Filed). us ++ hearing l (E .heard r (whole (frame q) lent)) (arrivals air (flies w es))) (z .1)
               ∙ more _ (z .0))
       no-run (Stray f lent ∷ es) w r last past air sw sr fly g =
           let u : Unmoved E r (record { octets = f; lent = lent }) = facts .unmoved r (record { octets = f; lent = lent }) sr (g .0) in

@@ -8,38 +8,38 @@ use Prim.Native.Nat.{ℕ, suc, _+_, _%_, _^_, _≤_, _<_}
 use native.Mathlib.Nat.{le-refl, suc-ne-zero}
 use native.Mathlib.Omega.{arith}
 use mathlib.Core.Bool.{Bool, true, false, cond, not, _||_, true≢false, false≢true}
-use mathlib.Core.List.{List, [], _∷_}
+use mathlib.Core.List.{List, _∷_}
 use borrow.Author.Tests.{ltb-true, le-leb, lt-leb, ne-eqb}
 use Rattle.rules.specs.declared.Expect.{Expect}
 use Rattle.rules.specs.Tests.{_≤?_, _<?_, _=?_}
 use Rattle.rules.specs.Writing.{countAfter}
-use Rattle.rules.specs.Reading.{missing, expected}
+use Rattle.rules.specs.Reading.{missing, expected, DataUnit, noUnit}
 use Rattle.rules.proofs.Tests.{split, same, and-left, and-right}
 use Rattle.rules.proofs.Counts.{expect-by, missing-unknown, missing-gone, expected-below, one-further, none-further}
 use Rattle.link.specs.Due.{ending}
 use Rattle.link.specs.Demand.{fewGone}
-use Rattle.link.proofs.Spans.{Yield, yields, heldFrom, held-none, held-over, Delivers, Follows}
+use Rattle.link.proofs.Spans.{Yield, yields, spanned, onward, heldFrom, held-none, held-over, Delivers, Follows}
 
 -- ---- a lane's view
 
 -- What is known of a lane: the octet of its batch with which its next frame starts and its channel's count, at the writer; the count that the
--- reader expects, and the octets that the reader holds; the units of the batch last lent.
+-- reader expects, and what the reader holds; the units of the batch last lent.
 pub record View : Type 0 where
   pub start : ℕ
   pub count : ℕ
   pub expect : Expect
-  pub hold : List ℕ
+  pub hold : DataUnit
   pub units : List (List ℕ)
 
 -- What is held after a frame with count v, before the frame is read.
-unfoldable pub heldAfter : ℕ → Expect → ℕ → List ℕ → List ℕ
-heldAfter n e v hold = cond (missing n e v =? 0) hold []
+unfoldable pub heldAfter : ℕ → Expect → ℕ → DataUnit → DataUnit
+heldAfter n e v hold = cond (missing n e v =? 0) hold noUnit
 
 -- A lane whose channel's counts have n octets, and between two of whose channel's kept frames fewer than m are gone.
 module _ (n m : ℕ) where
-  -- `whole i` says that no frame of the channel is gone since the frame where octet i of the batch is; the flags say which frames of the channel
-  -- that are to come are kept.
-  pub record Inv (v : View) (whole : ℕ → Bool) (flags : List Bool) : Type 0 where
+  -- `whole i` says that no frame of the channel is gone since the frame where octet i of the batch is, and `spans i` how many of the lane's there are
+  -- since that one; the flags say which frames of the channel that are to come are kept.
+  pub record Inv (v : View) (whole : ℕ → Bool) (spans : ℕ → ℕ) (flags : List Bool) : Type 0 where
     pub j : ℕ
     pub gone : ℕ
     pub any : Bool
@@ -48,19 +48,25 @@ module _ (n m : ℕ) where
     pub known : v .expect .known ≡ any
     pub below : v .expect .count < 256 ^ n
     pub count : any ≡ true → v .count ≡ (v .expect .count + gone) % 256 ^ n
-    pub held : gone ≡ 0 → v .hold ≡ heldFrom j 0 (v .start) (v .units)
-    pub fresh : any ≡ false → v .hold ≡ []
+    pub held : gone ≡ 0 → v .hold ≡ heldFrom j spans 0 (v .start) (v .units)
+    pub fresh : any ≡ false → v .hold ≡ noUnit
     pub lost : (gone ≡ 0 → ⊥) → j ≡ v .start
     pub few : fewGone m any gone flags ≡ true
 
   -- Where all that began is lost, nothing is held.
-  none-left : (start : ℕ) (us : List (List ℕ)) → heldFrom start 0 start us ≡ []
-  none-left start us = held-none start 0 start us (omega arith)
+  none-left : (start : ℕ) (spans : ℕ → ℕ) (us : List (List ℕ)) → heldFrom start spans 0 start us ≡ noUnit
+  none-left start spans us = held-none start spans 0 start us (omega arith)
+
+  -- What is held goes by the spans, number by number.
+  same-spans : (j : ℕ) (spans spans′ : ℕ → ℕ) (o : ℕ) (us : List (List ℕ)) → ((i : ℕ) → spans′ i ≡ spans i)
+      → heldFrom j spans 0 o us ≡ heldFrom j spans′ 0 o us
+  same-spans j spans spans′ o us h = ap (λ (n : ℕ → ℕ). heldFrom j n 0 o us) (λ t i. (sym (h i)) t)
 
   -- ---- a frame of another channel
 
-  pub inv-other : (v : View) (whole whole′ : ℕ → Bool) (flags : List Bool) → ((i : ℕ) → whole′ i ≡ whole i) → Inv v whole flags → Inv v whole′ flags
-  inv-other v whole whole′ flags h r =
+  pub inv-other : (v : View) (whole whole′ : ℕ → Bool) (spans spans′ : ℕ → ℕ) (flags : List Bool) → ((i : ℕ) → whole′ i ≡ whole i)
+      → ((i : ℕ) → spans′ i ≡ spans i) → Inv v whole spans flags → Inv v whole′ spans′ flags
+  inv-other v whole whole′ spans spans′ flags h g r =
       record {
         j = r .j;
         gone = r .gone;
@@ -70,7 +76,7 @@ module _ (n m : ℕ) where
         known = r .known;
         below = r .below;
         count = r .count;
-        held = r .held;
+        held = λ e. r .held e ∙ same-spans (r .j) spans spans′ (v .start) (v .units) g;
         fresh = r .fresh;
         lost = r .lost;
         few = r .few;
@@ -78,11 +84,11 @@ module _ (n m : ℕ) where
 
   -- ---- a frame of the channel is gone: the reader knows nothing of it
 
-  pub inv-gone : (v : View) (whole whole′ : ℕ → Bool) (flags : List Bool) (start : ℕ) (us : List (List ℕ)) → ((i : ℕ) → whole′ i ≡ false)
-      → Inv v whole (false ∷ flags)
-      → Inv (record { start = start; count = countAfter n (v .count); expect = v .expect; hold = v .hold; units = us }) whole′ flags
+  pub inv-gone : (v : View) (whole whole′ : ℕ → Bool) (spans spans′ : ℕ → ℕ) (flags : List Bool) (start : ℕ) (us : List (List ℕ))
+      → ((i : ℕ) → whole′ i ≡ false) → Inv v whole spans (false ∷ flags)
+      → Inv (record { start = start; count = countAfter n (v .count); expect = v .expect; hold = v .hold; units = us }) whole′ spans′ flags
   unfolding fewGone
-  inv-gone v whole whole′ flags start us h r =
+  inv-gone v whole whole′ spans spans′ flags start us h r =
       record {
         j = start;
         gone = suc (r .gone);
@@ -100,7 +106,8 @@ module _ (n m : ℕ) where
 
   -- ---- a frame of the channel is kept
 
-  module _ (some : 0 < m) (most : m ≤ 256 ^ n) (v : View) (whole : ℕ → Bool) (flags : List Bool) (r : Inv v whole (true ∷ flags)) where
+  module _ (some : 0 < m) (most : m ≤ 256 ^ n) (v : View) (whole : ℕ → Bool) (spans : ℕ → ℕ) (flags : List Bool)
+      (r : Inv v whole spans (true ∷ flags)) where
     near : r .any ≡ true → r .gone < m
     unfolding fewGone
     near a = go (r .any) a (and-left (not (r .any) || r .gone <? m) (fewGone m true 0 flags) (r .few))
@@ -129,28 +136,32 @@ module _ (n m : ℕ) where
         go false a = omega (arith, missed false a, some)
 
     -- The reader then holds what it should: the gap, if there is one, drops what is lost.
-    settled : heldAfter n (v .expect) (v .count) (v .hold) ≡ heldFrom (r .j) 0 (v .start) (v .units)
+    settled : heldAfter n (v .expect) (v .count) (v .hold) ≡ heldFrom (r .j) spans 0 (v .start) (v .units)
     unfolding heldAfter
     settled = go (r .any) refl
       where
-        lost-now : (r .gone ≡ 0 → ⊥) → heldFrom (r .j) 0 (v .start) (v .units) ≡ []
-        lost-now e = ap (λ (i : ℕ). heldFrom i 0 (v .start) (v .units)) (r .lost e) ∙ none-left (v .start) (v .units)
+        lost-now : (r .gone ≡ 0 → ⊥) → heldFrom (r .j) spans 0 (v .start) (v .units) ≡ noUnit
+        lost-now e = ap (λ (i : ℕ). heldFrom i spans 0 (v .start) (v .units)) (r .lost e) ∙ none-left (v .start) spans (v .units)
 
-        go : (t : Bool) → r .any ≡ t → cond (missing n (v .expect) (v .count) =? 0) (v .hold) [] ≡ heldFrom (r .j) 0 (v .start) (v .units)
+        -- What is held where so many are missing.
+        by : ℕ → DataUnit
+        by x = cond (x =? 0) (v .hold) noUnit
+
+        go : (t : Bool) → r .any ≡ t → by (missing n (v .expect) (v .count)) ≡ heldFrom (r .j) spans 0 (v .start) (v .units)
         go true a =
             same (r .gone) 0
-            (λ e. ap (λ (x : ℕ). cond (x =? 0) (v .hold) []) (missed true a ∙ e) ∙ r .held e)
-            (λ e. ap (λ (x : ℕ). cond (x =? 0) (v .hold) []) (missed true a) ∙ ap (λ (t : Bool). cond t (v .hold) []) (ne-eqb (r .gone) 0 e) ∙ sym (lost-now e))
+            (λ e. ap by (missed true a ∙ e) ∙ r .held e)
+            (λ e. ap by (missed true a) ∙ ap (λ (t : Bool). cond t (v .hold) noUnit) (ne-eqb (r .gone) 0 e) ∙ sym (lost-now e))
         go false a =
-            ap (λ (x : ℕ). cond (x =? 0) (v .hold) []) (missed false a)
+            ap by (missed false a)
             ∙ same (r .gone) 0 (λ e. r .held e) (λ e. r .fresh a ∙ sym (lost-now e))
 
     -- What both ends know afterwards, where the reader holds what it should.
-    kept : (start j : ℕ) (hold : List ℕ) (us : List (List ℕ)) (whole′ : ℕ → Bool) → j ≤ start → ((i : ℕ) → i < start → whole′ i ≡ j ≤? i)
-        → hold ≡ heldFrom j 0 start us
-        → Inv (record { start = start; count = countAfter n (v .count); expect = expected n (v .count); hold = hold; units = us }) whole′ flags
+    kept : (start j : ℕ) (hold : DataUnit) (us : List (List ℕ)) (whole′ : ℕ → Bool) (spans′ : ℕ → ℕ) → j ≤ start
+        → ((i : ℕ) → i < start → whole′ i ≡ j ≤? i) → hold ≡ heldFrom j spans′ 0 start us
+        → Inv (record { start = start; count = countAfter n (v .count); expect = expected n (v .count); hold = hold; units = us }) whole′ spans′ flags
     unfolding expected countAfter
-    kept start j hold us whole′ h w q =
+    kept start j hold us whole′ spans′ h w q =
         record {
           j = j;
           gone = 0;
@@ -166,40 +177,48 @@ module _ (n m : ℕ) where
           few = few-next;
         }
 
-    abbrev hold-now : List ℕ
+    abbrev hold-now : DataUnit
     hold-now = heldAfter n (v .expect) (v .count) (v .hold)
 
     -- It is another lane's.
-    pub inv-beside : (whole′ : ℕ → Bool) → ((i : ℕ) → whole′ i ≡ whole i)
-        → Inv (record { start = v .start; count = countAfter n (v .count); expect = expected n (v .count); hold = hold-now; units = v .units }) whole′ flags
-    inv-beside whole′ h = kept (v .start) (r .j) hold-now (v .units) whole′ (r .since) (λ i l. h i ∙ r .wholly i l) settled
+    pub inv-beside : (whole′ : ℕ → Bool) (spans′ : ℕ → ℕ) → ((i : ℕ) → whole′ i ≡ whole i) → ((i : ℕ) → spans′ i ≡ spans i)
+        → Inv (record { start = v .start; count = countAfter n (v .count); expect = expected n (v .count); hold = hold-now; units = v .units }) whole′
+        spans′ flags
+    inv-beside whole′ spans′ h g =
+        kept (v .start) (r .j) hold-now (v .units) whole′ spans′ (r .since) (λ i l. h i ∙ r .wholly i l)
+        (settled ∙ same-spans (r .j) spans spans′ (v .start) (v .units) g)
 
     -- It is the lane's next frame, of these units.
     module _ (us : List (List ℕ)) (turn : (v .start ≡ 0) ⊎ (us ≡ v .units)) (stop : ℕ) (on : v .start ≤ stop)
         (y : Yield) (does : Delivers us (v .start) stop hold-now y)
-        (whole′ : ℕ → Bool) (now : (i : ℕ) → v .start ≤ i → whole′ i ≡ true) (else : (i : ℕ) → i < v .start → whole′ i ≡ whole i) where
+        (whole′ : ℕ → Bool) (now : (i : ℕ) → v .start ≤ i → whole′ i ≡ true) (else : (i : ℕ) → i < v .start → whole′ i ≡ whole i)
+        (spans′ : ℕ → ℕ) (more : (i : ℕ) → spans′ i ≡ onward (v .start) spans i) where
       -- Of a batch that begins no more is held than of the one before it.
-      turned : heldFrom (r .j) 0 (v .start) (v .units) ≡ heldFrom (r .j) 0 (v .start) us
+      turned : heldFrom (r .j) spans 0 (v .start) (v .units) ≡ heldFrom (r .j) spans 0 (v .start) us
       turned = go turn
         where
-          go : (v .start ≡ 0) ⊎ (us ≡ v .units) → heldFrom (r .j) 0 (v .start) (v .units) ≡ heldFrom (r .j) 0 (v .start) us
-          go (inl e) = held-none (r .j) 0 (v .start) (v .units) (omega arith) ∙ sym (held-none (r .j) 0 (v .start) us (omega arith))
-          go (inr e) = ap (heldFrom (r .j) 0 (v .start)) (sym e)
+          go : (v .start ≡ 0) ⊎ (us ≡ v .units) → heldFrom (r .j) spans 0 (v .start) (v .units) ≡ heldFrom (r .j) spans 0 (v .start) us
+          go (inl e) = held-none (r .j) spans 0 (v .start) (v .units) (omega arith) ∙ sym (held-none (r .j) spans 0 (v .start) us (omega arith))
+          go (inr e) = ap (heldFrom (r .j) spans 0 (v .start)) (sym e)
 
-      made : y ≡ yields (ending (v .start) stop (λ (i : ℕ). r .j ≤? i) 0 us) (heldFrom (r .j) 0 stop us)
-      made = does (r .j) (r .since) (settled ∙ turned)
+      made : y ≡ yields (ending (v .start) stop (λ (i : ℕ). r .j ≤? i) (spanned spans′) 0 us) (heldFrom (r .j) spans′ 0 stop us)
+      made =
+          does (r .j) spans (r .since) (settled ∙ turned)
+          ∙ ap (λ (n : ℕ → ℕ). yields (ending (v .start) stop (λ (i : ℕ). r .j ≤? i) (spanned n) 0 us) (heldFrom (r .j) n 0 stop us))
+          (λ t i. (sym (more i)) t)
 
       wholly : (i : ℕ) → whole′ i ≡ r .j ≤? i
       wholly i =
           split (v .start) i (λ h. now i h ∙ sym (le-leb (r .j) i (omega (arith, r .since)))) (λ h. else i h ∙ r .wholly i h)
 
       -- It hands out the units that end in this frame and lost none.
-      pub units-due : y .units ≡ ending (v .start) stop whole′ 0 us
-      units-due = ap (λ (x : Yield). x .units) made ∙ ap (λ (p : ℕ → Bool). ending (v .start) stop p 0 us) (λ t i. (sym (wholly i)) t)
+      pub units-due : y .units ≡ ending (v .start) stop whole′ (spanned spans′) 0 us
+      units-due =
+          ap (λ (x : Yield). x .units) made ∙ ap (λ (p : ℕ → Bool). ending (v .start) stop p (spanned spans′) 0 us) (λ t i. (sym (wholly i)) t)
 
       pub inv-next : (next : ℕ) → Follows us stop next
-          → Inv (record { start = next; count = countAfter n (v .count); expect = expected n (v .count); hold = y .held; units = us }) whole′ flags
-      inv-next next (inl e) = kept next (r .j) (y .held) us whole′ (omega (arith, r .since)) (λ i l. wholly i)
-          (ap (λ (x : Yield). x .held) made ∙ ap (λ (o : ℕ). heldFrom (r .j) 0 o us) (sym e))
-      inv-next next (inr e) = kept next 0 (y .held) us whole′ (omega arith) (λ i l. absurd (omega (arith, e .0)))
-          (ap (λ (x : Yield). x .held) made ∙ held-over (r .j) 0 stop us (e .1) ∙ sym (held-none 0 0 next us (omega (arith, e .0))))
+          → Inv (record { start = next; count = countAfter n (v .count); expect = expected n (v .count); hold = y .held; units = us }) whole′ spans′ flags
+      inv-next next (inl e) = kept next (r .j) (y .held) us whole′ spans′ (omega (arith, r .since)) (λ i l. wholly i)
+          (ap (λ (x : Yield). x .held) made ∙ ap (λ (o : ℕ). heldFrom (r .j) spans′ 0 o us) (sym e))
+      inv-next next (inr e) = kept next 0 (y .held) us whole′ spans′ (omega arith) (λ i l. absurd (omega (arith, e .0)))
+          (ap (λ (x : Yield). x .held) made ∙ held-over (r .j) spans′ 0 stop us (e .1) ∙ sym (held-none 0 spans′ 0 next us (omega (arith, e .0))))

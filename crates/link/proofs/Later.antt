@@ -5,19 +5,22 @@ use mathlib.Core.Logic.{_⊎_, inl, inr}
 use Prim.Native.Nat.{ℕ, _<_}
 use native.Mathlib.Omega.{arith}
 use mathlib.Core.Bool.{Bool, true, cond}
-use mathlib.Core.List.{List, [], _∷_, _++_, append-assoc}
+use mathlib.Core.List.{List, [], _∷_, _++_, append-assoc, map-append}
 use borrow.Author.Tests.{ne-eqb, eq-eqb}
 use Rattle.rules.specs.Tests.{_=?_}
 use Rattle.rules.proofs.Tests.{split, same, and-left, and-right}
-use Rattle.link.specs.Link.{Frame, Writes, Copy, Stray, arrives, sent}
+use Rattle.link.specs.Link.{Frame, Writes, Copy, Stray, arrives, sent, Filed, octetsIn}
 use Rattle.link.specs.Due.{ending, noneGone, clean, dueIn, due}
 use Rattle.link.specs.Demand.{lending}
 use Rattle.link.specs.Corollaries.{begunIn, endedIn, unitsSent, unitsEnded}
-use Rattle.link.proofs.Spans.{Filled, Follows}
+use Rattle.link.proofs.Spans.{Filled, ends-map, Follows}
 use Rattle.link.proofs.Once.{endsIn, ends-on, ends-nowhere, ends-all}
 use Rattle.link.proofs.Ends.{Ends, Sends, start-own, units-own, start-same, units-same, Facts}
 use Rattle.link.proofs.Views.{Safe, clean-other, clean-now, clean-before, due-not}
 use Rattle.link.proofs.Flights.{Events, flies, after, Runs}
+
+octets-on : (us vs : List Filed) → octetsIn (us ++ vs) ≡ octetsIn us ++ octetsIn vs
+octets-on us vs = map-append (λ (u : Filed). u .octets) us vs
 
 -- ---- the frames of one batch
 
@@ -92,19 +95,22 @@ module _ (E : Ends) where
           split (f .start) a (clean-now (f .lane) (E .channel (f .lane)) f past q refl a)
           (λ b. clean-before (f .lane) (E .channel (f .lane)) f past q refl a b ∙ h a (omega (arith, k .starts)))
 
-      due-step : (l : ℕ) → Safe l (E .channel l) f past → Clean l w last past → (dueIn l f past ≡ endedIn l f) × Clean l w′ last′ (f ∷ past)
+      own-ended : ((a : ℕ) → clean (f .lane) (E .channel (f .lane)) (f ∷ past) a ≡ true) → octetsIn (dueIn (f .lane) f past) ≡ endedIn (f .lane) f
       unfolding dueIn
+      own-ended h =
+          rw (eq-eqb (f .lane) (f .lane) refl)
+          (ends-map (f .start) (f .stop) (clean (f .lane) (f .channel) (f ∷ past)) _ (λ (u : Filed). u .octets) 0 (f .units)
+          ∙ ap (λ (d : ℕ). ending (f .start) (f .stop) (clean (f .lane) d (f ∷ past)) (λ (a : ℕ) (u : List ℕ). u) 0 (f .units)) (k .channel)
+          ∙ ap (λ (p : ℕ → Bool). ending (f .start) (f .stop) p (λ (a : ℕ) (u : List ℕ). u) 0 (f .units)) (λ t a. (h a) t))
+
+      due-step : (l : ℕ) → Safe l (E .channel l) f past → Clean l w last past → (octetsIn (dueIn l f past) ≡ endedIn l f) × Clean l w′ last′ (f ∷ past)
       due-step l q h =
           same (f .lane) l
           (λ e.
-          subst (λ (i : ℕ). Safe i (E .channel i) f past → Clean i w last past → (dueIn i f past ≡ endedIn i f) × Clean i w′ last′ (f ∷ past)) e
-          (λ q h. (
-            ap (λ (d : ℕ). cond (f .lane =? f .lane) (ending (f .start) (f .stop) (clean (f .lane) d (f ∷ past)) 0 (f .units)) []) (k .channel)
-                ∙ ap (λ (p : ℕ → Bool). cond (f .lane =? f .lane) (ending (f .start) (f .stop) p 0 (f .units)) []) (λ t a. (clean-own q h a) t),
-            λ a b. clean-own q h a,
-          )) q h)
+          subst (λ (i : ℕ). Safe i (E .channel i) f past → Clean i w last past → (octetsIn (dueIn i f past) ≡ endedIn i f) × Clean i w′ last′ (f ∷ past)) e
+          (λ q h. (own-ended (clean-own q h), λ a b. clean-own q h a)) q h)
           (λ n. (
-            due-not l f past n ∙ sym (rw (ne-eqb (f .lane) l n)),
+            ap octetsIn (due-not l f past n) ∙ sym (rw (ne-eqb (f .lane) l n)),
             λ a b. clean-other l (E .channel l) f past q n a ∙ h a (subst (λ (m : ℕ). a < m) (start-same E w last batch f w′ k l n) b),
           ))
 
@@ -124,14 +130,16 @@ module _ (E : Ends) where
   module _ (facts : Facts E) (l : ℕ) where
     -- No frame of the channel is gone: every unit that ends is due.
     all-due : (es : Events E) (w : E .Writer) (last : ℕ → List ℕ) (past : List Frame) → E .SoundWriter w → Runs E w last es
-        → Clean l w last past → noneGone (E .channel l) (sent (flies E w es)) ≡ true → due l past (sent (flies E w es)) ≡ unitsEnded l (sent (flies E w es))
+        → Clean l w last past → noneGone (E .channel l) (sent (flies E w es)) ≡ true → octetsIn (due l past (sent (flies E w es)))
+        ≡ unitsEnded l (sent (flies E w es))
     unfolding flies sent due unitsEnded noneGone
     all-due [] w last past s g h q = refl
     all-due (Writes x ∷ es) w last past s g h q =
         let f : Frame = E .frame w x (arrives (E .place) (E .place x) es) in
         let k : Sends E w last (E .batch x) f (E .next w x) = facts .sends w last x _ s (g .0) in
         let d = due-step w last (E .batch x) f (E .next w x) k past l (and-left _ _ q) h in
-        ap₂ _++_ (d .0)
+        octets-on (dueIn l f past) _
+        ∙ ap₂ _++_ (d .0)
         (all-due es (E .next w x) _ (f ∷ past) (k .sound) (g .1) (d .1) (and-right (cond (f .channel =? E .channel l) (f .kept) true) _ q))
     all-due (Copy c lent ∷ es) w last past s g h q = all-due es w last past s (g .1) h q
     all-due (Stray o lent ∷ es) w last past s g h q = all-due es w last past s (g .1) h q
@@ -153,14 +161,17 @@ module _ (E : Ends) where
     -- begins ends, if it stands there after them too.
     pub later-due : (xs ys : Events E) (w : E .Writer) (last : ℕ → List ℕ) (past : List Frame) → E .SoundWriter w
         → Runs E w last (xs ++ ys) → Begins l (after E w xs) → noneGone (E .channel l) (sent (flies E (after E w xs) ys)) ≡ true
-        → due l past (sent (flies E w (xs ++ ys))) ≡ due l past (wroteBefore w xs ys) ++ unitsEnded l (sent (flies E (after E w xs) ys))
+        → octetsIn (due l past (sent (flies E w (xs ++ ys))))
+        ≡ octetsIn (due l past (wroteBefore w xs ys)) ++ unitsEnded l (sent (flies E (after E w xs) ys))
     unfolding flies sent after due wroteBefore
     later-due [] ys w last past s g b n = all-due ys w last past s g (λ a h. absurd (omega (arith, b (last l)))) n
     later-due (Writes x ∷ xs) ys w last past s g b n =
         let f : Frame = E .frame w x (arrives (E .place) (E .place x) (xs ++ ys)) in
-        ap (λ (us : List (List ℕ)). dueIn l f past ++ us)
+        octets-on (dueIn l f past) _
+        ∙ ap (λ (us : List (List ℕ)). octetsIn (dueIn l f past) ++ us)
         (later-due xs ys (E .next w x) _ (f ∷ past) ((facts .sends w last x true s (g .0)) .sound) (g .1) b n)
-        ∙ sym (append-assoc (dueIn l f past) _ _)
+        ∙ sym (append-assoc (octetsIn (dueIn l f past)) _ _)
+        ∙ ap (λ (us : List (List ℕ)). us ++ unitsEnded l (sent (flies E (after E (E .next w x) xs) ys))) (sym (octets-on (dueIn l f past) _))
     later-due (Copy c lent ∷ xs) ys w last past s g b n = later-due xs ys w last past s (g .1) b n
     later-due (Stray o lent ∷ xs) ys w last past s g b n = later-due xs ys w last past s (g .1) b n
 

@@ -18,9 +18,13 @@ use Rattle.link.proofs.Batches.{Units, units, frame-all}
 abbrev any : ℕ → Bool
 any i = true
 
+-- Of each unit, its octets.
+abbrev itself : ℕ → List ℕ → List ℕ
+itself a u = u
+
 -- The units that end in a frame.
 abbrev pub endsIn : ℕ → ℕ → ℕ → List (List ℕ) → List (List ℕ)
-endsIn start stop a us = ending start stop any a us
+endsIn start stop a us = ending start stop any itself a us
 
 -- Those of two frames, one behind the other.
 pub ends-on : (from start stop : ℕ) → from ≤ start → start ≤ stop → (us : List (List ℕ)) (a : ℕ)
@@ -36,31 +40,31 @@ ends-on from start stop g h (u ∷ us) a = by (ends-on from start stop g h us (a
         (λ k.
         split (a + length u) from
         (λ l.
-        ap₂ _++_ (first-before from start any u us a l) (first-before start stop any u us a k) ∙ ih ∙ sym (first-before from stop any u us a l))
+        ap₂ _++_ (first-before from start any itself u us a l) (first-before start stop any itself u us a k) ∙ ih ∙ sym (first-before from stop any itself u us a l))
         (λ l.
-        ap₂ _++_ (first-within from start any u us a l k) (first-before start stop any u us a k)
-        ∙ ap (λ (vs : List (List ℕ)). u ∷ vs) ih ∙ sym (first-within from stop any u us a l (omega arith))))
+        ap₂ _++_ (first-within from start any itself u us a l k) (first-before start stop any itself u us a k)
+        ∙ ap (λ (vs : List (List ℕ)). u ∷ vs) ih ∙ sym (first-within from stop any itself u us a l (omega arith))))
         (λ k.
         split (a + length u) stop
         (λ l.
-        ap₂ _++_ (first-after from start any u us a k) (first-within start stop any u us a k l)
-        ∙ ap (λ (vs : List (List ℕ)). u ∷ (vs ++ endsIn start stop (a + length u) us)) (sym (ends-later from start any us (a + length u) k))
-        ∙ ap (λ (vs : List (List ℕ)). u ∷ vs) ih ∙ sym (first-within from stop any u us a (omega arith) l))
-        (λ l. ap₂ _++_ (first-after from start any u us a k) (first-after start stop any u us a l) ∙ sym (first-after from stop any u us a l)))
+        ap₂ _++_ (first-after from start any itself u us a k) (first-within start stop any itself u us a k l)
+        ∙ ap (λ (vs : List (List ℕ)). u ∷ (vs ++ endsIn start stop (a + length u) us)) (sym (ends-later from start any itself us (a + length u) k))
+        ∙ ap (λ (vs : List (List ℕ)). u ∷ vs) ih ∙ sym (first-within from stop any itself u us a (omega arith) l))
+        (λ l. ap₂ _++_ (first-after from start any itself u us a k) (first-after start stop any itself u us a l) ∙ sym (first-after from stop any itself u us a l)))
 
 -- None in a frame without octets, and all in one with all octets.
 pub ends-nowhere : (n : ℕ) (us : List (List ℕ)) (a : ℕ) → endsIn n n a us ≡ []
 unfolding ending
 ends-nowhere n [] a = refl
 ends-nowhere n (u ∷ us) a =
-    split (a + length u) n (λ h. first-before n n any u us a h ∙ ends-nowhere n us (a + length u)) (λ h. first-after n n any u us a h)
+    split (a + length u) n (λ h. first-before n n any itself u us a h ∙ ends-nowhere n us (a + length u)) (λ h. first-after n n any itself u us a h)
 
 pub ends-all : (stop : ℕ) (us : List (List ℕ)) (a : ℕ) → Filled us → a + length (joined us) ≤ stop → endsIn 0 stop a us ≡ us
 unfolding ending joined
 ends-all stop [] a f h = refl
 ends-all stop (u ∷ us) a f h =
     let l = length-append u (joined us) in
-    first-within 0 stop any u us a (omega (arith, f .0)) (omega (arith, l))
+    first-within 0 stop any itself u us a (omega (arith, f .0)) (omega (arith, l))
     ∙ ap (λ (vs : List (List ℕ)). u ∷ vs) (ends-all stop us (a + length u) (f .1) (omega (arith, l)))
 
 -- ---- frames of z octets

@@ -6,7 +6,7 @@ use Prim.Native.Nat.{ℕ, zero, suc, _+_, _-_, _≤_, _<_}
 use native.Mathlib.Nat.{le-trans, not-suc-le-zero, zero-add, add-zero, add-sub-of-le, sub-self, sub-eq-zero-of-le, le-antisymm}
 use native.Mathlib.Omega.{arith}
 use mathlib.Core.Bool.{Bool, true, false, cond}
-use mathlib.Core.List.{List, [], _∷_, _++_, append-nil, append-assoc, map-append}
+use mathlib.Core.List.{List, [], _∷_, _++_, append-nil, append-assoc}
 use lib.ListN.{length, take, drop, replicate, length-append, length-take, length-drop, take-append-drop}
 use lib.Seq.{length-take-le, take-nil, take-at, drop-at, take-add, take-append-le, take-append-add, drop-append-le, drop-append-add, take-append-seam, drop-append-seam}
 use borrow.Author.Tests.{le-leb, lt-leb, lt-ltb, le-ltb, eq-eqb, ne-eqb}
@@ -21,13 +21,13 @@ use Rattle.rules.specs.Tests.{_≤?_}
 use Rattle.rules.specs.Areas.{joined}
 use Rattle.rules.specs.Packets.{measure}
 use Rattle.rules.specs.Writing.{startFrom, inside}
-use Rattle.rules.specs.Reading.{DataUnit, unitFrom, Made, hands, both, endFate, joinedFate, leadFate, lead, sizedNext, nextOf, front, walk, packetLane}
+use Rattle.rules.specs.Reading.{DataUnit, noUnit, carries, unitFrom, unitOf, hands, both, endFate, joinedFate, leadFate, lead, sizedNext, nextOf, front, walk, packetLane}
 use Rattle.rules.proofs.Tests.{split}
 use Rattle.rules.proofs.Measures.{measure-none, measure-fill}
 use Rattle.rules.proofs.Lanes.{walk-front}
 use Rattle.link.specs.Due.{ending}
 use Rattle.link.proofs.Whole.{Whole, Wholes}
-use Rattle.link.proofs.Spans.{Filled, Yield, yields, yield, becomes, become-is, heldFrom, either, held-past, held-here, first-before, first-within, first-after}
+use Rattle.link.proofs.Spans.{Filled, Yield, yields, yield, becomes, spanned, begun, onward, onward-new, onward-old, begun-none, begun-whole, begun-now, begun-on, heldFrom, either, held-past, held-here, first-before, first-within, first-after}
 
 pub wholes-filled : (longest : ℕ) (us : List (List ℕ)) → Wholes longest us → Filled us
 wholes-filled longest [] w = tt
@@ -49,10 +49,10 @@ module _ (longest : ℕ) (u : List ℕ) (w : Whole longest u) where
       rw (w .self ys, le-leb _ _ (w .fits), le-leb _ _ h)
 
   -- A packet at the front is given, and the walk goes on after it.
-  walk-whole : (ys : List ℕ) → yield (walk longest (u ++ ys)) ≡ yields (u ∷ (yield (walk longest ys)) .units) ((walk longest ys) .held)
+  walk-whole : (ys : List ℕ) → yield (walk longest (u ++ ys)) ≡ yields (unitOf u ∷ (walk longest ys) .units) ((walk longest ys) .held)
   walk-whole ys =
       ap yield (walk-front longest (u ++ ys) ∙ ap (λ (n : Next). front n (u ++ ys) (walk longest)) (next-whole ys))
-      ∙ ap₂ (λ (p q : List ℕ). yield (hands (unitFrom [] p) (walk longest q))) (take-append-seam u ys) (drop-append-seam u ys)
+      ∙ ap₂ (λ (p q : List ℕ). yield (hands (unitOf p) (walk longest q))) (take-append-seam u ys) (drop-append-seam u ys)
 
   next-part : (m : ℕ) → m < length u → nextOf longest (measure (take m u)) (length (take m u)) ≡ Keep
   unfolding nextOf sizedNext
@@ -66,7 +66,7 @@ module _ (longest : ℕ) (u : List ℕ) (w : Whole longest u) where
       by (inr e) l = rw (e, le-leb _ _ (w .fits), lt-leb _ _ l)
 
   -- One that is cut is held.
-  walk-part : (m : ℕ) → m < length u → yield (walk longest (take m u)) ≡ yields [] (take m u)
+  walk-part : (m : ℕ) → m < length u → yield (walk longest (take m u)) ≡ yields [] (unitOf (take m u))
   walk-part m h = ap yield (walk-front longest (take m u) ∙ ap (λ (n : Next). front n (take m u) (walk longest)) (next-part m h))
 
   fate-ends : (on : Bool) → joinedFate longest on (measure u) (length u) ≡ Hand
@@ -87,32 +87,42 @@ module _ (longest : ℕ) (u : List ℕ) (w : Whole longest u) where
 
 module _ (longest : ℕ) (on : Bool) where
   -- "With nothing held, the lead is dropped."
-  lead-none : (xs : List ℕ) → yield (lead longest on [] xs) ≡ yields [] []
+  lead-none : (xs : List ℕ) → yield (lead longest on noUnit xs) ≡ yields [] noUnit
   unfolding lead leadFate
   lead-none xs = refl
 
   -- "Otherwise the lead follows the held octets."
-  lead-joined : (held xs ys : List ℕ) → 0 < length held → 0 < length xs → held ++ xs ≡ ys
-      → yield (lead longest on held xs) ≡ becomes (joinedFate longest on (measure ys) (length ys)) ys
+  lead-joined : (held : DataUnit) (xs ys : List ℕ) → 0 < length (held .octets) → 0 < length xs → held .octets ++ xs ≡ ys
+      → yield (lead longest on held xs) ≡ becomes (joinedFate longest on (measure ys) (length ys)) (unitFrom held xs)
   unfolding lead leadFate
   lead-joined held xs ys h k e =
-      let n : length held + length xs ≡ length ys = sym (length-append held xs) ∙ ap length e in
-      rw (ne-eqb (length held) 0 (λ q. omega arith), ne-eqb (length xs) 0 (λ q. omega arith))
-      (become-is (joinedFate longest on (measure (held ++ xs)) (length held + length xs)) (record { octets = held ++ xs; earlier = true })
-      ∙ ap₂ (λ (l : List ℕ) (i : ℕ). becomes (joinedFate longest on (measure l) i) l) e n)
+      let n : length (held .octets) + length xs ≡ length ys = sym (length-append (held .octets) xs) ∙ ap length e in
+      rw (ne-eqb (length (held .octets)) 0 (λ q. omega arith), ne-eqb (length xs) 0 (λ q. omega arith))
+      (ap₂ (λ (l : List ℕ) (i : ℕ). becomes (joinedFate longest on (measure l) i) (unitFrom held xs)) e n)
 
 -- ---- the octets from the pointer on
 
-module _ (longest z : ℕ) (zp : 0 < z) (j start : ℕ) (js : j ≤ start) where
-  abbrev ends : ℕ → List (List ℕ) → List (List ℕ)
-  ends a us = ending start (start + z) (λ (i : ℕ). j ≤? i) a us
+module _ (longest z : ℕ) (zp : 0 < z) (j : ℕ) (carried : ℕ → ℕ) (start : ℕ) (js : j ≤ start) where
+  -- The spans with this frame.
+  abbrev now : ℕ → ℕ
+  now = onward start carried
 
-  abbrev held : ℕ → ℕ → List (List ℕ) → List ℕ
-  held a o us = heldFrom j a o us
+  abbrev ends : ℕ → List (List ℕ) → List DataUnit
+  ends a us = ending start (start + z) (λ (i : ℕ). j ≤? i) (spanned now) a us
+
+  abbrev held : ℕ → ℕ → List (List ℕ) → DataUnit
+  held a o us = heldFrom j now a o us
 
   -- A unit that begins in this frame is not lost.
   not-lost : (a : ℕ) → start ≤ a → j ≤? a ≡ true
   not-lost a h = le-leb _ _ (le-trans js h)
+
+  -- Its span is 1, whole or cut.
+  span-part : (a : ℕ) → start ≤ a → (xs : List ℕ) → unitOf xs ≡ begun (now a) xs
+  span-part a h xs = begun-now xs ∙ ap (λ (k : ℕ). begun k xs) (sym (onward-new start carried a h))
+
+  span-whole : (a : ℕ) → start ≤ a → (u : List ℕ) → 0 < length u → unitOf u ≡ spanned now a u
+  span-whole a h u s = span-part a h u ∙ begun-whole (now a) u s
 
   fill-next : (n : ℕ) → 1 ≤ longest → nextOf longest (measure (filler (suc n))) (length (filler (suc n))) ≡ Skip 1
   unfolding nextOf sizedNext
@@ -121,8 +131,8 @@ module _ (longest z : ℕ) (zp : 0 < z) (j start : ℕ) (js : j ≤ start) where
       rw (measure-fill (filler n), le-leb _ _ h, le-leb _ _ l)
 
   -- "The rest of the last zone is E0 octets": each is an idle packet.
-  walk-fill : (n : ℕ) → 1 ≤ longest → yield (walk longest (filler n)) ≡ yields [] []
-  walk-fill zero h = ap yield (walk-front longest []) ∙ rw measure-none (unfold nextOf in refl)
+  walk-fill : (n : ℕ) → 1 ≤ longest → yield (walk longest (filler n)) ≡ yields [] noUnit
+  walk-fill zero h = ap yield (walk-front longest []) ∙ rw measure-none (unfold nextOf carries in refl)
   walk-fill (suc n) h =
       ap yield (walk-front longest (filler (suc n)) ∙ ap (λ (s : Next). front s (filler (suc n)) (walk longest)) (fill-next n h))
       ∙ walk-fill n h
@@ -150,12 +160,12 @@ module _ (longest z : ℕ) (zp : 0 < z) (j start : ℕ) (js : j ≤ start) where
           ap (λ (xs : List ℕ). yield (walk longest (xs ++ filler n))) (take-over m u (joined us) g)
           ∙ ap (λ (xs : List ℕ). yield (walk longest xs)) (append-assoc u (take (m - length u) (joined us)) (filler n))
           ∙ walk-whole longest u (w .0) y
-          ∙ ap (λ (r : Yield). yields (u ∷ r .units) (r .held)) ih
+          ∙ ap₂ (λ (x : DataUnit) (r : Yield). yields (x ∷ r .units) (r .held)) (span-whole a h u s) ih
           ∙ sym
           (ap₂ yields
-          (first-within start (start + z) (λ (i : ℕ). j ≤? i) u us a (omega (arith, s)) (omega arith)
-          ∙ ap (λ (t : Bool). cond t (u ∷ []) [] ++ ends (a + length u) us) (not-lost a h))
-          (held-past j a m u us g))
+          (first-within start (start + z) (λ (i : ℕ). j ≤? i) (spanned now) u us a (omega (arith, s)) (omega arith)
+          ∙ ap (λ (t : Bool). cond t (spanned now a u ∷ []) [] ++ ends (a + length u) us) (not-lost a h))
+          (held-past j now a m u us g))
 
       part : m < length u → (n ≡ 0) ⊎ (length (u ++ joined us) ≤ m)
           → yield (walk longest (take m (u ++ joined us) ++ filler n)) ≡ yields (ends a (u ∷ us)) (held a m (u ∷ us))
@@ -164,10 +174,11 @@ module _ (longest z : ℕ) (zp : 0 < z) (j start : ℕ) (js : j ≤ start) where
           ap₂ (λ (xs : List ℕ) (i : ℕ). yield (walk longest (xs ++ filler i))) (take-append-le m u (joined us) (omega arith)) q
           ∙ ap (λ (xs : List ℕ). yield (walk longest xs)) (append-nil (take m u))
           ∙ walk-part longest u (w .0) m g
+          ∙ ap (yields []) (span-part a h (take m u))
           ∙ sym
           (ap₂ yields
-          (first-after start (start + z) (λ (i : ℕ). j ≤? i) u us a (omega arith))
-          (held-here j a m u us g ∙ ap (λ (t : Bool). cond t (take m u) []) (not-lost a h)))
+          (first-after start (start + z) (λ (i : ℕ). j ≤? i) (spanned now) u us a (omega arith))
+          (held-here j now a m u us g ∙ ap (λ (t : Bool). cond t (begun (now a) (take m u)) noUnit) (not-lost a h)))
 
   -- ---- the frame's zone, from octet o of the units on
 
@@ -188,14 +199,14 @@ module _ (longest z : ℕ) (zp : 0 < z) (j start : ℕ) (js : j ≤ start) where
 
   -- The packet that stands at octet o is u, which begins at octet a of the batch.
   module _ (one : 1 ≤ longest) (u : List ℕ) (us : List (List ℕ)) (a o : ℕ) (w : Wholes longest (u ∷ us)) (e : a + o ≡ start) where
-    abbrev Says : List ℕ → Place → List ℕ → Type 0
+    abbrev Says : DataUnit → Place → List ℕ → Type 0
     Says h p zs = yield (packetLane longest h p zs) ≡ yields (ends a (u ∷ us)) (held a (o + z) (u ∷ us))
 
     -- It begins with the frame.
-    starts : o ≡ 0 → Says [] (inside z 0) (zoneFrom 0 (u ∷ us))
+    starts : o ≡ 0 → Says noUnit (inside z 0) (zoneFrom 0 (u ∷ us))
     unfolding packetLane lead leadFate both joined
     starts q =
-        ap (λ (p : Place). yield (packetLane longest [] p (zoneFrom 0 (u ∷ us)))) (inside-at 0 zp)
+        ap (λ (p : Place). yield (packetLane longest noUnit p (zoneFrom 0 (u ∷ us)))) (inside-at 0 zp)
         ∙ walk-due (u ∷ us) a z (z - length (take z (u ++ joined us))) one w (omega arith) (omega arith) (fill-last (u ++ joined us))
         ∙ ap (λ (i : ℕ). yields (ends a (u ∷ us)) (held a i (u ∷ us))) (sym (ap (λ (i : ℕ). i + z) q ∙ zero-add z))
 
@@ -210,20 +221,34 @@ module _ (longest z : ℕ) (zp : 0 < z) (j start : ℕ) (js : j ≤ start) where
       some-held : 0 < length (take o u)
       some-held = rw (length-take-le o u (omega arith)) op
 
+      -- What there is of it.
+      abbrev had : DataUnit
+      had = begun (carried a) (take o u)
+
+      -- With octets of this frame, which is one more.
+      span-on : (xs ys : List ℕ) → 0 < length xs → take o u ++ xs ≡ ys → unitFrom had xs ≡ begun (now a) ys
+      span-on xs ys h q =
+          begun-on (carried a) (take o u) xs some-held h
+          ∙ ap₂ begun (sym (onward-old start carried a (omega arith))) q
+
       -- What is left of it, or the whole of it where nothing was lost.
-      lead-ends : (on t : Bool) → yield (lead longest on (cond t (take o u) []) (drop o u)) ≡ yields (cond t (u ∷ []) []) []
+      lead-ends : (on t : Bool) → yield (lead longest on (cond t had noUnit) (drop o u)) ≡ yields (cond t (spanned now a u ∷ []) []) noUnit
       lead-ends on true =
-          lead-joined longest on (take o u) (drop o u) u some-held (rw left-length (omega arith)) (take-append-drop o u)
-          ∙ ap (λ (f : Fate). becomes f u) (fate-ends longest u (w .0) on)
+          let l : 0 < length (drop o u) = rw left-length (omega arith) in
+          lead-joined longest on had (drop o u) u some-held l (take-append-drop o u)
+          ∙ ap₂ becomes (fate-ends longest u (w .0) on)
+          (span-on (drop o u) u l (take-append-drop o u) ∙ begun-whole (now a) u (w .0 .some))
       lead-ends on false = lead-none longest on (drop o u)
 
-      lead-goes : z < left → (t : Bool) → yield (lead longest true (cond t (take o u) []) (take z (drop o u))) ≡ yields [] (cond t (take (o + z) u) [])
+      lead-goes : z < left → (t : Bool)
+          → yield (lead longest true (cond t had noUnit) (take z (drop o u))) ≡ yields [] (cond t (begun (now a) (take (o + z) u)) noUnit)
       lead-goes h true =
           let l : length (take z (drop o u)) ≡ z = length-take-le z (drop o u) (rw left-length (omega arith)) in
           let m : length (take (o + z) u) ≡ o + z = length-take-le (o + z) u (omega arith) in
-          lead-joined longest true (take o u) (take z (drop o u)) (take (o + z) u) some-held (rw l zp) (sym (take-add o z u))
-          ∙ ap (λ (n : ℕ). becomes (joinedFate longest true (measure (take (o + z) u)) n) (take (o + z) u)) m
-          ∙ ap (λ (f : Fate). becomes f (take (o + z) u)) (fate-goes longest u (w .0) (o + z) (omega arith))
+          lead-joined longest true had (take z (drop o u)) (take (o + z) u) some-held (rw l zp) (sym (take-add o z u))
+          ∙ ap₂ (λ (n : ℕ) (x : DataUnit). becomes (joinedFate longest true (measure (take (o + z) u)) n) x) m
+          (span-on (take z (drop o u)) (take (o + z) u) (rw l zp) (sym (take-add o z u)))
+          ∙ ap (λ (f : Fate). becomes f (begun (now a) (take (o + z) u))) (fate-goes longest u (w .0) (o + z) (omega arith))
       lead-goes h false = lead-none longest true (take z (drop o u))
 
       abbrev live : Bool
@@ -237,7 +262,7 @@ module _ (longest z : ℕ) (zp : 0 < z) (j start : ℕ) (js : j ≤ start) where
       behind = z - length (take z (drop o (joined (u ∷ us))))
 
       -- It goes on after this frame.
-      goes : z < left → Says (cond live (take o u) []) (inside z left) (zoneFrom o (u ∷ us))
+      goes : z < left → Says (cond live had noUnit) (inside z left) (zoneFrom o (u ∷ us))
       unfolding packetLane
       goes h =
           let x : take z (drop o (joined (u ∷ us))) ≡ take z (drop o u) = ap (take z) octets-from ∙ take-append-le z (drop o u) (joined us)
@@ -246,12 +271,12 @@ module _ (longest z : ℕ) (zp : 0 < z) (j start : ℕ) (js : j ≤ start) where
           let f : take z (drop o (joined (u ∷ us))) ++ filler behind ≡ take z (drop o u) = ap (λ (ys : List ℕ). ys ++ filler (z - length ys)) x ∙ ap
           (λ (n : ℕ). take z (drop o u) ++ filler (z - n)) l ∙ ap (λ (n : ℕ). take z (drop o u) ++ filler n) (sub-self z) ∙ append-nil (take z (drop o u))
           in
-          ap₂ (λ (p : Place) (zs : List ℕ). yield (packetLane longest (cond live (take o u) []) p zs)) (inside-not left (omega arith)) f
+          ap₂ (λ (p : Place) (zs : List ℕ). yield (packetLane longest (cond live had noUnit) p zs)) (inside-not left (omega arith)) f
           ∙ lead-goes h live
           ∙ sym
           (ap₂ yields
-          (first-after start (start + z) (λ (i : ℕ). j ≤? i) u us a (omega arith))
-          (held-here j a (o + z) u us (omega arith)))
+          (first-after start (start + z) (λ (i : ℕ). j ≤? i) (spanned now) u us a (omega arith))
+          (held-here j now a (o + z) u us (omega arith)))
 
       -- It ends in this frame.
       zone-ends : left ≤ z → zoneFrom o (u ∷ us) ≡ drop o u ++ (take (z - left) (joined us) ++ filler behind)
@@ -275,30 +300,27 @@ module _ (longest z : ℕ) (zp : 0 < z) (j start : ℕ) (js : j ≤ start) where
           ∙ ap (λ (i : ℕ). yields (ends (a + length u) us) (held (a + length u) i us)) n
 
       all-due : left ≤ z
-          → yields (cond live (u ∷ []) [] ++ ends (a + length u) us) (held (a + length u) (o + z - length u) us)
+          → yields (cond live (spanned now a u ∷ []) [] ++ ends (a + length u) us) (held (a + length u) (o + z - length u) us)
           ≡ yields (ends a (u ∷ us)) (held a (o + z) (u ∷ us))
       all-due h =
-          sym (ap₂ yields (first-within start (start + z) (λ (i : ℕ). j ≤? i) u us a (omega arith) (omega arith)) (held-past j a (o + z) u us (omega arith)))
-
-      both-yield : (x y : Made) → yield (both x y) ≡ yields ((yield x) .units ++ (yield y) .units) (y .held)
-      unfolding both
-      both-yield x y = ap (λ (us : List (List ℕ)). yields us (y .held)) (map-append (λ (u : DataUnit). u .octets) (x .units) (y .units))
+          sym
+          (ap₂ yields (first-within start (start + z) (λ (i : ℕ). j ≤? i) (spanned now) u us a (omega arith) (omega arith))
+          (held-past j now a (o + z) u us (omega arith)))
 
       -- Before the frame's end.
-      before-end : left < z → Says (cond live (take o u) []) (inside z left) (zoneFrom o (u ∷ us))
-      unfolding packetLane
+      before-end : left < z → Says (cond live had noUnit) (inside z left) (zoneFrom o (u ∷ us))
+      unfolding packetLane both
       before-end h =
           let rest : List ℕ = take (z - left) (joined us) ++ filler behind in
           let g : left ≤ z = omega arith in
-          ap₂ (λ (p : Place) (zs : List ℕ). yield (packetLane longest (cond live (take o u) []) p zs)) (inside-at left h) (zone-ends g)
-          ∙ ap₂ (λ (xs ys : List ℕ). yield (both (lead longest false (cond live (take o u) []) xs) (walk longest ys)))
+          ap₂ (λ (p : Place) (zs : List ℕ). yield (packetLane longest (cond live had noUnit) p zs)) (inside-at left h) (zone-ends g)
+          ∙ ap₂ (λ (xs ys : List ℕ). yield (both (lead longest false (cond live had noUnit) xs) (walk longest ys)))
           (take-at (drop o u) rest left left-length) (drop-at (drop o u) rest left left-length)
-          ∙ both-yield (lead longest false (cond live (take o u) []) (drop o u)) (walk longest rest)
           ∙ ap₂ (λ (x y : Yield). yields (x .units ++ y .units) (y .held)) (lead-ends false live) (rest-due g)
           ∙ all-due g
 
       -- With it.
-      at-end : left ≡ z → Says (cond live (take o u) []) (inside z left) (zoneFrom o (u ∷ us))
+      at-end : left ≡ z → Says (cond live had noUnit) (inside z left) (zoneFrom o (u ∷ us))
       unfolding packetLane
       at-end h =
           let g : left ≤ z = omega arith in
@@ -307,16 +329,16 @@ module _ (longest z : ℕ) (zp : 0 < z) (j start : ℕ) (js : j ≤ start) where
           (omega (arith, ap length octets-from, length-append (drop o u) (joined us), left-length)) in
           let f : behind ≡ 0 = omega (arith, l) in
           let none : take (z - left) (joined us) ++ filler behind ≡ [] = ap₂ (λ (i m : ℕ). take i (joined us) ++ filler m) n f in
-          let nil : yields [] [] ≡ yields (ends (a + length u) us) (held (a + length u) (o + z - length u) us) = sym
+          let nil : yields [] noUnit ≡ yields (ends (a + length u) us) (held (a + length u) (o + z - length u) us) = sym
           (ap (λ (xs : List ℕ). yield (walk longest xs)) none ∙ walk-fill 0 one) ∙ rest-due g in
-          ap₂ (λ (p : Place) (zs : List ℕ). yield (packetLane longest (cond live (take o u) []) p zs)) (inside-not left (omega arith))
+          ap₂ (λ (p : Place) (zs : List ℕ). yield (packetLane longest (cond live had noUnit) p zs)) (inside-not left (omega arith))
           (zone-ends g ∙ ap (λ (ys : List ℕ). drop o u ++ ys) none ∙ append-nil (drop o u))
           ∙ lead-ends true live
-          ∙ ap (λ (xs : List (List ℕ)). yields xs []) (sym (append-nil (cond live (u ∷ []) [])))
-          ∙ ap (λ (y : Yield). yields (cond live (u ∷ []) [] ++ y .units) (y .held)) nil
+          ∙ ap (λ (xs : List DataUnit). yields xs noUnit) (sym (append-nil (cond live (spanned now a u ∷ []) [])))
+          ∙ ap (λ (y : Yield). yields (cond live (spanned now a u ∷ []) [] ++ y .units) (y .held)) nil
           ∙ all-due g
 
-      began : Says (cond live (take o u) []) (inside z left) (zoneFrom o (u ∷ us))
+      began : Says (cond live had noUnit) (inside z left) (zoneFrom o (u ∷ us))
       began = split left z (λ h. split z left (λ g. at-end (le-antisymm h g)) before-end) goes
 
   -- ---- any octet of the units
@@ -331,7 +353,7 @@ module _ (longest z : ℕ) (zp : 0 < z) (j start : ℕ) (js : j ≤ start) where
   start-on u us o h = rw (ne-eqb o 0 (λ e. omega arith))
 
   pub packet-lane : 1 ≤ longest → (us : List (List ℕ)) (a o : ℕ) → Wholes longest us → a + o ≡ start → o < length (joined us)
-      → yield (packetLane longest (held a o us) (inside z (startFrom us o - o)) (zoneFrom o us)) ≡ yields (ends a us) (held a (o + z) us)
+      → yield (packetLane longest (heldFrom j carried a o us) (inside z (startFrom us o - o)) (zoneFrom o us)) ≡ yields (ends a us) (held a (o + z) us)
   unfolding joined
   packet-lane one [] a o w e l = absurd (not-suc-le-zero l)
   packet-lane one (u ∷ us) a o w e l =
@@ -340,10 +362,10 @@ module _ (longest z : ℕ) (zp : 0 < z) (j start : ℕ) (js : j ≤ start) where
       (λ h. here o e h)
     where
       past : length u ≤ o
-          → yield (packetLane longest (held (a + length u) (o - length u) us) (inside z (startFrom us (o - length u) - (o - length u)))
+          → yield (packetLane longest (heldFrom j carried (a + length u) (o - length u) us) (inside z (startFrom us (o - length u) - (o - length u)))
           (zoneFrom (o - length u) us))
           ≡ yields (ends (a + length u) us) (held (a + length u) (o - length u + z) us)
-          → yield (packetLane longest (held a o (u ∷ us)) (inside z (startFrom (u ∷ us) o - o)) (zoneFrom o (u ∷ us))) ≡ yields (ends a (u ∷ us))
+          → yield (packetLane longest (heldFrom j carried a o (u ∷ us)) (inside z (startFrom (u ∷ us) o - o)) (zoneFrom o (u ∷ us))) ≡ yields (ends a (u ∷ us))
           (held a (o + z) (u ∷ us))
       past h ih =
           let s = w .0 .some in
@@ -351,23 +373,25 @@ module _ (longest z : ℕ) (zp : 0 < z) (j start : ℕ) (js : j ≤ start) where
           let d : drop o (u ++ joined us) ≡ drop (o - length u) (joined us) = ap (λ (i : ℕ). drop i (u ++ joined us)) (sym (add-sub-of-le h))
           ∙ drop-append-add u (joined us) (o - length u) in
           let n : o - length u + z ≡ o + z - length u = omega arith in
-          ap₂ (λ (x : List ℕ) (q : Place). yield (packetLane longest x q (zoneFrom o (u ∷ us)))) (held-past j a o u us h) (ap (inside z) p)
-          ∙ ap (λ (xs : List ℕ). yield (packetLane longest (held (a + length u) (o - length u) us) (inside z (startFrom us (o - length u) - (o - length u)))
+          ap₂ (λ (x : DataUnit) (q : Place). yield (packetLane longest x q (zoneFrom o (u ∷ us)))) (held-past j carried a o u us h) (ap (inside z) p)
+          ∙ ap (λ (xs : List ℕ). yield (packetLane longest (heldFrom j carried (a + length u) (o - length u) us) (inside z (startFrom us (o - length u) - (o - length u)))
           (take z xs ++ filler (z - length (take z xs))))) d
           ∙ ih
           ∙ ap (λ (i : ℕ). yields (ends (a + length u) us) (held (a + length u) i us)) n
-          ∙ sym (ap₂ yields (first-before start (start + z) (λ (i : ℕ). j ≤? i) u us a (omega arith)) (held-past j a (o + z) u us (omega arith)))
+          ∙ sym
+          (ap₂ yields (first-before start (start + z) (λ (i : ℕ). j ≤? i) (spanned now) u us a (omega arith))
+          (held-past j now a (o + z) u us (omega arith)))
 
       here : (o : ℕ) → a + o ≡ start → o < length u
-          → yield (packetLane longest (held a o (u ∷ us)) (inside z (startFrom (u ∷ us) o - o)) (zoneFrom o (u ∷ us))) ≡ yields (ends a (u ∷ us))
+          → yield (packetLane longest (heldFrom j carried a o (u ∷ us)) (inside z (startFrom (u ∷ us) o - o)) (zoneFrom o (u ∷ us))) ≡ yields (ends a (u ∷ us))
           (held a (o + z) (u ∷ us))
       here zero e h =
-          ap₂ (λ (x : List ℕ) (n : ℕ). yield (packetLane longest x (inside z n) (zoneFrom 0 (u ∷ us))))
-          (held-here j a 0 u us h ∙ either (j ≤? a) []) (ap (λ (n : ℕ). n - 0) (start-zero (u ∷ us)))
+          ap₂ (λ (x : DataUnit) (n : ℕ). yield (packetLane longest x (inside z n) (zoneFrom 0 (u ∷ us))))
+          (held-here j carried a 0 u us h ∙ ap (λ (x : DataUnit). cond (j ≤? a) x noUnit) (begun-none (carried a)) ∙ either (j ≤? a) noUnit) (ap (λ (n : ℕ). n - 0) (start-zero (u ∷ us)))
           ∙ starts one u us a 0 w e refl
       here (suc o) e h =
           let p : startFrom (u ∷ us) (suc o) - suc o ≡ length u - suc o = ap (λ (n : ℕ). n - suc o)
           (start-on u us (suc o) (omega arith) ∙ ap (λ (n : ℕ). length u + startFrom us n) (sub-eq-zero-of-le (omega arith)) ∙ ap
           (λ (n : ℕ). length u + n) (start-zero us) ∙ add-zero (length u)) in
-          ap₂ (λ (x : List ℕ) (n : ℕ). yield (packetLane longest x (inside z n) (zoneFrom (suc o) (u ∷ us)))) (held-here j a (suc o) u us h) p
+          ap₂ (λ (x : DataUnit) (n : ℕ). yield (packetLane longest x (inside z n) (zoneFrom (suc o) (u ∷ us)))) (held-here j carried a (suc o) u us h) p
           ∙ began one u us a (suc o) w e (omega arith) h

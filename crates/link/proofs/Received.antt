@@ -1,11 +1,11 @@
 -- What one read does: inert octets, and a frame whose count was the last one taken, leave everything; any other written frame takes its count, makes its
 -- lane step, and leaves the other lanes' octets where they are.
 use mathlib.Core.Path.{_≡_, refl, sym, ap, ap₂, _∙_, subst}
-use Prim.Native.Nat.{ℕ, zero, suc, _+_, _*_, _≤_, _<_}
+use Prim.Native.Nat.{ℕ, zero, suc, _+_, _*_, _^_, _≤_, _<_}
 use native.Mathlib.Nat.{not-suc-le-zero, le-of-suc-le-suc, suc-ne-zero}
 use native.Mathlib.Omega.{arith}
 use mathlib.Core.Bool.{Bool, true, false, cond, not, false≢true}
-use mathlib.Core.List.{List, [], _∷_}
+use mathlib.Core.List.{List, [], _∷_, map}
 use lib.ListN.{length, getD, take, drop, set, length-take, List·getD-eq-default}
 use lib.Seq.{take-take, getD-take, getD-set-same, getD-set-other}
 use borrow.Author.Tests.{leb-true, le-ltb, eq-eqb, ne-eqb}
@@ -21,19 +21,20 @@ use Rattle.rules.specs.Areas.{laid, joined, part, heldSize, partSize, recordsSi
 use Rattle.rules.specs.Settings.{noLane, noSlot, lane, expectOn, expecting, channelOf, zone, readerOk}
 use Rattle.rules.specs.Frames.{ruleIn, pointerIn, zoneIn, pointsTo}
 use Rattle.rules.specs.Writing.{zoneOf, ruleOf, pointerOf}
-use Rattle.rules.specs.Reading.{missing, expected, repeats, emptied, lanesOf, gapBy, gap, octetsOf, Made, keeps, laneStep}
+use Rattle.rules.specs.Reading.{missing, expected, repeats, emptied, lanesOf, gapBy, gap, DataUnit, noUnit, octetsOf, Made, keeps, laneStep}
 use Rattle.rules.specs.Refusals.{refusals, judged, judge}
 use Rattle.rules.specs.Calls.{Got, areasShort, laidOut, madeBy, readOn, repeatsAt, again, onVerdict, verdict, read}
 use Rattle.rules.proofs.Tests.{split, and-left, and-right}
 use Rattle.rules.proofs.Areas.{length-laid, laid-at, laid-before, laid-after}
 use Rattle.rules.specs.Valid.{Good, GoodReader, least}
 use Rattle.rules.proofs.Valid.{good-reader}
-use Rattle.rules.proofs.Lanes.{lane-below}
-use Rattle.rules.proofs.Calls.{verdict-cond, read-valid, read-fits}
+use Rattle.rules.proofs.Lanes.{lane-below, MadeSound}
+use Rattle.rules.proofs.Calls.{verdict-cond, made-sound, read-valid, read-fits}
 use Rattle.rules.proofs.Written.{FrameBack}
 use Rattle.link.specs.Link.{Lent, placeOf, unitsBy, handed}
 use Rattle.link.specs.Demand.{enough, inert}
-use Rattle.link.proofs.Spans.{yield, either}
+use Rattle.link.proofs.Spans.{either}
+use Rattle.link.proofs.Ends.{filed}
 use Rattle.link.proofs.Records.{handed-laid}
 
 -- ---- octets that change nothing
@@ -70,9 +71,12 @@ module _ (r : Reader) (f h : List ℕ) (a : Lent) where
 abbrev pub reader : Setting → Expects → List Slot → Reader
 reader s es hs = record { setting = s; expects = es; slots = hs }
 
--- What lane l holds: the first octets of its part of the held area.
-abbrev pub holds : List Slot → List ℕ → ℕ → List ℕ
-holds hs h l = take ((getD hs l noSlot) .held) (part l h)
+-- What a lane with this slot holds, of its part of the held area.
+abbrev pub kept : Slot → List ℕ → DataUnit
+kept x p = record { octets = take (x .held) p; span = x .span }
+
+abbrev pub holds : List Slot → List ℕ → ℕ → DataUnit
+holds hs h l = kept (getD hs l noSlot) (part l h)
 
 -- The slots once m frames of channel c were missed.
 unfoldable pub left : Setting → ℕ → ℕ → List Slot → List Slot
@@ -125,39 +129,42 @@ module _ (s : Setting) (g : Good s) (l : ℕ) (lh : l < s .numbered) where
           ∙ ap (λ (x : Lane). cond (x .channel =? c) noSlot (getD hs l noSlot)) (getD-take (s .numbered) (s .lanes) l noLane lh)
 
   pub holds-other : (c m : ℕ) (hs : List Slot) (h : List ℕ) → (placeOf s l ≡ c → ⊥) → holds (left s c m hs) h l ≡ holds hs h l
-  holds-other c m hs h e = ap (λ (x : Slot). take (x .held) (part l h)) (left-at c m hs ∙ go (m =? 0))
+  holds-other c m hs h e = ap (λ (x : Slot). kept x (part l h)) (left-at c m hs ∙ go (m =? 0))
     where
       go : (t : Bool) → cond t (getD hs l noSlot) (cond (placeOf s l =? c) noSlot (getD hs l noSlot)) ≡ getD hs l noSlot
       go true = refl
       go false = rw (ne-eqb (placeOf s l) c e)
 
-  pub holds-gap : (m : ℕ) (hs : List Slot) (h : List ℕ) → holds (left s (placeOf s l) m hs) h l ≡ cond (m =? 0) (holds hs h l) []
-  holds-gap m hs h = ap (λ (x : Slot). take (x .held) (part l h)) (left-at (placeOf s l) m hs) ∙ go (m =? 0)
+  pub holds-gap : (m : ℕ) (hs : List Slot) (h : List ℕ) → holds (left s (placeOf s l) m hs) h l ≡ cond (m =? 0) (holds hs h l) noUnit
+  holds-gap m hs h = ap (λ (x : Slot). kept x (part l h)) (left-at (placeOf s l) m hs) ∙ go (m =? 0)
     where
-      go : (t : Bool) → take ((cond t (getD hs l noSlot) (cond (placeOf s l =? placeOf s l) noSlot (getD hs l noSlot))) .held) (part l h)
-          ≡ cond t (holds hs h l) []
+      go : (t : Bool) → kept (cond t (getD hs l noSlot) (cond (placeOf s l =? placeOf s l) noSlot (getD hs l noSlot))) (part l h)
+          ≡ cond t (holds hs h l) noUnit
       go true = refl
       go false = rw (eq-eqb (placeOf s l) (placeOf s l) refl)
 
 -- ---- octets laid into a lane's part of the held area
 
-module _ (hs : List Slot) (h xs : List ℕ) (kept : Slot) (its : kept .held ≡ length xs) (i : ℕ) (ih : i < 8) (slots : length hs ≡ 8)
-    (area : length h ≡ heldSize) (small : length xs ≤ 8192) where
+module _ (hs : List Slot) (h : List ℕ) (m : Made) (i : ℕ) (ih : i < 8) (slots : length hs ≡ 8) (area : length h ≡ heldSize)
+    (small : length (m .held .octets) ≤ 8192) where
+  abbrev xs : List ℕ
+  xs = m .held .octets
+
   room : partSize * i + length xs ≤ length h
   room = omega arith
 
   pub stored-length : length (laid h (partSize * i) xs) ≡ 65536
   stored-length = length-laid h (partSize * i) xs room ∙ area
 
-  pub stored-here : holds (set hs i kept) (laid h (partSize * i) xs) i ≡ xs
+  pub stored-here : holds (set hs i (keeps m)) (laid h (partSize * i) xs) i ≡ m .held
   stored-here =
-      ap (λ (x : Slot). take (x .held) (part i (laid h (partSize * i) xs))) (getD-set-same hs i kept noSlot (omega arith))
-      ∙ ap (λ (n : ℕ). take n (part i (laid h (partSize * i) xs))) its
-      ∙ take-take (length xs) 8192 (drop (partSize * i) (laid h (partSize * i) xs)) small ∙ laid-at h (partSize * i) xs room
+      ap (λ (x : Slot). kept x (part i (laid h (partSize * i) xs))) (getD-set-same hs i (keeps m) noSlot (omega arith))
+      ∙ ap (λ (ys : List ℕ). record { octets = ys; span = m .held .span })
+      (take-take (length xs) 8192 (drop (partSize * i) (laid h (partSize * i) xs)) small ∙ laid-at h (partSize * i) xs room)
 
-  pub stored-other : (l : ℕ) → (l ≡ i → ⊥) → holds (set hs i kept) (laid h (partSize * i) xs) l ≡ holds hs h l
+  pub stored-other : (l : ℕ) → (l ≡ i → ⊥) → holds (set hs i (keeps m)) (laid h (partSize * i) xs) l ≡ holds hs h l
   stored-other l e =
-      ap₂ (λ (x : Slot) (y : List ℕ). take (x .held) y) (getD-set-other hs i l kept noSlot e)
+      ap₂ kept (getD-set-other hs i l (keeps m) noSlot e)
       (split i l
       (λ q. ap (take 8192) (laid-after h (partSize * i) xs room (partSize * l) (omega arith)))
       (λ q. laid-before h (partSize * i) xs room (partSize * l) 8192 (omega arith)))
@@ -189,9 +196,9 @@ readerAfter s es hs i v m =
 -- What a read of it gives.
 pub record Taken (s : Setting) (es : Expects) (hs : List Slot) (h : List ℕ) (i v : ℕ) (m : Made) (o : Got) : Type 0 where
   pub state : o .taken .state ≡ readerAfter s es hs i v m
-  pub area : o .heldArea ≡ laid h (partSize * i) (m .held)
-  pub units : (l : ℕ) → handed l o ≡ cond (i =? l) ((yield m) .units) []
-  pub small : length (m .held) ≤ 8192
+  pub area : o .heldArea ≡ laid h (partSize * i) (m .held .octets)
+  pub units : (l : ℕ) → handed l o ≡ cond (i =? l) (map (filed v) (m .units)) []
+  pub small : length (m .held .octets) ≤ 8192
 
 module _ (s : Setting) (es : Expects) (hs : List Slot) (h : List ℕ) (a : Lent) (i v : ℕ) where
   abbrev c : ℕ
@@ -216,7 +223,7 @@ module _ (s : Setting) (es : Expects) (hs : List Slot) (h : List ℕ) (a : Lent)
       go (suc m) = unfold gapBy in rw (ne-eqb (suc m) 0 (suc-ne-zero m))
 
   module _ (b ins oc : List ℕ) (k : ℕ) (f : List ℕ) (back : FrameBack s i v b ins oc k f) (ok : readerOk (reader s es hs) ≡ true)
-      (ih : i < s .numbered) (full : length h ≡ heldSize) (lent : enough a ≡ true) where
+      (ih : i < s .numbered) (full : length h ≡ heldSize) (lent : enough a ≡ true) (fits-8 : v < 256 ^ 8) where
     abbrev g : Gap
     g = gap (reader s es hs) c v
 
@@ -256,7 +263,7 @@ module _ (s : Setting) (es : Expects) (hs : List Slot) (h : List ℕ) (a : Lent)
         (record {
           state = ap (λ (r : Reader). reader (r .setting) (r .expects) (set (r .slots) i (keeps (made b k)))) gap-state;
           area = refl;
-          units = λ l. handed-laid l g i v (made b k) h (a .units) (a .records) fits;
+          units = λ l. handed-laid l g i v (made b k) h (a .units) (a .records) fits (sound .units) fits-8;
           small = below;
         })
       where
@@ -269,10 +276,13 @@ module _ (s : Setting) (es : Expects) (hs : List Slot) (h : List ℕ) (a : Lent)
             (read-is new ∙ ap (λ (m : Made). laidOut g i v m h (a .units) (a .records)) made-is)
             (read-fits (reader s es hs) f h (a .units) (a .records) .octets)
 
-        below : length ((made b k) .held) ≤ 8192
+        sound : MadeSound (made b k)
+        sound = subst MadeSound made-is (made-sound (reader s es hs) f h i gr ih v full (channelOf s i))
+
+        below : length ((made b k) .held .octets) ≤ 8192
         below =
             let q = gr .setting .lanes i ih .kind in
-            let p : length ((made b k) .held) < (lane s i) .longest = unfold makes in lane-below ((lane s i) .kind) ((lane s i) .longest)
+            let p : length ((made b k) .held .octets) < (lane s i) .longest = unfold makes in lane-below ((lane s i) .kind) ((lane s i) .longest)
             (ruleOf ((lane s i) .kind) k) (holds after h i) (pointsTo (pointerOf ((lane s i) .kind) (zone s (channelOf s i)) b k))
             (zoneOf ((lane s i) .kind) (zone s (channelOf s i)) b k) (q .enough) in
             omega (arith, p, q .most)

@@ -13,7 +13,7 @@ use Rattle.rules.specs.declared.Expect.{Expect}
 use Rattle.rules.specs.Tests.{_=?_}
 use Rattle.rules.specs.Reading.{missing, expected}
 use Rattle.rules.proofs.Tests.{split, same}
-use Rattle.link.specs.Link.{Frame, Lent, Writes, Copy, Stray, arrives, sent, Arrival, Air, silence, sending, copied, arrivals}
+use Rattle.link.specs.Link.{Frame, Lent, Writes, Copy, Stray, arrives, sent, Arrival, Air, silence, sending, copied, arrivals, Filed}
 use Rattle.link.specs.Due.{dueIn, due}
 use Rattle.link.specs.Demand.{lending, keptOn, fewGone}
 use Rattle.link.proofs.Spans.{held-none}
@@ -77,31 +77,31 @@ module _ (E : Ends) (facts : Facts E) (l : ℕ) where
 
     -- What is due of the frames sent so far has been handed out. The frames fs are to be sent yet, and whether a copy comes of the last one of the channel
     -- is known.
-    record Settled (w : E .Writer) (r : E .Hearer) (last : ℕ → List ℕ) (past fs : List Frame) (will : Bool) (air : Air) (owed : List (List ℕ))
+    record Settled (w : E .Writer) (r : E .Hearer) (last : ℕ → List ℕ) (past fs : List Frame) (will : Bool) (air : Air) (owed : List Filed)
         : Type 0 where
       none : owed ≡ []
       knows : Knows E l w r last past fs
       still : Still (E .expect r l) (air c) will
 
     -- That frame is still to come: what its read hands out is owed, and what is known then is known.
-    record Waiting (w : E .Writer) (r : E .Hearer) (last : ℕ → List ℕ) (past fs : List Frame) (will : Bool) (air : Air) (owed : List (List ℕ))
+    record Waiting (w : E .Writer) (r : E .Hearer) (last : ℕ → List ℕ) (past fs : List Frame) (will : Bool) (air : Air) (owed : List Filed)
         : Type 0 where
       comes : will ≡ true
       octets : List ℕ
       sent : air c ≡ octets ∷ []
       flight : Flight E c octets
       new : missing (E .octets l) (E .expect r l) (E .count (flight .writer) l) < E .bound l
-      then : (q q′ : E .Hearer) (out : ℕ → List (List ℕ)) → E .expect q l ≡ E .expect r l → E .held q l ≡ E .held r l
+      then : (q q′ : E .Hearer) (out : ℕ → List Filed) → E .expect q l ≡ E .expect r l → E .held q l ≡ E .held r l
           → Heard E (flight .writer) q (frame E flight) q′ out → (out l ≡ owed) × Knows E l w q′ last past fs
 
-    abbrev Stands : E .Writer → E .Hearer → (ℕ → List ℕ) → List Frame → List Frame → Bool → Air → List (List ℕ) → Type 0
+    abbrev Stands : E .Writer → E .Hearer → (ℕ → List ℕ) → List Frame → List Frame → Bool → Air → List Filed → Type 0
     Stands w r last past fs will air owed = Settled w r last past fs will air owed ⊎ Waiting w r last past fs will air owed
 
-    abbrev Status : E .Writer → E .Hearer → (ℕ → List ℕ) → List Frame → Events E → Air → List (List ℕ) → Type 0
+    abbrev Status : E .Writer → E .Hearer → (ℕ → List ℕ) → List Frame → Events E → Air → List Filed → Type 0
     Status w r last past es air owed = Stands w r last past (rest w es) (arrives (E .place) c es) air owed
 
     -- Knowing it of one reader is knowing it of another that expects and holds the same there.
-    status-moved : (w : E .Writer) (r r′ : E .Hearer) (last : ℕ → List ℕ) (past fs : List Frame) (will : Bool) (air : Air) (owed : List (List ℕ))
+    status-moved : (w : E .Writer) (r r′ : E .Hearer) (last : ℕ → List ℕ) (past fs : List Frame) (will : Bool) (air : Air) (owed : List Filed)
         → E .expect r′ l ≡ E .expect r l → E .held r′ l ≡ E .held r l → Stands w r last past fs will air owed → Stands w r′ last past fs will air owed
     status-moved w r r′ last past fs will air owed p q (inl a) =
         inl (record { none = a .none; knows = known-moved E l w r r′ last past fs p q (a .knows); still = rw p (a .still) })
@@ -117,10 +117,10 @@ module _ (E : Ends) (facts : Facts E) (l : ℕ) where
 
     -- ---- the three kinds of events
 
-    abbrev Says : E .Writer → E .Hearer → List Frame → Events E → Air → List (List ℕ) → Type 0
+    abbrev Says : E .Writer → E .Hearer → List Frame → Events E → Air → List Filed → Type 0
     Says w r past es air owed = hearing E l r (arrivals air (flies E w es)) ≡ owed ++ due l past (rest w es)
 
-    module _ (w : E .Writer) (r : E .Hearer) (last : ℕ → List ℕ) (past : List Frame) (es : Events E) (air : Air) (owed : List (List ℕ))
+    module _ (w : E .Writer) (r : E .Hearer) (last : ℕ → List ℕ) (past : List Frame) (es : Events E) (air : Air) (owed : List Filed)
         (sr : E .SoundHearer r) where
       -- Octets that change nothing.
       on-stray : (f : List ℕ) (lent : Lent) → E .Inert (record { octets = f; lent = lent }) → Says w r past es air owed
@@ -132,7 +132,7 @@ module _ (E : Ends) (facts : Facts E) (l : ℕ) where
 
       -- A copy of what is sent on channel d.
       module _ (d : ℕ) (lent : Lent) (enough : E .Enough lent) (fly : Flying E air)
-          (more : (r′ : E .Hearer) (owed′ : List (List ℕ)) → E .SoundHearer r′ → Status w r′ last past es air owed′ → Says w r′ past es air owed′) where
+          (more : (r′ : E .Hearer) (owed′ : List Filed) → E .SoundHearer r′ → Status w r′ last past es air owed′ → Says w r′ past es air owed′) where
         -- A copy of these octets, and then all that arrives later.
         abbrev copyHere : List ℕ → Arrival
         copyHere o = record { octets = o; lent = lent }
@@ -143,7 +143,7 @@ module _ (E : Ends) (facts : Facts E) (l : ℕ) where
         -- It is nothing to the lane.
         on-quiet : (o : List ℕ) → Quiet r (copyHere o) → Status w r last past es air owed → Told o
         on-quiet o q st =
-            ap (λ (us : List (List ℕ)). us ++ hearing E l (E .heard r (copyHere o)) (arrivals air (flies E w es))) (q .none)
+            ap (λ (us : List Filed). us ++ hearing E l (E .heard r (copyHere o)) (arrivals air (flies E w es))) (q .none)
             ∙ more (E .heard r (copyHere o)) owed (q .sound) (status-moved w r _ last past (rest w es) _ air owed (q .expect) (q .held) st)
 
         -- Channel d is another one.
@@ -204,7 +204,7 @@ module _ (E : Ends) (facts : Facts E) (l : ℕ) where
                 (λ n. on-quiet o (subst (λ (x : List ℕ). Quiet r (copyHere x)) (sym (g .octets)) (quiet-apart g r lent sr enough n)) (off n st))
 
     -- A call.
-    module _ (w : E .Writer) (r : E .Hearer) (last : ℕ → List ℕ) (past : List Frame) (x : E .Call) (es : Events E) (air : Air) (owed : List (List ℕ))
+    module _ (w : E .Writer) (r : E .Hearer) (last : ℕ → List ℕ) (past : List Frame) (x : E .Call) (es : Events E) (air : Air) (owed : List Filed)
         (sw : E .SoundWriter w) (go : E .Goes w last x) where
       abbrev coming : Bool
       coming = arrives (E .place) (E .place x) es
@@ -277,7 +277,7 @@ module _ (E : Ends) (facts : Facts E) (l : ℕ) where
                         (known-moved E l w r y last past (f ∷ rest w′ es) p q (a .knows));
                   })
 
-      on-write : Flying E air → ((owed′ : List (List ℕ)) → Flying E (sending f air) → Status w′ r last′ (f ∷ past) es (sending f air) owed′
+      on-write : Flying E air → ((owed′ : List Filed) → Flying E (sending f air) → Status w′ r last′ (f ∷ past) es (sending f air) owed′
           → Says w′ r (f ∷ past) es (sending f air) owed′) → Status w r last past (Writes x ∷ es) air owed → Says w r past (Writes x ∷ es) air owed
       unfolding flies arrivals sent due
       on-write fly more st =
@@ -285,21 +285,21 @@ module _ (E : Ends) (facts : Facts E) (l : ℕ) where
           (λ e.
           let d = write-on e st in
           more (dueIn l f past) flown (d .1)
-          ∙ ap (λ (us : List (List ℕ)). us ++ (dueIn l f past ++ due l (f ∷ past) (rest w′ es))) (sym (d .0)))
+          ∙ ap (λ (us : List Filed). us ++ (dueIn l f past ++ due l (f ∷ past) (rest w′ es))) (sym (d .0)))
           (λ n.
           let other : f .lane ≡ l → ⊥ = λ (e : f .lane ≡ l). n (k .channel ∙ ap (E .channel) e) in
           more owed flown (write-apart n st)
-          ∙ ap (λ (us : List (List ℕ)). owed ++ (us ++ due l (f ∷ past) (rest w′ es))) (sym (due-not l f past other)))
+          ∙ ap (λ (us : List Filed). owed ++ (us ++ due l (f ∷ past) (rest w′ es))) (sym (due-not l f past other)))
         where
           flown : Flying E (sending f air)
           flown = flying-on E f air fly (flight E w last x coming sw go refl)
 
     -- ---- all events
 
-    run : (es : Events E) (w : E .Writer) (r : E .Hearer) (last : ℕ → List ℕ) (past : List Frame) (air : Air) (owed : List (List ℕ))
+    run : (es : Events E) (w : E .Writer) (r : E .Hearer) (last : ℕ → List ℕ) (past : List Frame) (air : Air) (owed : List Filed)
         → E .SoundWriter w → E .SoundHearer r → Flying E air → Runs E w last es → Status w r last past es air owed → Says w r past es air owed
     unfolding flies arrivals sent hearing due
-    run [] w r last past air owed sw sr fly g (inl a) = sym (ap (λ (us : List (List ℕ)). us ++ []) (a .none))
+    run [] w r last past air owed sw sr fly g (inl a) = sym (ap (λ (us : List Filed). us ++ []) (a .none))
     run [] w r last past air owed sw sr fly g (inr a) = unfold arrives in absurd (false≢true (a .comes))
     run (Writes x ∷ es) w r last past air owed sw sr fly g st =
         on-write w r last past x es air owed sw (g .0) fly
@@ -331,7 +331,7 @@ module _ (E : Ends) (facts : Facts E) (l : ℕ) where
               known = new .unknown l lh;
               below = new .below l lh;
               count = λ a. absurd (false≢true a);
-              held = λ a. new .held l lh ∙ sym (held-none 0 0 _ (E .units l (last l)) (omega (arith, new .start l (last l))));
+              held = λ a. new .held l lh ∙ sym (held-none 0 _ 0 _ (E .units l (last l)) (omega (arith, new .start l (last l))));
               fresh = λ a. new .held l lh;
               lost = λ b. absurd (b refl);
               few = few lh;

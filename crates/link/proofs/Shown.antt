@@ -5,7 +5,7 @@ use Prim.Native.Nat.{ℕ}
 use mathlib.Core.List.{[], _∷_, _++_}
 use lib.ListN.{take, drop}
 use Rattle.rules.specs.Errors.{paired}
-use Rattle.link.specs.Link.{handedOut}
+use Rattle.link.specs.Link.{octetsIn, handedOut}
 use Rattle.link.specs.Due.{due}
 use Rattle.link.specs.Demand.{framesOf, readsOf, Run, Exact}
 use Rattle.link.specs.Corollaries.{earlier}
@@ -32,9 +32,9 @@ meets-unharmed = record { writer = refl; reader = refl; calls = ordered-is _ _ u
 
 -- Two packets of one lane, two of the next, and a unit.
 pub unharmed-out :
-    (handedOut 0 (readsOf paired held unharmed) ≡ a₀ ∷ b₀ ∷ [])
-    × (handedOut 1 (readsOf paired held unharmed) ≡ packet 10 0xF1 ∷ packet 11 0xF2 ∷ [])
-    × (handedOut 2 (readsOf paired held unharmed) ≡ v₂ ∷ [])
+    (octetsIn (handedOut 0 (readsOf paired held unharmed)) ≡ a₀ ∷ b₀ ∷ [])
+    × (octetsIn (handedOut 1 (readsOf paired held unharmed)) ≡ packet 10 0xF1 ∷ packet 11 0xF2 ∷ [])
+    × (octetsIn (handedOut 2 (readsOf paired held unharmed)) ≡ v₂ ∷ [])
 unfolding all
 unharmed-out = (
   nothing-gone paired held unharmed meets-unharmed refl 0 refl,
@@ -46,8 +46,8 @@ unharmed-out = (
 
 -- After 47 events of the example run lanes 0 and 1 stand between batches, and no more of their channel is gone.
 pub later-out :
-    (handedOut 0 (readsOf paired held calls) ≡ due 0 [] (earlier paired (take 47 calls) (drop 47 calls)) ++ (d₀ ∷ []))
-    × (handedOut 1 (readsOf paired held calls) ≡ due 1 [] (earlier paired (take 47 calls) (drop 47 calls)) ++ (packet 10 0xF1 ∷ packet 11 0xF2 ∷ []))
+    (octetsIn (handedOut 0 (readsOf paired held calls)) ≡ octetsIn (due 0 [] (earlier paired (take 47 calls) (drop 47 calls))) ++ (d₀ ∷ []))
+    × (octetsIn (handedOut 1 (readsOf paired held calls)) ≡ octetsIn (due 1 [] (earlier paired (take 47 calls) (drop 47 calls))) ++ (packet 10 0xF1 ∷ packet 11 0xF2 ∷ []))
 unfolding all
 later-out = (
   no-more-gone paired held (take 47 calls) (drop 47 calls) meets near 0 refl refl,
@@ -56,6 +56,6 @@ later-out = (
 
 -- With the 48th a frame is written whose copies come later: it counts as kept among the earlier ones, and would be gone without the later events.
 pub late-kept :
-    due 1 [] (earlier paired (take 48 calls) (drop 48 calls)) ≡ due 1 [] (framesOf paired (take 48 calls)) ++ (packet 10 0xF1 ∷ packet 11 0xF2 ∷ [])
+    octetsIn (due 1 [] (earlier paired (take 48 calls) (drop 48 calls))) ≡ octetsIn (due 1 [] (framesOf paired (take 48 calls))) ++ (packet 10 0xF1 ∷ packet 11 0xF2 ∷ [])
 unfolding all
 late-kept = refl

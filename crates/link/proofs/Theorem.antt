@@ -5,7 +5,7 @@ use native.Mathlib.Nat.{zero-mul}
 use native.Mathlib.Omega.{arith}
 use mathlib.Core.Bool.{Bool, true, false, cond, _&&_}
 use mathlib.Core.List.{List, [], _∷_, _++_}
-use lib.ListN.{length, getD, take, replicate, getD-replicate}
+use lib.ListN.{length, getD, replicate, getD-replicate}
 use Rattle.rules.specs.declared.Setting.{Setting}
 use Rattle.rules.specs.declared.Slot.{Slot}
 use Rattle.rules.specs.declared.Writer.{Writer}
@@ -21,9 +21,10 @@ use Rattle.rules.proofs.Octets.{pow256-pos}
 use Rattle.rules.proofs.Valid.{good}
 use Rattle.rules.proofs.States.{fresh-reader, none-expected}
 use Rattle.rules.proofs.Calls.{setup-accepted}
-use Rattle.link.specs.Link.{Call, Frame, placeOf, frameBy, Event, Writes, Copy, Stray, arrives, placeIn, flown, sent, Arrival, silence, arrivals, reads, handedOut}
+use Rattle.link.specs.Link.{Call, Frame, placeOf, frameBy, Event, Writes, Copy, Stray, arrives, placeIn, flown, sent, Arrival, silence, arrivals, Filed, reads, handedOut}
 use Rattle.link.specs.Due.{due}
 use Rattle.link.specs.Demand.{lending, InOrder, enough, inert, passes, allPass, keptOn, fewGone, Demand}
+use Rattle.link.proofs.Received.{kept}
 use Rattle.link.proofs.Ends.{Fresh}
 use Rattle.link.proofs.Flights.{flies, hearing, Runs}
 use Rattle.link.proofs.Run.{from-fresh}
@@ -43,7 +44,7 @@ module _ (s : Setting) where
   hearing-reads : (l : ℕ) (xs : List Arrival) (r : Hearer) → hearing (uslp s) l r xs ≡ handedOut l (reads (r .reader) (r .area) xs)
   unfolding hearing reads handedOut
   hearing-reads l [] r = refl
-  hearing-reads l (a ∷ more) r = ap (λ (us : List (List ℕ)). (uslp s) .hands r a l ++ us) (hearing-reads l more _)
+  hearing-reads l (a ∷ more) r = ap (λ (us : List Filed). (uslp s) .hands r a l ++ us) (hearing-reads l more _)
 
   pub runs : (es : List (Event Call)) (w : Writer) (last : ℕ → List ℕ) → InOrder w last es → allPass s es ≡ true → Runs (uslp s) w last es
   unfolding allPass passes frameBy
@@ -73,7 +74,7 @@ module _ (s : Setting) (h : List ℕ) (full : length h ≡ heldSize) where
         start = λ l b. ap (λ (i : ℕ). i * zone s (channelOf s l)) (getD-alike {A = ℕ} 8 l 0) ∙ zero-mul _;
         unknown = λ l lh. none-expected (placeOf s l) (channel-8 s (good s ok) l lh);
         below = λ l lh. rw (getD-alike {A = ℕ} 8 (placeOf s l) 0) (pow256-pos ((channelOf s l) .octets));
-        held = λ l lh. ap (λ (x : Slot). take (x .held) (part l h)) (empty l lh);
+        held = λ l lh. ap (λ (x : Slot). kept x (part l h)) (empty l lh);
       }
     where
       empty : (l : ℕ) → l < s .numbered → getD (replicate 8 noSlot) l noSlot ≡ noSlot

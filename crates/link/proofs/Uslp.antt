@@ -2,11 +2,11 @@
 -- read rule's, and frame k of a batch starts with its octet k * Z.
 use mathlib.Core.Path.{_≡_, refl, sym, ap, ap₂, _∙_, subst}
 use mathlib.Core.Logic.{_⊎_, inl, inr}
-use Prim.Native.Nat.{ℕ, _+_, _-_, _*_, _^_, _<_}
-use native.Mathlib.Nat.{zero-mul}
+use Prim.Native.Nat.{ℕ, _+_, _-_, _*_, _^_, _≤_, _<_}
+use native.Mathlib.Nat.{zero-mul, zero-lt-suc, lt-of-lt-of-le, pow-le-pow-right}
 use native.Mathlib.Omega.{arith}
 use mathlib.Core.Bool.{Bool, true, false, cond}
-use mathlib.Core.List.{List, []}
+use mathlib.Core.List.{List, [], map}
 use lib.ListN.{length, getD, set, length-set}
 use lib.Seq.{getD-set-same, getD-set-other}
 use borrow.Author.Tests.{ne-eqb, eq-eqb}
@@ -22,7 +22,7 @@ use Rattle.rules.specs.Tests.{given}
 use Rattle.rules.specs.Areas.{laid, heldSize, partSize}
 use Rattle.rules.specs.Settings.{channel, lane, channelOf, expectOn, expect, expecting, count, number, zone, readerOk}
 use Rattle.rules.specs.Writing.{unitsOf, countAfter, writerAfter}
-use Rattle.rules.specs.Reading.{missing, expected, repeats, Made, keeps}
+use Rattle.rules.specs.Reading.{missing, expected, repeats, DataUnit, Made}
 use Rattle.rules.specs.Calls.{writeRefusals, written, write, Got, read}
 use Rattle.rules.specs.Valid.{Good}
 use Rattle.rules.proofs.States
@@ -36,7 +36,7 @@ use Rattle.link.proofs.Spans.{yields, yield, Delivers, Follows}
 use Rattle.link.proofs.Batches.{units, lane-reads, follows}
 use Rattle.link.proofs.Invariant.{heldAfter}
 use Rattle.link.proofs.Received.{stray, reader, holds, left, gapped, length-left, holds-other, holds-gap, stored-length, stored-here, stored-other, makes, readerAfter, Taken, read-again, read-takes, read-ready}
-use Rattle.link.proofs.Ends.{Ends, whole, Sends, Unmoved, Heard, Copied, Bounded, Facts}
+use Rattle.link.proofs.Ends.{Ends, whole, filed, Sends, Unmoved, Heard, Copied, Bounded, Facts}
 
 -- ---- the pair
 
@@ -179,9 +179,14 @@ module _ (w : Writer) (last : ℕ → List ℕ) (x : Call) (kept : Bool) (go : (
   abbrev v : ℕ
   v = count w (placeOf s i)
 
-  -- The count fits its octets.
+  -- The count fits its octets, and a record's.
   v-below : v < 256 ^ (channelOf s i) .octets
   v-below = takes .good .counts (placeOf s i) (g .lanes i (takes .numbered) .channel)
+
+  v-8 : v < 256 ^ 8
+  v-8 =
+      let n : (channelOf s i) .octets ≤ 8 = omega (arith, good-channelOf g i (takes .numbered) .seven) in
+      lt-of-lt-of-le v-below (pow-le-pow-right (zero-lt-suc 255) n)
 
   -- ---- a copy of the frame arrives at a reader of the same setting
 
@@ -210,7 +215,7 @@ module _ (w : Writer) (last : ℕ → List ℕ) (x : Call) (kept : Bool) (go : (
     unmoved : twice ≡ true → Unmoved (uslp s) (record { reader = reader s es hs; area = h }) (whole (frameBy s w x kept) lent)
     unmoved e =
         let u = read-again s es hs h lent i v (x .batch) (x .insert) (x .ocf) k ((frameBy s w x kept) .octets) back (r .valid) (takes .numbered) (r .area)
-        fits e in
+        fits v-8 e in
         record { state = λ t. record { reader = (u .state) t; area = (u .area) t }; none = u .none }
 
     -- It is none.
@@ -222,13 +227,14 @@ module _ (w : Writer) (last : ℕ → List ℕ) (x : Call) (kept : Bool) (go : (
       made = makes s es hs h i v (x .batch) k
 
       took : Taken s es hs h i v made answer
-      took = read-takes s es hs h lent i v (x .batch) (x .insert) (x .ocf) k ((frameBy s w x kept) .octets) back (r .valid) (takes .numbered) (r .area) fits new
+      took = read-takes s es hs h lent i v (x .batch) (x .insert) (x .ocf) k ((frameBy s w x kept) .octets) back (r .valid) (takes .numbered) (r .area) fits
+          v-8 new
 
       gap-8 : length gap ≡ 8
       gap-8 = length-left s _ _ hs ∙ r .slots
 
       abbrev after : Hearer
-      after = record { reader = readerAfter s es hs i v made; area = laid h (partSize * i) (made .held) }
+      after = record { reader = readerAfter s es hs i v made; area = laid h (partSize * i) (made .held .octets) }
 
       sound : SoundHearer s after
       sound =
@@ -237,10 +243,10 @@ module _ (w : Writer) (last : ℕ → List ℕ) (x : Call) (kept : Bool) (go : (
             counts = rw length-set (r .counts);
             known = rw length-set (r .known);
             slots = rw length-set gap-8;
-            area = stored-length hs h (made .held) (keeps made) refl i lane-8 (r .slots) (r .area) (took .small);
+            area = stored-length hs h made i lane-8 (r .slots) (r .area) (took .small);
             valid =
                 read-ready s es hs h lent i v (x .batch) (x .insert) (x .ocf) k ((frameBy s w x kept) .octets) back (r .valid) (takes .numbered)
-                (r .area) fits new;
+                (r .area) fits v-8 new;
           }
 
       -- What a lane of the channel expects and holds once the frame's count is taken.
@@ -250,7 +256,7 @@ module _ (w : Writer) (last : ℕ → List ℕ) (x : Call) (kept : Bool) (go : (
           ap (λ (c : ℕ). expectOn (expecting es c (expected ((channel s c) .octets) (count w c))) (placeOf s l)) e
           ∙ States.expect-same es (placeOf s l) _ (omega (arith, r .counts, channel-8 s g l lh)) (omega (arith, r .known, channel-8 s g l lh))
 
-      abbrev holding : ℕ → List ℕ
+      abbrev holding : ℕ → DataUnit
       holding l = heldAfter ((channelOf s l) .octets) (expectOn es (placeOf s l)) (count w (placeOf s l)) (holds hs h l)
 
       gap-same : (l : ℕ) → l < s .numbered → placeOf s i ≡ placeOf s l → holds gap h l ≡ holding l
@@ -259,15 +265,14 @@ module _ (w : Writer) (last : ℕ → List ℕ) (x : Call) (kept : Bool) (go : (
           ap (λ (c : ℕ). holds (left s c (missing ((channel s c) .octets) (expectOn es c) (count w c)) hs) h l) e ∙ holds-gap s g l lh _ hs h
 
       held-apart : (l : ℕ) → (i ≡ l → ⊥) → holds (after .reader .slots) (after .area) l ≡ holds gap h l
-      held-apart l n = stored-other gap h (made .held) (keeps made) refl i lane-8 gap-8 (r .area) (took .small) l (λ e. n (sym e))
+      held-apart l n = stored-other gap h made i lane-8 gap-8 (r .area) (took .small) l (λ e. n (sym e))
 
-      delivers : Delivers (unitsOf kind (x .batch)) (k * z) (k * z + z) (holding i) (yields (handed i answer) (holds (after .reader .slots) (after .area) i))
+      delivers : Delivers (unitsOf kind (x .batch)) (k * z) (k * z + z) (holding i) (yields (made .units) (holds (after .reader .slots) (after .area) i))
       delivers =
           subst (Delivers (unitsOf kind (x .batch)) (k * z) (k * z + z) (holding i))
-          (ap₂ yields (sym (took .units i ∙ ap (λ (t : Bool). cond t ((yield made) .units) []) (eq-eqb i i refl)))
-          (sym (stored-here gap h (made .held) (keeps made) refl i lane-8 gap-8 (r .area) (took .small))))
+          (ap (yields (made .units)) (sym (stored-here gap h made i lane-8 gap-8 (r .area) (took .small))))
           (unfold makes in
-          subst (λ (y : List ℕ). Delivers (unitsOf kind (x .batch)) (k * z) (k * z + z) y (yield made)) (gap-same i (takes .numbered) refl)
+          subst (λ (y : DataUnit). Delivers (unitsOf kind (x .batch)) (k * z) (k * z + z) y (yield made)) (gap-same i (takes .numbered) refl)
           (lane-reads ((lane s i) .longest) z some (zone-small s g (channelOf s i)) k (x .batch) kind (holds gap h i)
           (g .lanes i (takes .numbered) .kind .enough)
           (takes .batch) (takes .below)))
@@ -283,7 +288,11 @@ module _ (w : Writer) (last : ℕ → List ℕ) (x : Call) (kept : Bool) (go : (
             expect-other = λ l n. States.expect-other es (placeOf s i) _ (placeOf s l) (λ e. n (sym e));
             held-beside = λ l lh e n. held-apart l n ∙ gap-same l lh e;
             held-other = λ l lh e n. held-apart l n ∙ holds-other s g l lh (placeOf s i) _ hs h (λ q. e (sym q));
-            none = λ l n. took .units l ∙ ap (λ (t : Bool). cond t ((yield made) .units) []) (ne-eqb i l n);
+            none = λ l n. took .units l ∙ ap (λ (t : Bool). cond t (map (filed v) (made .units)) []) (ne-eqb i l n);
+            made = made .units;
+            files =
+                took .units i ∙ ap (λ (t : Bool). cond t (map (filed v) (made .units)) []) (eq-eqb i i refl)
+                ∙ ap (λ (c : ℕ). map (filed c) (made .units)) (sym (back .count));
             delivers = delivers;
           })
 

@@ -1,5 +1,5 @@
--- What follows from demand 3, in the words in which it will be quoted: nothing gone, everything gone, nothing gone from here on; and which
--- octets a run refuses.
+-- What follows from demand 3, in the words in which it will be quoted: which units come out where nothing is gone, everything is gone, or nothing
+-- is gone from here on; and which octets a run refuses.
 use mathlib.Core.Path.{_≡_}
 use Prim.Native.Nat.{ℕ, zero, suc}
 use mathlib.Core.Bool.{Bool, true, cond, not, _&&_}
@@ -13,7 +13,7 @@ use Rattle.rules.specs.Tests.{_=?_, given}
 use Rattle.rules.specs.Settings.{number}
 use Rattle.rules.specs.Refusals.{refusals}
 use Rattle.rules.specs.Calls.{Got, setUpWriter}
-use Rattle.link.specs.Link.{Call, called, Frame, placeOf, frameBy, Event, Writes, Copy, Stray, arrives, placeIn, flown, sent, Arrival, handedOut}
+use Rattle.link.specs.Link.{Call, called, Frame, placeOf, frameBy, Event, Writes, Copy, Stray, arrives, placeIn, flown, sent, Arrival, octetsIn, handedOut}
 use Rattle.link.specs.Due.{ending, noneGone, due}
 use Rattle.link.specs.Demand.{framesOf, arrivalsOf, readsOf, Run, Near}
 
@@ -25,7 +25,7 @@ begunIn l f = cond (f .lane =? l && f .start =? 0) (f .units) []
 
 -- The units of lane l that end in this frame.
 abbrev pub endedIn : ℕ → Frame → List (List ℕ)
-endedIn l f = cond (f .lane =? l) (ending (f .start) (f .stop) (λ (i : ℕ). true) 0 (f .units)) []
+endedIn l f = cond (f .lane =? l) (ending (f .start) (f .stop) (λ (i : ℕ). true) (λ (a : ℕ) (u : List ℕ). u) 0 (f .units)) []
 
 -- Of all these frames, in sending order, whatever becomes of them: the units of batches that begin, and the units that end.
 unfoldable pub unitsSent : ℕ → List Frame → List (List ℕ)
@@ -76,7 +76,7 @@ allGone (f ∷ fs) = not (f .kept) && allGone fs
 abbrev pub NothingGone : Type 0
 NothingGone =
     (s : Setting) (held : List ℕ) (es : List (Event Call)) → Run s held es → allKept (framesOf s es) ≡ true
-    → (l : ℕ) → Between s es l → handedOut l (readsOf s held es) ≡ unitsSent l (framesOf s es)
+    → (l : ℕ) → Between s es l → octetsIn (handedOut l (readsOf s held es)) ≡ unitsSent l (framesOf s es)
 
 -- "Everything gone: nothing comes out." Whatever refused octets stand in the frames' places.
 abbrev pub EverythingGone : Type 0
@@ -90,7 +90,7 @@ abbrev pub NoMoreGone : Type 0
 NoMoreGone =
     (s : Setting) (held : List ℕ) (xs ys : List (Event Call)) → Run s held (xs ++ ys) → Near s (xs ++ ys)
     → (l : ℕ) → Between s xs l → noneGone (placeOf s l) (later s xs ys) ≡ true
-    → handedOut l (readsOf s held (xs ++ ys)) ≡ due l [] (earlier s xs ys) ++ unitsEnded l (later s xs ys)
+    → octetsIn (handedOut l (readsOf s held (xs ++ ys))) ≡ octetsIn (due l [] (earlier s xs ys)) ++ unitsEnded l (later s xs ys)
 
 -- Where the lane stands between batches at the end too, these are all units of its later batches.
 abbrev pub LaterBatches : Type 0

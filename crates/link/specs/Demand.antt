@@ -1,6 +1,6 @@
 -- Demand 3. Two fresh ends of one accepted setting, a list of calls of the writer, a sender that may send each frame several times running (document
 -- 02, A3), and a link that loses copies: lane by lane, what the reads hand out is, in sending order and octet for octet, the list of exactly those
--- units that lost no frame.
+-- units that lost no frame, and their records have the counts and spans of the frames written (document 02, A2).
 use mathlib.Core.Path.{_≡_}
 use mathlib.Core.Logic.{_⊎_}
 use Prim.Native.Nat.{ℕ, suc, _-_, _^_, _<_}
@@ -96,7 +96,7 @@ Near s es = (c : ℕ) → c < s .listed → fewGone (256 ^ (channel s c) .octets
 
 -- "What the reads hand out, taken from the unit area by the records, is in sending order and octet for octet the list of exactly those
 -- units for which no frame of that channel and service is gone from the frame where the unit begins to the frame where it ends; and
--- nothing else." For a number l that is no lane both are empty.
+-- nothing else"; and "the count and the span in the record are those of the frames written". For a number l that is no lane both are empty.
 abbrev pub Exact : Setting → List ℕ → List (Event Call) → ℕ → Type 0
 Exact s held es l = handedOut l (readsOf s held es) ≡ due l [] (framesOf s es)
 

@@ -1,14 +1,14 @@
 -- Runs that the demand is tried on: some that meet its premises, and one with as many frames gone as there are counts, less one.
 use Prim.Native.Nat.{ℕ, _-_}
 use mathlib.Core.Bool.{false}
-use mathlib.Core.List.{List, [], _∷_, _++_}
+use mathlib.Core.List.{List, [], _∷_, _++_, map}
 use lib.ListN.{drop, set, take, replicate}
 use Rattle.rules.specs.declared.Kind.the-variants.{Packets, Access}
 use Rattle.rules.specs.declared.Setting.{Setting}
 use Rattle.rules.specs.Worked.{small}
 use Rattle.rules.specs.Errors.{paired, packetFrame}
 use Rattle.rules.specs.Calls.{Got}
-use Rattle.link.specs.Link.{Call, Frame, placeOf, Lent, Event, Writes, Copy, Stray, handedOut}
+use Rattle.link.specs.Link.{Call, Frame, placeOf, Lent, Event, Writes, Copy, Stray, Filed, handedOut}
 use Rattle.link.specs.Due.{due}
 use Rattle.link.specs.Demand.{framesOf, readsOf}
 use Rattle.rules.specs.Areas.{heldSize, recordsSize, unitsSize}
@@ -23,7 +23,7 @@ full x = record { units = replicate unitsSize x; records = replicate recordsSize
 
 -- Areas longer than asked for.
 unfoldable pub roomy : Lent
-roomy = record { units = replicate 12300 0x33; records = replicate 9650 0x33 }
+roomy = record { units = replicate 12300 0x33; records = replicate 14450 0x33 }
 
 unfoldable pub call : ℕ → List ℕ → Call
 call l b = record { lane = l; batch = b; insert = []; ocf = []; area = replicate 40 0x55 }
@@ -150,12 +150,17 @@ calls =
     ∷ closing
     ∷ [])
 
--- What is due on lanes 0, 1, 2 and on 3, which is none, by hand.
+-- A unit with its count and its span before it.
+abbrev pub told : Filed → List ℕ
+told u = u .count ∷ u .span ∷ u .octets
+
+-- What is due on lanes 0, 1, 2 and on 3, which is none, by hand. Lanes 0 and 1 share their counts.
 unfoldable pub wanted : List (List (List ℕ))
 wanted =
-    (d₀ ∷ d₀ ∷ [])
-    ∷ (c₁ ∷ c₁ ∷ packet 18 0xE1 ∷ packet 10 0xE2 ∷ packet 14 0xE3 ∷ packet 14 0xE3 ∷ packet 10 0xF1 ∷ packet 11 0xF2 ∷ [])
-    ∷ (u₂ ∷ w₂ ∷ v₂ ∷ []) ∷ [] ∷ []
+    ((8 ∷ 3 ∷ d₀) ∷ (18 ∷ 3 ∷ d₀) ∷ [])
+    ∷ ((3 ∷ 1 ∷ c₁) ∷ (7 ∷ 1 ∷ c₁) ∷ (9 ∷ 1 ∷ packet 18 0xE1) ∷ (10 ∷ 2 ∷ packet 10 0xE2) ∷ (10 ∷ 1 ∷ packet 14 0xE3) ∷ (13 ∷ 1 ∷ packet 14 0xE3)
+    ∷ (15 ∷ 1 ∷ packet 10 0xF1) ∷ (15 ∷ 1 ∷ packet 11 0xF2) ∷ [])
+    ∷ ((1 ∷ 2 ∷ u₂) ∷ (4 ∷ 1 ∷ w₂) ∷ (6 ∷ 2 ∷ v₂) ∷ []) ∷ [] ∷ []
 
 -- ---- a run of `paired` in which nothing is gone, though copies are, and every batch is finished
 
@@ -224,7 +229,7 @@ long =
 
 -- What is due on lanes 0 and 1, by hand.
 unfoldable pub wantedLong : List (List (List ℕ))
-wantedLong = (g₀ ∷ a₀ ∷ g₀ ∷ []) ∷ [] ∷ []
+wantedLong = ((255 ∷ 1 ∷ g₀) ∷ (0 ∷ 2 ∷ a₀) ∷ (255 ∷ 1 ∷ g₀) ∷ []) ∷ [] ∷ []
 
 -- ---- as many frames gone as there are counts, less one
 
@@ -241,14 +246,14 @@ held = replicate heldSize 0x66
 -- What reads hand out on some lanes, and what is due there.
 unfoldable pub onEach : List ℕ → List Got → List (List (List ℕ))
 onEach [] os = []
-onEach (l ∷ ls) os = handedOut l os ∷ onEach ls os
+onEach (l ∷ ls) os = map told (handedOut l os) ∷ onEach ls os
 
 unfoldable pub got : Setting → List ℕ → List (Event Call) → List (List (List ℕ))
 got s ls xs = onEach ls (readsOf s held xs)
 
 unfoldable pub dueOnEach : List ℕ → List Frame → List (List (List ℕ))
 dueOnEach [] fs = []
-dueOnEach (l ∷ ls) fs = due l [] fs ∷ dueOnEach ls fs
+dueOnEach (l ∷ ls) fs = map told (due l [] fs) ∷ dueOnEach ls fs
 
 unfoldable pub owed : Setting → List ℕ → List (Event Call) → List (List (List ℕ))
 owed s ls xs = dueOnEach ls (framesOf s xs)

@@ -1,7 +1,7 @@
 -- Two ends and the link between them: calls of the writer, copies of frames and other octets that arrive, and the reads at the other end.
 use Prim.Native.Nat.{ℕ, zero, suc, _+_, _*_}
 use mathlib.Core.Bool.{Bool, false, cond, _||_}
-use mathlib.Core.List.{List, [], _∷_, _++_}
+use mathlib.Core.List.{List, [], _∷_, _++_, map}
 use lib.ListN.{getD, take, drop}
 use Rattle.rules.specs.declared.Setting.{Setting}
 use Rattle.rules.specs.declared.Reader.{Reader}
@@ -9,6 +9,7 @@ use Rattle.rules.specs.declared.Writer.{Writer}
 use Rattle.rules.specs.Tests.{_=?_}
 use Rattle.rules.specs.Octets.{num}
 use Rattle.rules.specs.Settings.{lane, channelOf, number, zone}
+use Rattle.rules.specs.Frames.{countIn}
 use Rattle.rules.specs.Writing.{unitsOf}
 use Rattle.rules.specs.Calls.{Sent, write, Got, read}
 use Rattle.rules.specs.Areas.{recordSize}
@@ -26,11 +27,12 @@ pub record Call : Type 0 where
 unfoldable pub called : Writer → Call → Sent
 called w x = write w (x .lane) (x .batch) (x .insert) (x .ocf) (x .area)
 
--- A frame of a run: its lane, its channel's place in the list, the units of its batch, the octets of the batch that are its own (the one with
--- which it starts, and the one behind its last), its octets, and whether it is kept.
+-- A frame of a run: its lane, its channel's place in the list, its count, the units of its batch, the octets of the batch that are its own (the one
+-- with which it starts, and the one behind its last), its octets, and whether it is kept.
 pub record Frame : Type 0 where
   pub lane : ℕ
   pub channel : ℕ
+  pub count : ℕ
   pub units : List (List ℕ)
   pub start : ℕ
   pub stop : ℕ
@@ -51,6 +53,7 @@ frameBy s w x kept =
     record {
       lane = x .lane;
       channel = placeOf s (x .lane);
+      count = countIn (channelOf s (x .lane)) (take (s .length) ((called w x) .area));
       units = unitsOf ((lane s (x .lane)) .kind) (x .batch);
       start = startOf s w (x .lane);
       stop = startOf s w (x .lane) + zone s (channelOf s (x .lane));
@@ -137,20 +140,35 @@ reads r h (a ∷ more) =
 
 -- ---- "What the reads hand out, taken from the unit area by the records"
 
--- The unit whose record these octets begin with: "start 4, length 4" from octet 4 on.
-unfoldable pub unitBy : List ℕ → List ℕ → List ℕ
-unitBy records units = take (num (take 4 (drop 8 records))) (drop (num (take 4 (drop 4 records))) units)
+-- A unit as it is handed out: its octets, and what its record says of frames: the count of the one where it ends, and its span.
+pub record Filed : Type 0 where
+  pub octets : List ℕ
+  pub count : ℕ
+  pub span : ℕ
 
--- Of the first n records, of 16 octets each, the units of those whose first octet names lane l.
-unfoldable pub unitsBy : ℕ → ℕ → List ℕ → List ℕ → List (List ℕ)
+abbrev pub octetsIn : List Filed → List (List ℕ)
+octetsIn us = map (λ (u : Filed). u .octets) us
+
+-- The unit whose record these octets begin with: "start 4, length 4" from octet 4 on, then "the count in 8 octets, then 4 octets: the unit's frame
+-- span".
+unfoldable pub unitBy : List ℕ → List ℕ → Filed
+unitBy records units =
+    record {
+      octets = take (num (take 4 (drop 8 records))) (drop (num (take 4 (drop 4 records))) units);
+      count = num (take 8 (drop 12 records));
+      span = num (take 4 (drop 20 records));
+    }
+
+-- Of the first n records, of 24 octets each, the units of those whose first octet names lane l.
+unfoldable pub unitsBy : ℕ → ℕ → List ℕ → List ℕ → List Filed
 unitsBy l zero records units = []
 unitsBy l (suc n) records units =
     cond (getD records 0 0 =? l) (unitBy records units ∷ []) [] ++ unitsBy l n (drop recordSize records) units
 
 -- What a read hands out on lane l.
-unfoldable pub handed : ℕ → Got → List (List ℕ)
+unfoldable pub handed : ℕ → Got → List Filed
 handed l o = unitsBy l (o .taken .answer .units) (o .recordArea) (o .unitArea)
 
-unfoldable pub handedOut : ℕ → List Got → List (List ℕ)
+unfoldable pub handedOut : ℕ → List Got → List Filed
 handedOut l [] = []
 handedOut l (o ∷ os) = handed l o ++ handedOut l os

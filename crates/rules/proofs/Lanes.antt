@@ -282,7 +282,7 @@ pub record Sound (u : DataUnit) : Type 0 where
   pub within : u .span ≤ length (u .octets)
   pub some : 0 < length (u .octets) → 0 < u .span
 
-abbrev AllSound : List DataUnit → Type 0
+abbrev pub AllSound : List DataUnit → Type 0
 AllSound [] = Unit {0}
 AllSound (u ∷ us) = Sound u × AllSound us
 
@@ -292,6 +292,11 @@ pub record MadeSound (m : Made) : Type 0 where
 
 none-sound : Sound noUnit
 none-sound = record { within = omega arith; some = λ h. h }
+
+pub carries-some : (xs : List ℕ) → 0 < length xs → carries xs ≡ 1
+unfolding carries
+carries-some [] h = absurd (not-suc-le-zero h)
+carries-some (x ∷ xs) h = refl
 
 -- A frame with octets of it is one more, so both stay true.
 pub sound-from : (held : DataUnit) → Sound held → (xs : List ℕ) → Sound (unitFrom held xs)
