@@ -33,8 +33,8 @@ pub enum Line {
     Count(u64, u64),
     Next(u64, u64),
     Expect(u64, Expected),
-    Held(u64, Vec<u8>),
-    Hold(u64, u64),
+    Held { slot: u64, octets: Vec<u8>, span: u64 },
+    Hold { slot: u64, number: u64, span: u64 },
     Write { lane: u64, batch: Vec<u8>, insert: Vec<u8>, ocf: Vec<u8>, area: u64 },
     Look(Vec<u8>),
     Read { frame: Vec<u8>, areas: [u64; 3] },
@@ -49,10 +49,14 @@ impl Line {
             [] => Ok(Line::Nothing),
             ["begin"] => Ok(Line::Begin),
             ["take"] => Ok(Line::Take),
-            ["held", lane, octets] => {
+            ["held", slot, octets, span @ ..] if span.len() <= 1 => {
                 let mut octets = unhex(octets)?;
                 octets.truncate(HELD_PART);
-                Ok(Line::Held(decimal(lane)?, octets))
+                let span = match span {
+                    [] => span_of(octets.len() as u64),
+                    [span, ..] => decimal(span)?,
+                };
+                Ok(Line::Held { slot: decimal(slot)?, octets, span })
             }
             ["write", lane, batch, insert, ocf, area] => Ok(Line::Write {
                 lane: decimal(lane)?,
@@ -89,11 +93,17 @@ impl Line {
             ("count", &[slot, number]) => Ok(Line::Count(slot, number)),
             ("next", &[slot, number]) => Ok(Line::Next(slot, number)),
             ("expect", &[slot, known, count]) => Ok(Line::Expect(slot, Expected { known: known == 1, count })),
-            ("hold", &[slot, number]) => Ok(Line::Hold(slot, number)),
+            ("hold", &[slot, number]) => Ok(Line::Hold { slot, number, span: span_of(number) }),
+            ("hold", &[slot, number, span]) => Ok(Line::Hold { slot, number, span }),
             ("keep", &[length]) => Ok(Line::Keep(length)),
             _ => Err("a line of a script".to_string()),
         }
     }
+}
+
+/// The span where a line says none: one frame carries what is held.
+fn span_of(held: u64) -> u64 {
+    held.min(1)
 }
 
 /// A setting as the script says it: numbers in eight slots of each kind, not judged.
@@ -195,6 +205,7 @@ pub struct ReaderSlots {
     pub said: Said,
     pub expects: [Expected; SLOTS],
     pub held: [u64; SLOTS],
+    pub span: [u64; SLOTS],
 }
 
 impl ReaderSlots {
@@ -203,6 +214,7 @@ impl ReaderSlots {
             setting: self.said.setting(),
             expected: self.expects[..self.said.listed()].to_vec(),
             held: self.held[..self.said.numbered()].iter().map(|&held| held as usize).collect(),
+            span: self.span[..self.said.numbered()].to_vec(),
         }
     }
 
@@ -211,11 +223,13 @@ impl ReaderSlots {
         for (slot, &held) in self.held.iter_mut().zip(&reader.held) {
             *slot = held as u64;
         }
+        self.span[..reader.span.len()].copy_from_slice(&reader.span);
     }
 
     fn line(&self) -> String {
         let expects = self.expects.map(|e| format!("{}:{}", u8::from(e.known), e.count)).join(" ");
-        format!("reader expects {expects} held {} setting {}\n", list(&self.held), self.said.sum())
+        let (held, span) = (list(&self.held), list(&self.span));
+        format!("reader expects {expects} held {held} span {span} setting {}\n", self.said.sum())
     }
 }
 
@@ -321,10 +335,14 @@ impl Ends {
             Line::Count(slot, number) => put(&mut self.writer.counts, *slot, *number),
             Line::Next(slot, number) => put(&mut self.writer.next, *slot, *number),
             Line::Expect(slot, expected) => put(&mut self.reader.expects, *slot, *expected),
-            Line::Hold(slot, number) => put(&mut self.reader.held, *slot, *number),
-            Line::Held(slot, octets) if *slot < SLOTS as u64 => {
+            Line::Hold { slot, number, span } => {
+                put(&mut self.reader.held, *slot, *number);
+                put(&mut self.reader.span, *slot, *span);
+            }
+            Line::Held { slot, octets, span } if *slot < SLOTS as u64 => {
                 let lane = *slot as usize;
                 self.reader.held[lane] = octets.len() as u64;
+                self.reader.span[lane] = *span;
                 self.held[lane * HELD_PART..lane * HELD_PART + octets.len()].copy_from_slice(octets);
             }
             _ => {}

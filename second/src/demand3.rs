@@ -4,16 +4,20 @@
 //! (document 02, A3): between two copies no other frame of its channel is sent, but frames of other channels may be. Some
 //! copies are removed or replaced by octets that the reader refuses, and a frame of which no copy is kept is gone. Each
 //! lane must then give out exactly the units of which no frame is gone, where "of which" means every frame of the lane's
-//! channel from the one where the unit begins to the one where it ends. In some runs there are frames that no lane reads:
-//! idle ones, and those of another sender on a channel, who takes the writer's count and leaves it with the next (`count`).
+//! channel from the one where the unit begins to the one where it ends. A unit's record has the count of the frame where it
+//! ends, whole, and its span: the number of the lane's frames from the one where it begins to that one (A2).
+//!
+//! In some runs there are frames that no lane reads: idle ones, and those of another sender on a channel, who takes the
+//! writer's count and leaves it with the next (`count`). Fresh ends count from 0, and no run is long enough to count past
+//! 2^32: where counts are to be so high another sender was there first, and all of those frames are gone.
 //!
 //! A kept copy is what the program that obeys the script wrote itself. Where another frame was written since, the script
 //! has to say its octets; they are this program's, and that they are what the other one wrote is held too. No reader of
-//! this program has a part in the verdict: what is due follows from the batches, Z and the frames that are gone.
+//! this program has a part in the verdict: what is due follows from the batches, Z, the frames and which of them are gone.
 
 use crate::calls::setting_lines;
 use crate::frame::{big_endian, put_big_endian, put_frame_check, Header};
-use crate::random::{good_batch, valid_setting, Random};
+use crate::random::{good_batch, high_count, valid_setting, Random};
 use crate::reader::RECORD;
 use crate::setting::{Kind, Setting};
 use crate::text::{hex, unhex};
@@ -86,18 +90,21 @@ struct Batch {
     places: Vec<usize>,
 }
 
-/// A unit whose last frame is written; `first` and `last` are places among the channel's frames.
+/// A unit whose last frame is written; `first` and `last` are places among the channel's frames, and `span` is how many of
+/// its lane's frames carry it.
 struct Sent {
     octets: Vec<u8>,
     first: usize,
     last: usize,
+    span: u64,
 }
 
-/// A unit as handed out, with the count in its record.
+/// A unit as handed out, with the count and the span in its record.
 #[derive(PartialEq, Debug)]
 struct Given {
     octets: Vec<u8>,
     count: u64,
+    span: u64,
 }
 
 /// The frame that was sent last on a channel.
@@ -174,6 +181,8 @@ struct Run {
     open: Vec<Option<Batch>>,
     sent: Vec<Vec<Sent>>,
     handed_out: Vec<Vec<Given>>,
+    /// For each channel, how many frames another sender sent there before the first of these.
+    before: Vec<u64>,
     /// For each channel, whether its frames, in order, are gone.
     gone: Vec<Vec<bool>>,
     /// For each channel, how many are gone since the last kept one (none kept yet: no limit).
@@ -205,7 +214,7 @@ impl Run {
             let setting = edge_setting(random);
             return Run::of(random, setting, Loss::Edge, 900);
         }
-        let setting = valid_setting(random, &[1, 1, 1, 1, 2, 3, 7]);
+        let setting = valid_setting(random, &[1, 1, 1, 1, 2, 3, 5, 7]);
         let light = random.between(1, 5);
         let heavy = random.between(10, 60);
         let loss =
@@ -231,6 +240,7 @@ impl Run {
             open: (0..lanes).map(|_| None).collect(),
             sent: (0..lanes).map(|_| Vec::new()).collect(),
             handed_out: (0..lanes).map(|_| Vec::new()).collect(),
+            before: vec![0; channels],
             gone: vec![Vec::new(); channels],
             gone_since_kept: vec![None; channels],
             row: vec![loss.first_row(random); channels],
@@ -238,8 +248,20 @@ impl Run {
             in_area: None,
             heard: 0,
         };
+        run.count_high(random);
         run.go(random);
         run
+    }
+
+    /// Another sender went before, on some of the channels whose counts have room for it.
+    fn count_high(&mut self, random: &mut Random) {
+        for channel in 0..self.before.len() {
+            if let Some(count) = high_count(random, &self.writer.setting.channels[channel]) {
+                self.before[channel] = count;
+                self.writer.counts[channel] = count;
+                self.script += &format!("count {channel} {count}\n");
+            }
+        }
     }
 
     fn setting(&self) -> &Setting {
@@ -422,6 +444,7 @@ impl Run {
                     octets: batch.octets[begin..end].to_vec(),
                     first: batch.places[begin / zone],
                     last: batch.places[newest],
+                    span: (newest - begin / zone + 1) as u64,
                 });
             }
         }
@@ -520,14 +543,18 @@ impl Run {
         let channel = &self.setting().channels[listed.channel];
         let head = [lane as u8, channel.virtual_channel as u8, listed.map as u8, channel.service as u8];
         let mut end = 0;
-        for record in records.chunks(RECORD) {
+        let records = records.chunks_exact(RECORD);
+        if !records.remainder().is_empty() {
+            return Err(format!("a record is cut: {}", hex(records.remainder())));
+        }
+        for record in records {
             let (start, length) = (big_endian(&record[4..8]) as usize, big_endian(&record[8..12]) as usize);
             if record[..4] != head || start != end || units.len() < start + length {
                 return Err(format!("a record is not this lane's or not back to back: {}", hex(record)));
             }
             end = start + length;
-            let given = Given { octets: units[start..end].to_vec(), count: big_endian(&record[12..16]) };
-            self.handed_out[lane].push(given);
+            let (count, span) = (big_endian(&record[12..20]), big_endian(&record[20..24]));
+            self.handed_out[lane].push(Given { octets: units[start..end].to_vec(), count, span });
         }
         if end != units.len() {
             return Err("the unit octets are not the records' sum".to_string());
@@ -535,15 +562,15 @@ impl Run {
         Ok(())
     }
 
-    /// Exactly the units no frame of which is gone, in order, each with its last frame's count.
+    /// Exactly the units no frame of which is gone, in order, each with its last frame's count and its span.
     fn compare(&self) -> Result<(), String> {
         for (lane, sent) in self.sent.iter().enumerate() {
             let channel = self.setting().lanes[lane].channel;
             let modulus = self.setting().channels[channel].modulus();
             let whole = sent.iter().filter(|unit| !self.gone[channel][unit.first..=unit.last].contains(&true));
-            let wanted: Vec<Given> = whole
-                .map(|unit| Given { octets: unit.octets.clone(), count: unit.last as u64 % modulus % (1 << 32) })
-                .collect();
+            let count = |unit: &Sent| (self.before[channel] + unit.last as u64) % modulus;
+            let wanted: Vec<Given> =
+                whole.map(|unit| Given { octets: unit.octets.clone(), count: count(unit), span: unit.span }).collect();
             if wanted != self.handed_out[lane] {
                 return Err(first_difference(lane, &wanted, &self.handed_out[lane]));
             }

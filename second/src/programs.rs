@@ -198,7 +198,7 @@ struct UnitTable {
 impl UnitTable {
     fn new(path: String, lanes: usize) -> Result<UnitTable, String> {
         let mut file = create(path)?;
-        writeln!(file, "lane,offset,length,frame,count,apid,sequence").map_err(said)?;
+        writeln!(file, "lane,offset,length,frame,count,apid,sequence,span").map_err(said)?;
         Ok(UnitTable { file, written: vec![0; lanes] })
     }
 
@@ -210,11 +210,12 @@ impl UnitTable {
             let (unit, later) = rest.split_at(field(&record[8..12]) as usize);
             rest = later;
             let length = unit.len() as u64;
-            write!(self.file, "{lane},{},{length},{number},{}", self.written[lane], field(&record[12..16]))?;
+            write!(self.file, "{lane},{},{length},{number},{}", self.written[lane], field(&record[12..20]))?;
             match kind {
-                Kind::Packet => writeln!(self.file, ",{},{}", field(&unit[..2]) % 2048, field(&unit[2..4]) % 16384)?,
-                Kind::Access => writeln!(self.file, ",,")?,
+                Kind::Packet => write!(self.file, ",{},{}", field(&unit[..2]) % 2048, field(&unit[2..4]) % 16384)?,
+                Kind::Access => write!(self.file, ",,")?,
             }
+            writeln!(self.file, ",{}", field(&record[20..24]))?;
             self.written[lane] += length;
         }
         Ok(())

@@ -3,7 +3,7 @@
 use crate::calls::setting_lines;
 use crate::frame::{put_big_endian, put_frame_check, Header, NO_POINTER};
 use crate::packet::IDLE_OCTET;
-use crate::reader::{HELD_AREA, RECORD_AREA, UNIT_AREA};
+use crate::reader::{HELD_AREA, RECORD, RECORD_AREA, UNIT_AREA};
 use crate::setting::{Channel, Kind, Lane, Setting};
 use crate::text::hex;
 use crate::writer::{Lent, Writer, LONGEST_BATCH};
@@ -59,6 +59,17 @@ impl Random {
 
 /// Counts of one octet are reached all round, so they come more often.
 const COUNT_LENGTHS: [u64; 9] = [1, 1, 1, 2, 3, 4, 5, 6, 7];
+
+/// A count for a channel to begin with that goes on high: any, mostly one above 2^32, or a few below that number or below
+/// the wrap. None for a channel whose counts have no room for it, and now and then for others.
+pub fn high_count(random: &mut Random, channel: &Channel) -> Option<u64> {
+    if channel.count_length < 5 || random.one_in(3) {
+        return None;
+    }
+    let any = random.below(channel.modulus());
+    let few = random.between(1, 9);
+    Some(random.pick(&[any, any, (1 << 32) - few, channel.modulus() - few]))
+}
 
 fn random_channels(random: &mut Random, n_choices: &[u64]) -> Vec<Channel> {
     let wanted = random.pick(&[1, 1, 2, 2, 3, 4, 8]);
@@ -370,6 +381,7 @@ impl Script {
         self.open = vec![None; setting.lanes.len()];
         self.setting = setting;
         self.unlisted_slots();
+        self.high_counts();
         let dear = self.setting.frame_length / 64;
         let enough = self.calls + self.random.between(10, 80) / (1 + dear / 16) + 5;
         while self.calls < enough.min(count) {
@@ -472,7 +484,18 @@ impl Script {
                 let slot = self.random.between(used as u64, 7);
                 let number = self.great_number();
                 let flag = if word == "expect" { self.random.pick(&["0 ", "1 "]) } else { "" };
-                self.line(&format!("{word} {slot} {flag}{number}"));
+                let great = format!(" {}", self.great_number());
+                let span = if word == "hold" { self.random.pick(&["", " 0", &great]) } else { "" };
+                self.line(&format!("{word} {slot} {flag}{number}{span}"));
+            }
+        }
+    }
+
+    /// The writer of some channels begins with a high count.
+    fn high_counts(&mut self) {
+        for channel in 0..self.setting.channels.len() {
+            if let Some(count) = high_count(&mut self.random, &self.setting.channels[channel]) {
+                self.set_count(channel, count);
             }
         }
     }
@@ -889,7 +912,7 @@ impl Script {
         let lane = self.any_lane();
         let channel = self.setting.lanes[lane].channel;
         let modulus = self.setting.channels[channel].modulus();
-        match self.random.below(10) {
+        match self.random.below(13) {
             0 => self.expect_line(channel, None),
             1 => {
                 // Not valid: a read is refused 1, and then the state is put right.
@@ -911,7 +934,8 @@ impl Script {
                     let number = self.random.pick(&[longest as u64, longest as u64 + 1, great.max(8_192)]);
                     self.line(&format!("hold {lane} {number}"));
                     self.read_some_frame();
-                    self.line(&format!("hold {lane} {}", longest - 1));
+                    let span = self.span_words(longest as u64 - 1);
+                    self.line(&format!("hold {lane} {}{span}", longest - 1));
                     self.read_some_frame();
                     self.held_line(lane, &[]);
                 }
@@ -921,6 +945,7 @@ impl Script {
                 let expected = self.random.pick(&[0, modulus - 1, self.writer.counts[channel] % modulus, any]);
                 self.expect_line(channel, Some(expected));
             }
+            6..=8 => self.wrong_span(lane),
             _ => {
                 let octets = self.held_octets(lane);
                 self.held_line(lane, &octets);
@@ -928,8 +953,38 @@ impl Script {
         }
     }
 
+    /// A span that does not fit what the lane holds, or nearly so: a read is refused 1, and then the state is put right.
+    fn wrong_span(&mut self, lane: usize) {
+        let octets = self.held_octets(lane);
+        let held = octets.len() as u64;
+        let great = self.great_number();
+        // Numbers of which the low octets alone would fit.
+        let low_fits = held + self.random.pick(&[1 << 8, 1 << 16, 1 << 32]);
+        let above = self.random.pick(&[held, held + 1, held + 1, held + 1, held + 2, low_fits, great]);
+        let (octets, span) = match self.random.below(3) {
+            0 => (&octets[..], above),
+            1 => (&octets[..], 0),
+            _ => (&octets[..0], self.random.pick(&[1, 1, 2, great])),
+        };
+        self.line(&format!("held {lane} {} {span}", hex(octets)));
+        self.read_some_frame();
+        self.held_line(lane, octets);
+        self.read_some_frame();
+    }
+
+    /// A lane is made to hold octets, with a span that fits them.
     fn held_line(&mut self, lane: usize, octets: &[u8]) {
-        self.line(&format!("held {lane} {}", hex(octets)));
+        let span = self.span_words(octets.len() as u64);
+        self.line(&format!("held {lane} {}{span}", hex(octets)));
+    }
+
+    /// The end of a line that says a span, or says none: from one frame to one for each octet.
+    fn span_words(&mut self, held: u64) -> String {
+        let any = self.random.below(held.max(1)) + held.min(1);
+        match self.random.pick(&[None, Some(held.min(1)), Some(held.min(2)), Some(held), Some(any), Some(any)]) {
+            Some(span) => format!(" {span}"),
+            None => String::new(),
+        }
     }
 
     /// Octets of every kind that a lane may be said to hold, fewer than its longest.
@@ -1062,7 +1117,9 @@ impl Script {
     fn odd_area_read(&mut self) {
         let frame = self.good_or_bad_frame();
         let units = self.random.pick(&[UNIT_AREA, UNIT_AREA - 1, UNIT_AREA + 1, 0]);
-        let records = self.random.pick(&[RECORD_AREA, RECORD_AREA, RECORD_AREA - 1, RECORD_AREA + 16, 0]);
+        // The last one is what records of 16 octets wanted.
+        let records =
+            self.random.pick(&[RECORD_AREA, RECORD_AREA, RECORD_AREA, RECORD_AREA - 1, RECORD_AREA + RECORD, 0, 9_600]);
         let held = self.random.pick(&[HELD_AREA, HELD_AREA, HELD_AREA - 1, HELD_AREA + 1, 0]);
         if self.random.percent(60) {
             self.look_lines(&frame);

@@ -1,5 +1,5 @@
-//! The reader (document 01, "Reading"; refusals 1 to 12), frames sent twice (document 02, A3), and the look before a read
-//! (A7).
+//! The reader (document 01, "Reading"; refusals 1 to 12), whole counts and spans in the records (document 02, A2), frames
+//! sent twice (A3), and the look before a read (A7).
 
 use std::cmp::Ordering;
 
@@ -14,8 +14,8 @@ pub const HELD_AREA: usize = 65_536;
 /// A lane's part of the held area.
 pub const HELD_PART: usize = 8_192;
 pub const UNIT_AREA: usize = 12_288;
-pub const RECORD_AREA: usize = 9_600;
-pub const RECORD: usize = 16;
+pub const RECORD_AREA: usize = 14_400;
+pub const RECORD: usize = 24;
 
 /// Whether a count is expected, and which. The count is judged in any case: "each count is below 256^n".
 #[derive(Clone, Copy, PartialEq, Eq, Debug, Default)]
@@ -32,6 +32,8 @@ pub struct Reader {
     pub expected: Vec<Expected>,
     /// How many octets each lane holds.
     pub held: Vec<usize>,
+    /// How many frames of each lane carry what it holds: its span so far.
+    pub span: Vec<u64>,
 }
 
 #[derive(Clone, Copy, PartialEq, Eq, Debug)]
@@ -85,11 +87,24 @@ enum Passed {
     Repeat { channel: usize },
 }
 
+/// What a lane holds before a frame.
+struct Held<'a> {
+    octets: &'a [u8],
+    span: u64,
+}
+
+/// Octets of a unit, up to and with those of this frame, and how many frames of the lane carry them.
+#[derive(Default)]
+struct Carried {
+    octets: Vec<u8>,
+    span: u64,
+}
+
 /// What one data field gave, apart from what a gap dropped.
 #[derive(Default)]
 struct Harvest {
-    units: Vec<Vec<u8>>,
-    held: Vec<u8>,
+    units: Vec<Carried>,
+    held: Carried,
     idle: usize,
     fill: usize,
     dropped: usize,
@@ -104,6 +119,24 @@ impl Answer {
 impl Look {
     fn empty(class: Class) -> Look {
         Look { class, missing: 0, channel: None, lane: None }
+    }
+}
+
+impl Held<'_> {
+    /// What is held goes on in this frame.
+    fn followed_by(&self, octets: &[u8]) -> Carried {
+        Carried { octets: [self.octets, octets].concat(), span: self.span + 1 }
+    }
+}
+
+impl Carried {
+    /// A unit that begins in this frame.
+    fn begun(octets: &[u8]) -> Carried {
+        Carried { octets: octets.to_vec(), span: 1 }
+    }
+
+    fn len(&self) -> usize {
+        self.octets.len()
     }
 }
 
@@ -126,6 +159,7 @@ impl Reader {
         Ok(Reader {
             expected: vec![Expected::default(); setting.channels.len()],
             held: vec![0; setting.lanes.len()],
+            span: vec![0; setting.lanes.len()],
             setting: setting.clone(),
         })
     }
@@ -139,6 +173,7 @@ impl Reader {
                 .zip(&self.expected)
                 .all(|(channel, expected)| expected.count < channel.modulus())
             && self.setting.lanes.iter().zip(&self.held).all(|(lane, &held)| (held as u64) < lane.longest)
+            && self.held.iter().zip(&self.span).all(|(&held, &span)| span_fits(held as u64, span))
     }
 
     /// What a frame is and how many are missing before it. No area is lent and nothing changes.
@@ -280,18 +315,18 @@ impl Reader {
         }
     }
 
-    /// Takes a frame's count; a gap drops what all lanes of the channel hold. Returns missing and dropped.
+    /// Takes a frame's count; a gap drops what all lanes of the channel hold, and with it their spans. Returns missing and
+    /// dropped.
     fn take_count(&mut self, place: usize, count: u64) -> (u64, usize) {
         let modulus = self.setting.channels[place].modulus();
         let missing = self.missing(place, count);
         self.expected[place] = Expected { known: true, count: (count + 1) % modulus };
         let mut dropped = 0;
         if missing != 0 {
-            for (lane, held) in self.setting.lanes.iter().zip(&mut self.held) {
-                if lane.channel == place {
-                    dropped += *held;
-                    *held = 0;
-                }
+            for (number, _) in self.setting.lanes.iter().enumerate().filter(|(_, lane)| lane.channel == place) {
+                dropped += self.held[number];
+                self.held[number] = 0;
+                self.span[number] = 0;
             }
         }
         (missing, dropped)
@@ -302,7 +337,8 @@ impl Reader {
         let channel = &self.setting.channels[lane.channel];
         let zone_place = self.setting.zone_place(channel);
         let zone = &frame[zone_place..zone_place + self.setting.zone_length(channel)];
-        let held = &held_area[place * HELD_PART..place * HELD_PART + self.held[place]];
+        let octets = &held_area[place * HELD_PART..place * HELD_PART + self.held[place]];
+        let held = &Held { octets, span: self.span[place] };
         let pointer = if pointer == NO_POINTER { None } else { Some(usize::from(pointer)) };
         match lane.kind {
             Kind::Packet => read_packets(held, zone, pointer, lane.longest as usize),
@@ -310,31 +346,38 @@ impl Reader {
         }
     }
 
-    /// The lane now holds these octets; no other octet of the held area changes.
-    fn keep(&mut self, place: usize, octets: &[u8], held_area: &mut [u8]) {
+    /// The lane now holds this; no other octet of the held area changes.
+    fn keep(&mut self, place: usize, held: &Carried, held_area: &mut [u8]) {
         let begin = place * HELD_PART;
-        held_area[begin..begin + octets.len()].copy_from_slice(octets);
-        self.held[place] = octets.len();
+        held_area[begin..begin + held.len()].copy_from_slice(&held.octets);
+        self.held[place] = held.len();
+        self.span[place] = held.span;
     }
 
     /// Puts the units back to back and a record for each; returns the unit octets.
-    fn hand_out(&self, place: usize, count: u64, units: &[Vec<u8>], areas: &mut Areas) -> usize {
+    fn hand_out(&self, place: usize, count: u64, units: &[Carried], areas: &mut Areas) -> usize {
         let lane = &self.setting.lanes[place];
         let channel = &self.setting.channels[lane.channel];
         let mut start = 0;
         for (unit, record) in units.iter().zip(areas.records.chunks_exact_mut(RECORD)) {
-            areas.units[start..start + unit.len()].copy_from_slice(unit);
+            areas.units[start..start + unit.len()].copy_from_slice(&unit.octets);
             record[0] = place as u8;
             record[1] = channel.virtual_channel as u8;
             record[2] = lane.map as u8;
             record[3] = channel.service as u8;
             put_big_endian(&mut record[4..8], start as u64);
             put_big_endian(&mut record[8..12], unit.len() as u64);
-            put_big_endian(&mut record[12..16], count % (1 << 32));
+            put_big_endian(&mut record[12..20], count);
+            put_big_endian(&mut record[20..24], unit.span);
             start += unit.len();
         }
         start
     }
+}
+
+/// Each frame that carries what is held has brought at least one octet of it, and where nothing is held none has.
+fn span_fits(held: u64, span: u64) -> bool {
+    span <= held && (held == 0 || span > 0)
 }
 
 /// Refusal 12, or the construction rule and the pointer.
@@ -363,14 +406,14 @@ enum Fate {
 }
 
 /// A packet lane's zone; no pointer is FFFF.
-fn read_packets(held: &[u8], zone: &[u8], pointer: Option<usize>, longest: usize) -> Harvest {
+fn read_packets(held: &Held, zone: &[u8], pointer: Option<usize>, longest: usize) -> Harvest {
     let mut harvest = Harvest::default();
     let lead = &zone[..pointer.unwrap_or(zone.len())];
-    if held.is_empty() {
+    if held.octets.is_empty() {
         harvest.dropped += lead.len();
     } else {
-        let joined = [held, lead].concat();
-        match fate_of_held(&joined, pointer, longest) {
+        let joined = held.followed_by(lead);
+        match fate_of_held(&joined.octets, pointer, longest) {
             Fate::Ends { idle: true } => harvest.idle += joined.len(),
             Fate::Ends { idle: false } => harvest.units.push(joined),
             Fate::GoesOn => harvest.held = joined,
@@ -415,18 +458,18 @@ fn walk_packets(octets: &[u8], longest: usize, harvest: &mut Harvest) {
                 return;
             }
             Measure::TooFew => {
-                harvest.held = rest.to_vec();
+                harvest.held = Carried::begun(rest);
                 return;
             }
             Measure::Long { length, .. } if length > rest.len() => {
-                harvest.held = rest.to_vec();
+                harvest.held = Carried::begun(rest);
                 return;
             }
             Measure::Long { length, idle } => {
                 if idle {
                     harvest.idle += length;
                 } else {
-                    harvest.units.push(rest[..length].to_vec());
+                    harvest.units.push(Carried::begun(&rest[..length]));
                 }
                 rest = &rest[length..];
             }
@@ -435,7 +478,7 @@ fn walk_packets(octets: &[u8], longest: usize, harvest: &mut Harvest) {
 }
 
 /// An access lane's zone; no pointer is FFFF.
-fn read_access(held: &[u8], zone: &[u8], rule: u8, pointer: Option<usize>, longest: usize) -> Harvest {
+fn read_access(held: &Held, zone: &[u8], rule: u8, pointer: Option<usize>, longest: usize) -> Harvest {
     let mut harvest = Harvest::default();
     let octets = match pointer {
         Some(last) => &zone[..last + 1],
@@ -443,13 +486,13 @@ fn read_access(held: &[u8], zone: &[u8], rule: u8, pointer: Option<usize>, longe
     };
     harvest.fill = zone.len() - octets.len();
     let unit = if rule == RULE_ACCESS_START {
-        harvest.dropped += held.len();
-        octets.to_vec()
-    } else if held.is_empty() {
+        harvest.dropped += held.octets.len();
+        Carried::begun(octets)
+    } else if held.octets.is_empty() {
         harvest.dropped += octets.len();
         return harvest;
     } else {
-        [held, octets].concat()
+        held.followed_by(octets)
     };
     let finished = pointer.is_some();
     if finished && unit.len() <= longest {

@@ -4,12 +4,12 @@ use std::fs;
 use std::path::Path;
 
 use crate::frame::put_frame_check;
-use crate::random::{good_batch, space_packet, valid_setting, Random};
+use crate::random::{good_batch, high_count, space_packet, valid_setting, Random};
 use crate::setting::{Kind, Setting};
 use crate::text::setting_to_lines;
 use crate::writer::{Lent, Writer};
 
-/// Count lengths: short ones, so that counts wrap.
+/// Count lengths: short ones, so that counts wrap, and one with room for counts above 2^32.
 const COUNT_LENGTHS: [u64; 5] = [1, 1, 1, 2, 7];
 
 /// The files: `setting`; `recording`; `insert` and `ocf`; `lane0` and so on for `pack`, and `list0` and so on of those
@@ -209,6 +209,8 @@ fn recording(random: &mut Random, setting: &Setting, insert: &[u8], ocf: &[u8]) 
         if random.one_in(3) {
             // Near the wrap: the first frame may have the highest count.
             *count = channel.modulus() - random.between(1, 10);
+        } else if let Some(high) = high_count(random, channel) {
+            *count = high;
         }
     }
     let mut open: Vec<Option<Vec<u8>>> = vec![None; setting.lanes.len()];

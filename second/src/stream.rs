@@ -21,10 +21,12 @@ const DESK: usize = ROWS + FRAME_ROOM;
 /// In a state: the first channel's row and the first lane's row.
 const CHANNELS: usize = 1;
 const LANES: usize = CHANNELS + SLOTS;
-/// In a channel's row: whether a count is expected, and the count. In a lane's row: how many octets it holds, or its next frame number.
+/// In a channel's row: whether a count is expected, and the count. In a lane's row: how many octets it holds, or its next frame number; the span of
+/// what it holds.
 const KNOWN: usize = 4;
 const COUNT: usize = 5;
 const LENGTH: usize = 5;
+const SPAN: usize = 6;
 /// In the octets behind a write: insert octets, OCF octets, the batch.
 const INSERT_ROOM: usize = 256;
 const OCF_ROOM: usize = 16;
@@ -91,6 +93,11 @@ fn lay_slot(out: &mut Vec<u8>, first: usize, slot: u64, number: usize, numbers: 
     }
 }
 
+/// Lays into a lane's row of the reader how many octets the lane holds, and their span behind that.
+fn lay_held(out: &mut Vec<u8>, slot: u64, number: u64, span: u64) {
+    lay_slot(out, READER + LANES, slot, LENGTH, &[number, span]);
+}
+
 /// Octets for a place that has room for so many.
 fn padded(octets: &[u8], room: usize) -> Result<Vec<u8>, String> {
     if octets.len() > room {
@@ -127,12 +134,12 @@ fn requests_of(said: &mut Said, line: &Line) -> Result<Vec<u8>, String> {
         Line::Expect(slot, Expected { known, count }) => {
             lay_slot(&mut out, READER + CHANNELS, *slot, KNOWN, &[u64::from(*known), *count]);
         }
-        Line::Hold(slot, number) => lay_slot(&mut out, READER + LANES, *slot, LENGTH, &[*number]),
-        Line::Held(slot, octets) => {
+        Line::Hold { slot, number, span } => lay_held(&mut out, *slot, *number, *span),
+        Line::Held { slot, octets, span } => {
             if *slot < SLOTS as u64 {
                 ask(&mut out, What::LayHeld, &[slot * HELD_PART as u64], octets);
             }
-            lay_slot(&mut out, READER + LANES, *slot, LENGTH, &[octets.len() as u64]);
+            lay_held(&mut out, *slot, octets.len() as u64, *span);
         }
         Line::Write { lane, batch, insert, ocf, area } => {
             let behind = [padded(insert, INSERT_ROOM)?, padded(ocf, OCF_ROOM)?, batch.clone()].concat();
@@ -203,6 +210,7 @@ fn reader_on(desk: &[u8]) -> ReaderSlots {
         said: setting_on(desk, READER),
         expects: std::array::from_fn(|slot| Expected { known: known[slot] == 1, count: count[slot] }),
         held: column(desk, READER + LANES, LENGTH),
+        span: column(desk, READER + LANES, SPAN),
     }
 }
 
@@ -268,13 +276,16 @@ impl Course {
             return Err("a state has another setting".to_string());
         }
         for state in [WRITER, READER] {
-            let behind = |first, number| column(desk, first, number).iter().any(|&number| number != 0);
+            let says = |first, number| column(desk, state + first, number).iter().any(|&number| number != 0);
             let flags = column(desk, state + CHANNELS, KNOWN);
             let known = if state == READER { 1 } else { 0 };
             let [.., last]: [u64; ROW / NUMBER] = row(desk, state);
             if last != 0
                 || flags.iter().any(|&flag| flag > known)
-                || [CHANNELS, LANES].iter().any(|first| behind(state + first, 6) || behind(state + first, 7))
+                || says(CHANNELS, 6)
+                || says(CHANNELS, 7)
+                || (state == WRITER && says(LANES, SPAN))
+                || says(LANES, 7)
             {
                 return Err("a number is not 0 that should be".to_string());
             }

@@ -1,11 +1,13 @@
-//! Document 01's worked frames (cases 1 to 11), looks at them (document 02, A7), frames sent twice (A3), the published values
-//! of the frame check, and what must not change.
+//! Document 01's worked frames (cases 1 to 11), looks at them (document 02, A7), frames sent twice (A3), whole counts and spans
+//! (A2), the published values of the frame check, and what must not change.
 
 use crate::calls;
 use crate::demand3;
 use crate::frame::frame_check;
 use crate::random;
-use crate::reader::{Answer, Areas, Class, Expected, Look, Reader, HELD_AREA, HELD_PART, RECORD_AREA, UNIT_AREA};
+use crate::reader::{
+    Answer, Areas, Class, Expected, Look, Reader, HELD_AREA, HELD_PART, RECORD, RECORD_AREA, UNIT_AREA,
+};
 use crate::setting::{Channel, Kind, Lane, Setting};
 use crate::stream;
 use crate::text::{setting_from_file, setting_to_lines, unhex};
@@ -79,8 +81,15 @@ impl End {
         let areas = &mut Areas { held: &mut self.held, units: &mut self.units, records: &mut self.records };
         let answer = self.reader.read(frame, areas);
         assert!(self.units[answer.octets as usize..].iter().all(|&octet| octet == 0x55));
-        assert!(self.records[answer.units as usize * 16..].iter().all(|&octet| octet == 0x55));
+        assert!(self.records[answer.units as usize * RECORD..].iter().all(|&octet| octet == 0x55));
         answer
+    }
+
+    /// Makes a lane hold octets, which so many frames carried.
+    fn hold(&mut self, lane: usize, octets: &[u8], span: u64) {
+        self.reader.held[lane] = octets.len();
+        self.reader.span[lane] = span;
+        self.held[lane * HELD_PART..lane * HELD_PART + octets.len()].copy_from_slice(octets);
     }
 }
 
@@ -156,16 +165,16 @@ fn case_4_read_both() {
     let mut end = End::fresh(&worked_setting());
     let first = end.read(&frames[0]);
     assert_eq!((first.class, first.units, first.octets, first.dropped), (Class::Read, 1, 10, 0));
-    assert_eq!(end.records[..16], octets("00 03 05 00 00000000 0000000A 00000000"));
+    assert_eq!(end.records[..24], octets("00 03 05 00 00000000 0000000A 0000000000000000 00000001"));
     assert_eq!(end.units[..10], case_2_batch()[..10]);
-    assert_eq!(end.reader.held, [11]);
+    assert_eq!((end.reader.held[0], end.reader.span[0]), (11, 1));
     assert_eq!(end.held[..11], case_2_batch()[10..21]);
     let second = end.read(&frames[1]);
     assert_eq!((second.units, second.octets, second.idle, second.missing), (1, 18, 14, 0));
-    assert_eq!(end.records[..16], octets("00 03 05 00 00000000 00000012 00000001"));
+    assert_eq!(end.records[..24], octets("00 03 05 00 00000000 00000012 0000000000000001 00000002"));
     assert_eq!(end.units[..18], case_2_batch()[10..]);
     // Nothing is held any more, and the held area is as it was.
-    assert_eq!(end.reader.held, [0]);
+    assert_eq!((end.reader.held[0], end.reader.span[0]), (0, 0));
     assert_eq!(end.held[..11], case_2_batch()[10..21]);
     assert!(end.held[11..].iter().all(|&octet| octet == 0x55));
 }
@@ -418,7 +427,7 @@ fn a_look_with_a_state_that_is_not_valid() {
     assert_eq!(Reader::default().look(&[]), looks_refused(1));
     // As many octets held as the longest unit has; a count of 256, though none is expected.
     let (mut full, mut beyond) = (End::fresh(&worked_setting()), End::fresh(&worked_setting()));
-    full.reader.held[0] = 64;
+    full.hold(0, &[0; 64], 1);
     beyond.reader.expected[0] = Expected { known: false, count: 256 };
     for (_, frame) in refused_frames() {
         assert_eq!(full.look(&frame), looks_refused(1));
@@ -426,7 +435,7 @@ fn a_look_with_a_state_that_is_not_valid() {
     }
     assert_eq!(full.look(&frames[0]), looks_refused(1));
     assert_eq!(full.read_lent(&frames[0], SHORT_AREAS[0]).class, Class::Refused(1));
-    full.reader.held[0] = 63;
+    full.hold(0, &[0; 63], 1);
     assert_eq!(full.look(&frames[0]), looks_read(0));
 }
 
@@ -609,7 +618,7 @@ fn refusals_come_before_a_repeat() {
         assert_eq!(end.read_lent(&frames[1], lengths).class, Class::Refused(2));
     }
     end.repeats(&frames[1], 0);
-    end.reader.held[0] = 64;
+    end.hold(0, &[0; 64], 1);
     assert_eq!(end.look(&frames[1]), looks_refused(1));
     assert_eq!(end.read(&frames[1]).class, Class::Refused(1));
 }
@@ -698,6 +707,309 @@ fn the_most_frames_that_can_be_told_to_be_gone() {
     end.reads(&with_count(&frame, 0), 0);
 }
 
+// The whole count in the record, and spans (document 02, A2)
+
+/// The record of a unit of lane 0 of the worked setting.
+fn record(start: u32, length: u32, count: u64, span: u32) -> Vec<u8> {
+    [&[0, 3, 5, 0][..], &start.to_be_bytes(), &length.to_be_bytes(), &count.to_be_bytes(), &span.to_be_bytes()].concat()
+}
+
+/// A frame of the worked setting's lane.
+fn lane_frame(count: u8, pointer: u16, zone: &[u8]) -> Vec<u8> {
+    [&octets("C0 02 A0 6A 00 1F 01")[..], &[count, 0], &pointer.to_be_bytes(), zone].concat()
+}
+
+/// The worked setting with counts of seven octets, and F so that Z is 21.
+fn seven_octets() -> Setting {
+    let mut setting = worked_setting();
+    setting.frame_length = 38;
+    setting.channels[0].count_length = 7;
+    setting
+}
+
+#[test]
+fn a_span_fits_what_is_held_or_the_state_is_not_valid() {
+    let frames = frames_of(&worked_setting(), &case_2_batch());
+    let fits = |held: usize, span: u64| {
+        let mut end = End::fresh(&worked_setting());
+        end.hold(0, &vec![0; held], span);
+        let look = end.look(&frames[0]);
+        let before = end.reader.clone();
+        let answer = end.read(&frames[0]);
+        if look == looks_refused(1) {
+            assert_eq!(answer.class, Class::Refused(1));
+            assert_eq!(end.reader, before);
+            // Before the areas and the frame are looked at.
+            assert_eq!(end.read_lent(&frames[0][..31], SHORT_AREAS[1]).class, Class::Refused(1));
+            return false;
+        }
+        assert_eq!((look, answer.class), (looks_read(0), Class::Read));
+        true
+    };
+    for (held, span, valid) in [
+        (0, 0, true),
+        (0, 1, false),
+        (0, 2, false),
+        (0, u64::MAX, false),
+        (1, 0, false),
+        (1, 1, true),
+        (1, 2, false),
+        (11, 0, false),
+        (11, 1, true),
+        (11, 10, true),
+        (11, 11, true),
+        (11, 12, false),
+        (11, 256 + 1, false),
+        (11, 65_536 + 1, false),
+        (11, (1 << 32) + 1, false),
+        (11, u64::MAX, false),
+        (63, 63, true),
+        (63, 64, false),
+        (64, 1, false),
+        (64, 64, false),
+    ] {
+        assert_eq!(fits(held, span), valid, "held {held}, span {span}");
+    }
+}
+
+#[test]
+fn every_numbered_lane_has_its_span_judged() {
+    let mut setting = worked_setting();
+    setting.channels.push(Channel { virtual_channel: 4, service: 0, count_length: 1, ocf: false });
+    setting.lanes.push(Lane { channel: 0, map: 6, kind: Kind::Packet, longest: 64, upid: 0 });
+    setting.lanes.push(Lane { channel: 1, map: 5, kind: Kind::Access, longest: 64, upid: 5 });
+    let frame = frames_of(&worked_setting(), &packet(7)).remove(0);
+    for lane in 0..3 {
+        for (held, span) in [(0, 1), (2, 0), (2, 3)] {
+            let mut end = End::fresh(&setting);
+            end.hold(lane, &vec![0; held], span);
+            assert_eq!(end.look(&frame), looks_refused(1));
+            assert_eq!(end.read(&frame).class, Class::Refused(1));
+        }
+    }
+}
+
+#[test]
+fn spans_past_the_numbered_lanes_are_nobodys() {
+    // Slot 1 of a setting of one lane: more frames than octets, none while some are held, one while none are.
+    let frame = "C002A06A001F01000000000001C0000003A1A2A3A40001C001000BB1B2B3B4B5";
+    for (held, span) in [("1", "2"), ("8193", "0"), ("0", "1"), ("0", "18446744073709551615")] {
+        let text =
+            printed(&format!("{}begin\nhold 1 {held} {span}\nread {frame}\n", calls::setting_lines(&worked_setting())));
+        let state = format!("held 11 {held} 0 0 0 0 0 0 span 1 {span} 0 0 0 0 0 0 setting ");
+        assert!(text.contains("6 read read units 1 ") && text.contains(&state), "{text}");
+    }
+}
+
+#[test]
+fn the_record_area_has_14_400_octets() {
+    let frame = frames_of(&worked_setting(), &case_2_batch()).remove(0);
+    let mut end = End::fresh(&worked_setting());
+    for (records, refused) in [(0, true), (9_600, true), (14_399, true), (14_400, false)] {
+        let answer = end.read_lent(&frame, [UNIT_AREA, records, HELD_AREA]);
+        assert_eq!(answer.class == Class::Refused(2), refused, "{records} octets");
+    }
+    assert_eq!(end.records[..24], record(0, 10, 0, 1));
+}
+
+#[test]
+fn a_unit_over_frames_with_others_between_them() {
+    // Lane 0 has a packet of 64 octets: 21 in each of three frames, and one more. Lane 1 is its neighbor, on the same channel.
+    let mut setting = worked_setting();
+    setting.lanes.push(Lane { channel: 0, map: 6, kind: Kind::Packet, longest: 64, upid: 0 });
+    let long = packet(64);
+    let frames = frames_of(&worked_setting(), &long);
+    assert_eq!(frames.len(), 4);
+    let of_map = |frame: &[u8], octet: u8, count: u8| {
+        let mut frame = with_count(frame, count);
+        frame[3] = octet;
+        frame
+    };
+    let neighbor = frames_of(&worked_setting(), &case_2_batch());
+    let mut end = End::fresh(&setting);
+    let spans = |end: &End| [end.reader.span[0], end.reader.span[1]];
+    end.reads(&frames[0], 0);
+    assert_eq!(spans(&end), [1, 0]);
+    // The neighbor's frame: a packet of its own of one frame, and one that it holds.
+    end.read(&of_map(&neighbor[0], 0x6C, 1));
+    assert_eq!(spans(&end), [1, 1]);
+    assert_eq!(end.records[..24], [&[1, 3, 6, 0][..], &record(0, 10, 1, 1)[4..]].concat());
+    end.repeats(&of_map(&neighbor[0], 0x6C, 1), 0);
+    end.reads(&with_count(&frames[1], 2), 0);
+    assert_eq!(spans(&end), [2, 1]);
+    // Repeats, of the frame itself and by its count with the neighbor's map; then a frame of a map of no lane.
+    end.repeats(&with_count(&frames[1], 2), 0);
+    end.repeats(&of_map(&neighbor[1], 0x6C, 2), 0);
+    assert_eq!(end.read(&of_map(&frames[2], 0x70, 3)).class, Class::Counted);
+    // An idle frame, and one that is refused: the version.
+    let mut idle = with_count(&frames[2], 4);
+    idle[2..4].copy_from_slice(&[0xA7, 0xEA]);
+    assert_eq!(end.read(&idle).class, Class::Idle);
+    let mut refused = with_count(&frames[2], 4);
+    refused[0] = 0xD0;
+    assert_eq!(end.read(&refused).class, Class::Refused(5));
+    assert_eq!(spans(&end), [2, 1]);
+    end.reads(&with_count(&frames[2], 4), 0);
+    assert_eq!(spans(&end), [3, 1]);
+    end.read(&of_map(&neighbor[1], 0x6C, 5));
+    assert_eq!(spans(&end), [3, 0]);
+    assert_eq!(end.records[..24], [&[1, 3, 6, 0][..], &record(0, 18, 5, 2)[4..]].concat());
+    assert_eq!(end.reads(&with_count(&frames[3], 6), 0).units, 1);
+    assert_eq!(end.units[..64], long);
+    assert_eq!(end.records[..24], record(0, 64, 6, 4));
+    assert_eq!(spans(&end), [0, 0]);
+}
+
+#[test]
+fn a_gap_clears_the_spans_of_all_lanes_of_its_channel() {
+    let mut setting = worked_setting();
+    setting.channels.push(Channel { virtual_channel: 3, service: 1, count_length: 1, ocf: false });
+    setting.lanes.push(Lane { channel: 0, map: 6, kind: Kind::Access, longest: 64, upid: 5 });
+    setting.lanes.push(Lane { channel: 1, map: 5, kind: Kind::Packet, longest: 64, upid: 0 });
+    setting.lanes.push(Lane { channel: 0, map: 7, kind: Kind::Packet, longest: 64, upid: 0 });
+    let holding = || {
+        let mut end = End::fresh(&setting);
+        end.reader.expected[0] = Expected { known: true, count: 8 };
+        end.hold(0, &packet(60)[..30], 2);
+        end.hold(1, &[0x77; 40], 3);
+        end.hold(2, &packet(60)[..50], 5);
+        end.hold(3, &packet(60)[..7], 7);
+        end
+    };
+    // Count 9: one is missing. Lane 0's frame holds what begins in it; one of no lane holds nothing.
+    let frame = with_count(&frames_of(&worked_setting(), &case_2_batch())[0], 9);
+    let mut end = holding();
+    let answer = end.reads(&frame, 1);
+    assert_eq!((answer.dropped, answer.units), (30 + 40 + 7, 1));
+    assert_eq!(end.records[..24], record(0, 10, 9, 1));
+    assert_eq!((&end.reader.held[..], &end.reader.span[..]), (&[11, 0, 50, 0][..], &[1, 0, 5, 0][..]));
+    let mut end = holding();
+    let mut counted = frame.clone();
+    counted[3] = 0x70;
+    assert_eq!(end.read(&counted).dropped, 30 + 40 + 7);
+    assert_eq!((&end.reader.held[..], &end.reader.span[..]), (&[0, 0, 50, 0][..], &[0, 0, 5, 0][..]));
+    // Without a gap the others' stay, and lane 0's packet, which pointer 0 fails, is dropped for the one that begins.
+    let mut end = holding();
+    assert_eq!(end.reads(&with_count(&frame, 8), 0).dropped, 30);
+    assert_eq!((&end.reader.held[..], &end.reader.span[..]), (&[11, 40, 50, 7][..], &[1, 3, 5, 7][..]));
+}
+
+#[test]
+fn one_call_finishes_a_unit_and_holds_the_next() {
+    // Two packets of 30 octets and one of 40: 21 + 9, 12 + 18, 3 + 21 + 16.
+    let batch = [packet(30), packet(30), packet(40)].concat();
+    let frames = frames_of(&worked_setting(), &batch);
+    let mut end = End::fresh(&worked_setting());
+    let course: Vec<(u64, usize, u64)> =
+        frames.iter().map(|frame| (end.read(frame).units, end.reader.held[0], end.reader.span[0])).collect();
+    assert_eq!(course, [(0, 21, 1), (1, 12, 1), (1, 3, 1), (0, 24, 2), (1, 0, 0)]);
+    assert_eq!(end.records[..24], record(0, 40, 4, 3));
+    // The second frame again, at the end of a packet, with two of its own behind it and a third that is held.
+    let mut end = End::fresh(&worked_setting());
+    end.hold(0, &packet(8)[..6], 6);
+    let zone = [&packet(8)[6..], &packet(7), &packet(9), &packet(20)[..3]].concat();
+    assert_eq!(end.reads(&lane_frame(4, 2, &zone), 0).units, 3);
+    assert_eq!(end.records[..72], [record(0, 8, 4, 7), record(8, 7, 4, 1), record(15, 9, 4, 1)].concat());
+    assert_eq!((end.reader.held[0], end.reader.span[0]), (3, 1));
+}
+
+#[test]
+fn what_becomes_of_a_packets_span() {
+    // Held octets, their span, pointer, the zone; then the spans of the units, octets held, and the span kept.
+    let fate = |held: &[u8], span: u64, pointer: u16, zone: &[u8]| {
+        let mut end = End::fresh(&worked_setting());
+        end.hold(0, held, span);
+        let mut zone = zone.to_vec();
+        zone.resize(21, 0xE0);
+        let units = end.reads(&lane_frame(0, pointer, &zone), 0).units as usize;
+        let spans: Vec<u8> = end.records[..units * RECORD].chunks(RECORD).map(|record| record[23]).collect();
+        (spans, end.reader.held[0], end.reader.span[0])
+    };
+    let idle = [&[0x07, 0xFF, 0, 0, 0, 23][..], &[0; 24]].concat();
+    let whole = packet(10);
+    // It ends, goes on, or ends with the zone.
+    assert_eq!(fate(&whole[..3], 2, 7, &whole[3..]), (vec![3], 0, 0));
+    assert_eq!(fate(&packet(30)[..3], 3, 0xFFFF, &packet(30)[3..24]), (vec![], 24, 4));
+    assert_eq!(fate(&packet(24)[..3], 3, 0xFFFF, &packet(24)[3..]), (vec![4], 0, 0));
+    // An idle one goes on, and ends; then a packet begins.
+    assert_eq!(fate(&idle[..3], 1, 0xFFFF, &idle[3..24]), (vec![], 24, 2));
+    assert_eq!(fate(&idle[..24], 2, 6, &idle[24..]), (vec![], 0, 0));
+    assert_eq!(fate(&idle[..15], 2, 15, &[&idle[15..], &[0; 6]].concat()), (vec![], 6, 1));
+    // It fails: by the pointer, its length, its first octet. What begins after it has a span of its own.
+    assert_eq!(fate(&whole[..3], 3, 0, &[]), (vec![], 0, 0));
+    assert_eq!(fate(&whole[..3], 3, 0, &packet(30)), (vec![], 21, 1));
+    assert_eq!(fate(&whole[..3], 3, 8, &[&whole[3..], &[0], &whole].concat()), (vec![1], 0, 0));
+    assert_eq!(fate(&packet(65)[..3], 3, 0xFFFF, &packet(65)[3..24]), (vec![], 0, 0));
+    assert_eq!(fate(&[0x20; 4], 4, 18, &[&[0; 18][..], &whole[..3]].concat()), (vec![], 3, 1));
+    // Nothing is held, and the lead is dropped.
+    assert_eq!(fate(&[], 0, 0xFFFF, &whole), (vec![], 0, 0));
+    assert_eq!(fate(&[], 0, 8, &[&[1; 8][..], &whole, &whole[..3]].concat()), (vec![1], 3, 1));
+}
+
+#[test]
+fn what_becomes_of_an_access_units_span() {
+    // Octets held and their span, rule, pointer; then the spans of the units, dropped, octets held, the span kept.
+    let fate = |held: usize, span: u64, rule: u8, pointer: u16| {
+        let mut end = End::fresh(&access_setting(64));
+        end.hold(0, &vec![0x77; held], span);
+        let mut frame = lane_frame(0, pointer, &[0x78; 21]);
+        frame[8] = rule << 5 | 5;
+        let answer = end.reads(&frame, 0);
+        let records = &end.records[..answer.units as usize * RECORD];
+        let spans: Vec<u8> = records.chunks(RECORD).map(|record| record[23]).collect();
+        (spans, answer.dropped, end.reader.held[0], end.reader.span[0])
+    };
+    // Rule 001 over held octets: they are dropped, and the unit that begins has a span of its own.
+    assert_eq!(fate(40, 3, 1, 4), (vec![1], 40, 0, 0));
+    assert_eq!(fate(40, 3, 1, 0xFFFF), (vec![], 40, 21, 1));
+    // Rule 010 ends it, goes on, or makes it too long, with or without its end.
+    assert_eq!(fate(40, 3, 2, 4), (vec![4], 0, 0, 0));
+    assert_eq!(fate(40, 3, 2, 0xFFFF), (vec![], 0, 61, 4));
+    assert_eq!(fate(43, 3, 2, 20), (vec![4], 0, 0, 0));
+    assert_eq!(fate(43, 3, 2, 0xFFFF), (vec![], 64, 0, 0));
+    assert_eq!(fate(44, 3, 2, 20), (vec![], 65, 0, 0));
+    // And nothing is held.
+    assert_eq!(fate(0, 0, 2, 4), (vec![], 5, 0, 0));
+    assert_eq!(fate(0, 0, 2, 0xFFFF), (vec![], 21, 0, 0));
+    assert_eq!(fate(0, 0, 1, 0xFFFF), (vec![], 0, 21, 1));
+}
+
+#[test]
+fn counts_of_seven_octets_are_shown_whole() {
+    let setting = seven_octets();
+    // Below 2^32 and above it, across both ends, and two with the same low 32 bits.
+    for count in [5, 0xFFFF_FFFE, 0xFFFF_FFFF, 0x1_0000_0005, 0x0012_3456_789A_BCDE, 0x00FF_FFFF_FFFF_FFFF] {
+        let mut writer = Writer::fresh(&setting).unwrap();
+        writer.counts[0] = count;
+        let mut end = End::fresh(&setting);
+        let mut frame = vec![0; 38];
+        for (length, count, span) in [(10, count, 1), (18, (count + 1) % (1 << 56), 2)] {
+            let lent = Lent { lane: 0, batch: &case_2_batch(), insert: &[], ocf: &[] };
+            writer.write(&lent, &mut frame).unwrap();
+            assert_eq!(end.read(&frame).units, 1);
+            assert_eq!(end.records[..24], record(0, length, count, span));
+        }
+    }
+}
+
+#[test]
+fn a_span_of_as_many_frames_as_octets() {
+    // Z is 1, and so each frame carries one octet: a unit of 64 has a span of 64.
+    let mut setting = access_setting(64);
+    setting.insert = 20;
+    let mut writer = Writer::fresh(&setting).unwrap();
+    let mut end = End::fresh(&setting);
+    let mut frame = vec![0; 32];
+    for number in 1..=64 {
+        let lent = Lent { lane: 0, batch: &[0x77; 64], insert: &[0; 20], ocf: &[] };
+        writer.write(&lent, &mut frame).unwrap();
+        let units = end.read(&frame).units;
+        let so_far = if number < 64 { number } else { 0 };
+        assert_eq!((units, end.reader.span[0], end.reader.held[0]), (number / 64, so_far, so_far as usize));
+    }
+    assert_eq!(end.records[..24], record(0, 64, 63, 64));
+}
+
 #[test]
 fn published_frame_checks() {
     assert_eq!(frame_check(b"123456789"), 0x29B1);
@@ -721,8 +1033,7 @@ fn a_held_packet_of_each_fate() {
     let idle = [&[0x07, 0xFF, 0, 0, 0, 3][..], &[0; 4]].concat();
     let fate = |held: &[u8], pointer: u16, zone_begin: &[u8]| {
         let mut end = End::fresh(&worked_setting());
-        end.reader.held[0] = held.len();
-        end.held[..held.len()].copy_from_slice(held);
+        end.hold(0, held, 1);
         let mut frame = octets("C0 02 A0 6A 00 1F 01 00 00");
         frame.extend(pointer.to_be_bytes());
         frame.extend(zone_begin);
@@ -822,7 +1133,31 @@ fn a_script_of_calls() {
     assert_eq!(said, wanted);
     assert!(printed.contains(&format!("frame {frame}\n")));
     assert!(printed.contains("writer counts 1 0 0 0 0 0 0 0 next 1 0 0 0 0 0 0 0 setting"));
-    assert!(printed.contains("reader expects 1:1 0:0 0:0 0:0 0:0 0:0 0:0 0:0 held 0 0 0 0 0 0 0 0 setting"));
+    let zeros = "0 0 0 0 0 0 0 0";
+    let state = format!("reader expects 1:1 0:0 0:0 0:0 0:0 0:0 0:0 0:0 held {zeros} span {zeros} setting");
+    assert!(printed.contains(&state));
+}
+
+#[test]
+fn a_script_says_spans() {
+    let state = |lines: &str| {
+        let text = printed(&format!("{}begin\n{lines}look -\n", calls::setting_lines(&worked_setting())));
+        let (_, state) = text.rsplit_once(" held ").unwrap();
+        let (state, _) = state.split_once(" setting").unwrap();
+        state.to_string()
+    };
+    assert_eq!(state(""), "0 0 0 0 0 0 0 0 span 0 0 0 0 0 0 0 0");
+    // Where none is said it is 1 while octets are held and 0 while none are.
+    assert_eq!(state("held 0 0001C0\nhold 2 9\n"), "3 0 9 0 0 0 0 0 span 1 0 1 0 0 0 0 0");
+    assert_eq!(state("held 0 0001C0 2\nhold 2 9 7\n"), "3 0 9 0 0 0 0 0 span 2 0 7 0 0 0 0 0");
+    assert_eq!(state("held 0 0001C0 2\nheld 0 -\nhold 7 9 7\nhold 7 0\n"), "0 0 0 0 0 0 0 0 span 0 0 0 0 0 0 0 0");
+    assert_eq!(
+        state("held 0 - 5\nhold 1 0 18446744073709551615\nhold 7 3 0\nhold 8 1 1\n"),
+        "0 0 0 0 0 0 0 3 span 5 18446744073709551615 0 0 0 0 0 0"
+    );
+    for wrong in ["held 0 - 1 1\n", "held 0 - 0A\n", "hold 0 1 1 1\n"] {
+        assert!(calls::run(wrong.as_bytes(), &mut Vec::new()).is_err());
+    }
 }
 
 #[test]
@@ -854,13 +1189,20 @@ fn a_script_as_requests() {
     assert_eq!(after("setting 32 42 0 0 0 1 1\n# none\n\nlane 9 0 0 0 0 0\n"), blank);
     assert_eq!(after("count 7 258\n"), [row(&[4, 8, 64 * 9 + 40]), vec![0, 0, 0, 0, 0, 0, 1, 2]].concat());
     assert_eq!(after("next 0 1\ncount 8 1\n"), [row(&[4, 8, 64 * 10 + 40]), vec![0, 0, 0, 0, 0, 0, 0, 1]].concat());
-    assert_eq!(after("hold 1 9\n"), [row(&[4, 8, 64 * 28 + 40]), vec![0, 0, 0, 0, 0, 0, 0, 9]].concat());
-    let held = [row(&[2, 2, 8_192]), vec![1, 2], row(&[4, 8, 64 * 28 + 40]), vec![0, 0, 0, 0, 0, 0, 0, 2]].concat();
-    assert_eq!(after("held 1 0102\n"), held);
-    assert_eq!(after("read 0A 1\n"), [row(&[1, 1, 1, 9_600, 65_536]), vec![10]].concat());
+    let laid = |held: u64, span: u64| {
+        [row(&[4, 16, 64 * 28 + 40]), held.to_be_bytes().to_vec(), span.to_be_bytes().to_vec()].concat()
+    };
+    assert_eq!(after("hold 1 9\n"), laid(9, 1));
+    assert_eq!(after("hold 1 9 258\n"), laid(9, 258));
+    assert_eq!(after("hold 1 0\nhold 8 1 1\n"), laid(0, 0));
+    let octets = [row(&[2, 2, 8_192]), vec![1, 2]].concat();
+    assert_eq!(after("held 1 0102\n"), [octets.clone(), laid(2, 1)].concat());
+    assert_eq!(after("held 1 0102 2\n"), [octets, laid(2, 2)].concat());
+    assert_eq!(after("held 1 - 7\n"), [row(&[2, 0, 8_192]), laid(0, 7)].concat());
+    assert_eq!(after("read 0A 1\n"), [row(&[1, 1, 1, 14_400, 65_536]), vec![10]].concat());
     assert_eq!(after("look 0A0B\n"), [row(&[9, 2]), vec![10, 11]].concat());
     assert_eq!(after("look -\n"), row(&[9, 0]));
-    assert_eq!(after("keep 32\n"), row(&[0, 0, 12_288, 9_600, 65_536, 32]));
+    assert_eq!(after("keep 32\n"), row(&[0, 0, 12_288, 14_400, 65_536, 32]));
     let write = [row(&[7, 274, 3, 1, 0, 40]), vec![0xAA], vec![0; 271], vec![1, 2]].concat();
     assert_eq!(after("write 3 0102 AA - 40\n"), write);
     assert_eq!(after("begin\n").len(), 2 * (64 + 17 * 64 + 56 + 8 * 32 + 8 * 40));
@@ -884,7 +1226,7 @@ fn answers_as_text() {
     desk[..8].copy_from_slice(&1_u64.to_be_bytes());
     let mut taken = desk.clone();
     taken[..16].copy_from_slice(&[0, 0, 0, 0, 0, 0, 0, 3, 0, 0, 0, 0, 0, 0, 0, 1]);
-    taken.extend(vec![0x55; 65_552 + 12_304 + 9_632]);
+    taken.extend(vec![0x55; 65_552 + 12_304 + 14_432]);
     let answers = [desk.clone(), desk.clone(), desk, taken].concat();
     assert_eq!(text(script, &answers).unwrap(), printed(script));
     for place in
@@ -901,7 +1243,7 @@ fn answers_to_reads_as_text() {
     let text = |row_0: [u64; 8]| {
         let mut answer: Vec<u8> = row_0.iter().flat_map(|number| number.to_be_bytes()).collect();
         answer.resize(2_240, 0);
-        answer.extend(vec![0x55; 4_200 + 65_552 + 12_304 + 9_632]);
+        answer.extend(vec![0x55; 4_200 + 65_552 + 12_304 + 14_432]);
         let mut out = Vec::new();
         stream::answers("read 00\n".as_bytes(), &answer[..], &mut out)?;
         let text = String::from_utf8(out).unwrap();
@@ -935,7 +1277,8 @@ fn answers_to_looks_as_text() {
         let mut out = Vec::new();
         stream::answers("look 00\n".as_bytes(), &desk[..], &mut out).map(|()| String::from_utf8(out).unwrap())
     };
-    let state = "reader expects 0:0 0:0 0:0 0:0 0:0 0:0 0:0 0:0 held 0 0 0 0 0 0 0 0 setting 0\n";
+    let zeros = "0 0 0 0 0 0 0 0";
+    let state = format!("reader expects 0:0 0:0 0:0 0:0 0:0 0:0 0:0 0:0 held {zeros} span {zeros} setting 0\n");
     let said = |line: &str| Ok(format!("1 look {line}\n{state}"));
     assert_eq!(text([3, 1, 0, 0, 0, 0, 0, 0], None), said("refused 1 missing 0 channel - lane -"));
     assert_eq!(text([3, 1, 0, 0, 0, 0, 0, 0], None), Ok(printed("look 00\n")));
@@ -950,12 +1293,16 @@ fn answers_to_looks_as_text() {
     assert!(text([2, 1, 0, 0, 0, 0, 0, 0], None).is_err());
     assert!(text([4, 1, 1, 0, 0, 0, 0, 0], None).is_err());
     assert!(text([5, 0, 0, 0, 0, 0, 0, 0], None).is_err());
-    // A setting that changed, of the writer and of the reader; an expected count, and octets held.
-    for place in [64 + 7, 18 * 64 + 7] {
+    // A setting that changed, of the writer and of the reader; a span of the writer, which has none; numbers behind the span
+    // and behind a count.
+    for place in [64 + 7, 18 * 64 + 7, 10 * 64 + 55, 17 * 64 + 55, 27 * 64 + 63, 34 * 64 + 63, 19 * 64 + 55] {
         assert!(text([0; 8], Some(place)).is_err());
     }
-    for place in [19 * 64 + 39, 19 * 64 + 47, 27 * 64 + 47] {
-        assert_ne!(text([0; 8], Some(place)), text([0; 8], None));
+    // An expected count, octets held, and a span.
+    for place in [19 * 64 + 39, 19 * 64 + 47, 27 * 64 + 47, 27 * 64 + 55, 34 * 64 + 48] {
+        let changed = text([0; 8], Some(place));
+        assert!(changed.is_ok());
+        assert_ne!(changed, text([0; 8], None));
     }
 }
 
@@ -1004,6 +1351,31 @@ fn demand_3_in_some_runs() {
         assert!(printed.contains(right), "{right}");
         assert!(demand3::check(5, 30, &printed.replacen(right, wrong, 1)).is_err(), "{wrong}");
     }
+}
+
+#[test]
+fn demand_3_with_another_count_or_span() {
+    let printed = printed(&demand3::script(5, 30));
+    assert!(demand3::check(5, 30, &printed).is_ok());
+    // Digits of a record's count, of its high half and of its low one, and of its span.
+    let mut high = 0;
+    for (place, line) in printed.match_indices("\nrecords 0") {
+        let record = place + line.len() - 1;
+        let digits = &printed[record..record + 48];
+        if digits[24..32] != *"00000000" {
+            high += 1;
+        }
+        if high > 3 {
+            break;
+        }
+        for digit in [25, 31, 39, 40, 47] {
+            let other = if &digits[digit..digit + 1] == "1" { "2" } else { "1" };
+            let mut changed = printed.clone();
+            changed.replace_range(record + digit..record + digit + 1, other);
+            assert!(demand3::check(5, 30, &changed).unwrap_err().contains("handed out"), "{digits}, digit {digit}");
+        }
+    }
+    assert!(high > 3);
 }
 
 #[test]
