@@ -68,7 +68,9 @@ module _ (longest z : ℕ) (zp : 0 < z) (j : ℕ) (carried : ℕ → ℕ) (o : �
       → yield (joins finished live xs) ≡ cond live (becomes (unitFate longest finished (length ys)) (begun (now 0) ys)) (yields [] noUnit)
   so-far finished xs ys some e =
       split 1 o
-      (λ h. follows h finished live xs some ∙ ap (λ (l : List ℕ). cond live (becomes (unitFate longest finished (length l)) (begun (now 0) l)) (yields [] noUnit)) e)
+      (λ h.
+      follows h finished live xs some
+      ∙ ap (λ (l : List ℕ). cond live (becomes (unitFate longest finished (length l)) (begun (now 0) l)) (yields [] noUnit)) e)
       (λ h.
       let z₀ : o ≡ 0 = omega arith in
       let n : xs ≡ ys = sym (ap (λ (i : ℕ). take i b ++ xs) z₀) ∙ e in

@@ -40,7 +40,8 @@ ends-on from start stop g h (u ∷ us) a = by (ends-on from start stop g h us (a
         (λ k.
         split (a + length u) from
         (λ l.
-        ap₂ _++_ (first-before from start any itself u us a l) (first-before start stop any itself u us a k) ∙ ih ∙ sym (first-before from stop any itself u us a l))
+        ap₂ _++_ (first-before from start any itself u us a l) (first-before start stop any itself u us a k) ∙ ih
+        ∙ sym (first-before from stop any itself u us a l))
         (λ l.
         ap₂ _++_ (first-within from start any itself u us a l k) (first-before start stop any itself u us a k)
         ∙ ap (λ (vs : List (List ℕ)). u ∷ vs) ih ∙ sym (first-within from stop any itself u us a l (omega arith))))
@@ -50,7 +51,9 @@ ends-on from start stop g h (u ∷ us) a = by (ends-on from start stop g h us (a
         ap₂ _++_ (first-after from start any itself u us a k) (first-within start stop any itself u us a k l)
         ∙ ap (λ (vs : List (List ℕ)). u ∷ (vs ++ endsIn start stop (a + length u) us)) (sym (ends-later from start any itself us (a + length u) k))
         ∙ ap (λ (vs : List (List ℕ)). u ∷ vs) ih ∙ sym (first-within from stop any itself u us a (omega arith) l))
-        (λ l. ap₂ _++_ (first-after from start any itself u us a k) (first-after start stop any itself u us a l) ∙ sym (first-after from stop any itself u us a l)))
+        (λ l.
+        ap₂ _++_ (first-after from start any itself u us a k) (first-after start stop any itself u us a l)
+        ∙ sym (first-after from stop any itself u us a l)))
 
 -- None in a frame without octets, and all in one with all octets.
 pub ends-nowhere : (n : ℕ) (us : List (List ℕ)) (a : ℕ) → endsIn n n a us ≡ []

@@ -27,7 +27,7 @@ use Rattle.rules.proofs.Measures.{measure-none, measure-fill}
 use Rattle.rules.proofs.Lanes.{walk-front}
 use Rattle.link.specs.Due.{ending}
 use Rattle.link.proofs.Whole.{Whole, Wholes}
-use Rattle.link.proofs.Spans.{Filled, Yield, yields, yield, becomes, spanned, begun, onward, onward-new, onward-old, begun-none, begun-whole, begun-now, begun-on, heldFrom, either, held-past, held-here, first-before, first-within, first-after}
+use Rattle.link.proofs.Spans.{Filled, Yield, yields, yield, becomes, spanned, begun, onward, onward-new, onward-old, begun-whole, begun-now, begun-on, heldFrom, none-yet, held-past, held-here, first-before, first-within, first-after}
 
 pub wholes-filled : (longest : ℕ) (us : List (List ℕ)) → Wholes longest us → Filled us
 wholes-filled longest [] w = tt
@@ -374,7 +374,8 @@ module _ (longest z : ℕ) (zp : 0 < z) (j : ℕ) (carried : ℕ → ℕ) (start
           ∙ drop-append-add u (joined us) (o - length u) in
           let n : o - length u + z ≡ o + z - length u = omega arith in
           ap₂ (λ (x : DataUnit) (q : Place). yield (packetLane longest x q (zoneFrom o (u ∷ us)))) (held-past j carried a o u us h) (ap (inside z) p)
-          ∙ ap (λ (xs : List ℕ). yield (packetLane longest (heldFrom j carried (a + length u) (o - length u) us) (inside z (startFrom us (o - length u) - (o - length u)))
+          ∙ ap (λ (xs : List ℕ).
+          yield (packetLane longest (heldFrom j carried (a + length u) (o - length u) us) (inside z (startFrom us (o - length u) - (o - length u)))
           (take z xs ++ filler (z - length (take z xs))))) d
           ∙ ih
           ∙ ap (λ (i : ℕ). yields (ends (a + length u) us) (held (a + length u) i us)) n
@@ -387,7 +388,7 @@ module _ (longest z : ℕ) (zp : 0 < z) (j : ℕ) (carried : ℕ → ℕ) (start
           (held a (o + z) (u ∷ us))
       here zero e h =
           ap₂ (λ (x : DataUnit) (n : ℕ). yield (packetLane longest x (inside z n) (zoneFrom 0 (u ∷ us))))
-          (held-here j carried a 0 u us h ∙ ap (λ (x : DataUnit). cond (j ≤? a) x noUnit) (begun-none (carried a)) ∙ either (j ≤? a) noUnit) (ap (λ (n : ℕ). n - 0) (start-zero (u ∷ us)))
+          (held-here j carried a 0 u us h ∙ none-yet j carried a) (ap (λ (n : ℕ). n - 0) (start-zero (u ∷ us)))
           ∙ starts one u us a 0 w e refl
       here (suc o) e h =
           let p : startFrom (u ∷ us) (suc o) - suc o ≡ length u - suc o = ap (λ (n : ℕ). n - suc o)

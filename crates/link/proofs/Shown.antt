@@ -47,7 +47,8 @@ unharmed-out = (
 -- After 47 events of the example run lanes 0 and 1 stand between batches, and no more of their channel is gone.
 pub later-out :
     (octetsIn (handedOut 0 (readsOf paired held calls)) ≡ octetsIn (due 0 [] (earlier paired (take 47 calls) (drop 47 calls))) ++ (d₀ ∷ []))
-    × (octetsIn (handedOut 1 (readsOf paired held calls)) ≡ octetsIn (due 1 [] (earlier paired (take 47 calls) (drop 47 calls))) ++ (packet 10 0xF1 ∷ packet 11 0xF2 ∷ []))
+    × (octetsIn (handedOut 1 (readsOf paired held calls))
+    ≡ octetsIn (due 1 [] (earlier paired (take 47 calls) (drop 47 calls))) ++ (packet 10 0xF1 ∷ packet 11 0xF2 ∷ []))
 unfolding all
 later-out = (
   no-more-gone paired held (take 47 calls) (drop 47 calls) meets near 0 refl refl,
@@ -56,6 +57,7 @@ later-out = (
 
 -- With the 48th a frame is written whose copies come later: it counts as kept among the earlier ones, and would be gone without the later events.
 pub late-kept :
-    octetsIn (due 1 [] (earlier paired (take 48 calls) (drop 48 calls))) ≡ octetsIn (due 1 [] (framesOf paired (take 48 calls))) ++ (packet 10 0xF1 ∷ packet 11 0xF2 ∷ [])
+    octetsIn (due 1 [] (earlier paired (take 48 calls) (drop 48 calls)))
+    ≡ octetsIn (due 1 [] (framesOf paired (take 48 calls))) ++ (packet 10 0xF1 ∷ packet 11 0xF2 ∷ [])
 unfolding all
 late-kept = refl

@@ -1,6 +1,6 @@
 -- Units back to back, and a frame that has the octets of their batch from `start` up to `stop`: the units that end in it, and what is held of
 -- the one that goes on, where units that begin before octet j are lost. How many frames carry a unit goes by its first octet.
-use mathlib.Core.Path.{_≡_, refl, sym, ap, ap₂, _∙_}
+use mathlib.Core.Path.{_≡_, refl, ap, ap₂, _∙_}
 use mathlib.Core.Logic.{_⊎_}
 use Prim.Native.Nat.{ℕ, zero, suc, _+_, _-_, _*_, _≤_, _<_}
 use native.Mathlib.Nat.{mul-zero}
@@ -61,7 +61,7 @@ pub onward-old : (start : ℕ) (n : ℕ → ℕ) (a : ℕ) → a < start → onw
 unfolding onward
 onward-old start n a h = rw (lt-leb start a h)
 
-pub begun-none : (k : ℕ) → begun k [] ≡ noUnit
+begun-none : (k : ℕ) → begun k [] ≡ noUnit
 unfolding carries
 begun-none k = ap (λ (i : ℕ). record { octets = []; span = i }) (mul-zero k)
 
@@ -99,6 +99,10 @@ module _ (j : ℕ) (n : ℕ → ℕ) where
     unfolding heldFrom
     held-here h = rw (lt-leb _ _ h)
 
+  -- Of a unit that has no octet yet, nothing is held.
+  pub none-yet : (a : ℕ) → cond (j ≤? a) (begun (n a) []) noUnit ≡ noUnit
+  none-yet a = ap (λ (x : DataUnit). cond (j ≤? a) x noUnit) (begun-none (n a)) ∙ either (j ≤? a) noUnit
+
   -- Nothing is held where a batch begins, or where all that began is lost.
   pub held-none : (a o : ℕ) (us : List (List ℕ)) → a + o ≤ j → heldFrom j n a o us ≡ noUnit
   unfolding heldFrom
@@ -107,7 +111,7 @@ module _ (j : ℕ) (n : ℕ → ℕ) where
       split (length u) o (λ h. held-past a o u us h ∙ held-none (a + length u) (o - length u) us (omega arith)) (λ h. held-here a o u us h ∙ at o h e)
     where
       at : (o : ℕ) → o < length u → a + o ≤ j → cond (j ≤? a) (begun (n a) (take o u)) noUnit ≡ noUnit
-      at zero h e = ap (λ (x : DataUnit). cond (j ≤? a) x noUnit) (begun-none (n a)) ∙ either (j ≤? a) noUnit
+      at zero h e = none-yet a
       at (suc o) h e = let q : a < j = omega arith in rw (lt-leb _ _ q)
 
   -- Nothing is held after the end.

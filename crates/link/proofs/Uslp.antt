@@ -1,6 +1,6 @@
 -- The first pair of ends: a writer and a reader of USLP frames of one setting. What a call leaves is the write rule's, what a read leaves is the
 -- read rule's, and frame k of a batch starts with its octet k * Z.
-use mathlib.Core.Path.{_≡_, refl, sym, ap, ap₂, _∙_, subst}
+use mathlib.Core.Path.{_≡_, refl, sym, ap, _∙_, subst}
 use mathlib.Core.Logic.{_⊎_, inl, inr}
 use Prim.Native.Nat.{ℕ, _+_, _-_, _*_, _^_, _≤_, _<_}
 use native.Mathlib.Nat.{zero-mul, zero-lt-suc, lt-of-lt-of-le, pow-le-pow-right}

@@ -1,5 +1,5 @@
--- Tables that compute: cases 1 to 10, the listing, the errors that look right, frames sent twice, whole counts and spans, and edges of lanes, frames and calls. Both columns of
--- each come to the same.
+-- Tables that compute: cases 1 to 10, the listing, the errors that look right, frames sent twice, whole counts and spans, and edges of lanes, frames
+-- and calls. Both columns of each come to the same.
 use mathlib.Core.Path.{_≡_, refl}
 use Prim.Native.Nat.{ℕ, zero}
 use mathlib.Core.List.{[], _∷_, _++_, map}
