@@ -235,12 +235,14 @@ spans =
     ∷ spansOf (packetStep (take 3 packet₀) (At 7) (drop 3 packet₀ ++ take 14 packet₁))
     ∷ spansOf (packetStep (take 21 (packetOf 60)) Nowhere data21) ∷ [])
     ((2 ∷ 1 ∷ 0 ∷ []) ∷ (2 ∷ 1 ∷ []) ∷ (2 ∷ []) ∷ [])
-    -- What is dropped, and what was idle, leaves no span: pointer 0; an idle packet over two frames; 010 with nothing held; one above the longest.
+    -- What is dropped, and what was idle, leaves no span: pointer 0; idle packets over two frames, the second of which ends with the zone; 010 with nothing held;
+    -- a unit that reaches the longest.
     ∷ case 2
     (spansOf (packetStep (take 11 packet₁) (At 0) fill21)
     ∷ spansOf (packetStep (0x07 ∷ 0xFF ∷ 0xC0 ∷ []) (At 7) (0x00 ∷ 0x00 ∷ 0x03 ∷ replicate 4 0x77 ++ replicate 14 0xE0))
+    ∷ spansOf (packetStep (0x07 ∷ 0xFF ∷ 0xC0 ∷ []) Nowhere (0x00 ∷ 0x00 ∷ 0x11 ∷ replicate 18 0x77))
     ∷ spansOf (unitStep 0b010 [] (At 4) data21) ∷ spansOf (unitStep 0b010 data21 Nowhere data21) ∷ [])
-    ((0 ∷ []) ∷ (0 ∷ []) ∷ (0 ∷ []) ∷ (0 ∷ []) ∷ [])
+    ((0 ∷ []) ∷ (0 ∷ []) ∷ (0 ∷ []) ∷ (0 ∷ []) ∷ (0 ∷ []) ∷ [])
     -- 001 over held octets begins anew, finished and not; 010 follows them, finished and not.
     ∷ case 3
     (spansOf (unitStep 0b001 data21 (At 20) data21) ∷ spansOf (unitStep 0b001 data21 Nowhere data21) ∷ spansOf (unitStep 0b010 data21 (At 20) data21)
