@@ -6,7 +6,7 @@ ghost use lib.ListN.{getD, set};
 ghost use Rattle.rules.specs.Tests.{_≤?_, _<?_, _=?_, every};
 ghost use Rattle.rules.specs.Settings.{noChannel, noLane, noExpects, noSlot, expectOn, expecting, channel, lane, number};
 ghost use Rattle.rules.specs.Settings.{ocfOctets, checkOctets, zoneFor, zone, rangesOk, channelOk, channelsAgree, channelsOk};
-ghost use Rattle.rules.specs.Settings.{kindOk, laneOk, lanesDiffer, lanesOk, settingOk, readerOk, writerOk};
+ghost use Rattle.rules.specs.Settings.{kindOk, laneOk, lanesDiffer, lanesOk, settingOk, slotOk, readerOk, writerOk};
 ghost use Rattle.rules.specs.Settings.{freshReader, freshWriter, noSetting, noReader, noWriter};
 ghost use Rattle.rules.specs.Refusals.{channelAt, laneAt};
 use rules::Channel;
@@ -364,10 +364,27 @@ fn counts_ok(s: Setting, counts: [u64; 8]) -> bool
     true
 }
 
-// Whether each lane holds fewer octets than its longest unit.
-fn held_ok(s: Setting, slots: [Slot; 8]) -> bool
+// Whether what is kept of a lane is valid: fewer octets than its longest unit, no more frames that carry them than octets, and some where there
+// are octets.
+fn slot_ok(longest: usize, x: Slot) -> bool
+    ensures { λ b. ⌜ b ≡ slotOk longest x ⌝ }
+{
+    if longest <= x.held {
+        return false;
+    }
+    if x.held < x.span {
+        return false;
+    }
+    if x.span == 0 {
+        return x.held == 0;
+    }
+    true
+}
+
+// Whether each lane's slot is valid.
+fn slots_ok(s: Setting, slots: [Slot; 8]) -> bool
     requires { ⌜ s .numbered ≤ 8 ⌝ }
-    ensures { λ b. ⌜ b ≡ every (s .numbered) (λ l. (getD slots l noSlot) .held <? (lane s l) .longest) ⌝ }
+    ensures { λ b. ⌜ b ≡ every (s .numbered) (λ l. slotOk ((lane s l) .longest) (getD slots l noSlot)) ⌝ }
 {
     let lanes = s.lanes;
     let n = s.numbered;
@@ -375,7 +392,8 @@ fn held_ok(s: Setting, slots: [Slot; 8]) -> bool
     while i < n {
         let l = lanes[i];
         let x = slots[i];
-        if x.held < l.longest as usize {
+        let ok = slot_ok(l.longest as usize, x);
+        if ok {
             i += 1;
         } else {
             return false;
@@ -396,7 +414,7 @@ pub fn reader_ok(r: Reader) -> bool
         let below = counts_ok(s, counts);
         if below {
             let slots = r.slots;
-            return held_ok(s, slots);
+            return slots_ok(s, slots);
         }
     }
     false
@@ -520,7 +538,7 @@ fn no_expects() -> Expects
 pub fn no_slot() -> Slot
     ensures { λ r. ⌜ r ≡ noSlot ⌝ }
 {
-    Slot { held: 0 }
+    Slot { held: 0, span: 0 }
 }
 
 // What is kept of lane l.

@@ -14,8 +14,8 @@ setting-ok-requires c κs = search needs
 counts-ok-requires : tie.Need-counts-ok-requires
 counts-ok-requires c κs = let d = c .before .before in sym (d .before .setting-ok .ensures) ∙ d .if1 .taken
 
-held-ok-requires : tie.Need-held-ok-requires
-held-ok-requires c κs =
+slots-ok-requires : tie.Need-slots-ok-requires
+slots-ok-requires c κs =
     let d = c .before .before .before .before .before in
     good _ (sym (d .before .setting-ok .ensures) ∙ d .if1 .taken) .numbered
 
@@ -27,7 +27,7 @@ returns c =
     let ok = sym (d .before .setting-ok .ensures) ∙ d .if1 .taken in
     one-passes _ _ _ ok
     (one-passes _ _ _ (sym (n .counts-ok .ensures) ∙ c .before .before .if2 .taken)
-    (c .held-ok .ensures ∙ last-decides _))
+    (c .slots-ok .ensures ∙ last-decides _))
 
 returns-2 : tie.Need-returns-2
 unfolding readerOk
@@ -44,4 +44,4 @@ returns-3 c = one-fails _ 0 (sym (c .before .setting-ok .ensures) ∙ c .if1 .le
 pub reader-ok-spec : {M : Type 1} → statement M
 reader-ok-spec =
     tie.close
-    (tie.spec setting-ok-requires counts-ok-requires held-ok-requires returns returns-2 returns-3)
+    (tie.spec setting-ok-requires counts-ok-requires slots-ok-requires returns returns-2 returns-3)
