@@ -165,7 +165,7 @@ takes r c ok h =
       seven = g .setting .channels c h .seven;
       count = g .counts c h;
       few = g .setting .numbered;
-      held = λ l k. omega (arith, g .held l k, g .setting .lanes l k .kind .most);
+      held = λ l k. omega (arith, g .slots l k .below, g .setting .lanes l k .kind .most);
     }
 
 module _ (r : Reader) (c : ℕ) where
@@ -213,6 +213,6 @@ unfolding gap
 gap-small r c k g =
     let n = length-take (r .setting .numbered) (r .setting .lanes) in
     let few = g .setting .numbered in
-    let b = lost-small (its c) (lanesOf (r .setting)) (r .slots) (λ i h. omega (arith, g .held i (omega arith), g .setting .lanes i (omega arith) .kind .most))
-    in
+    let b = lost-small (its c) (lanesOf (r .setting)) (r .slots)
+    (λ i h. omega (arith, g .slots i (omega arith) .below, g .setting .lanes i (omega arith) .kind .most)) in
     gapBy-small _ c _ (omega arith)
