@@ -1,7 +1,7 @@
 -- Handing out, one after another: what two steps leave is what both at once would, and there is room for the second once there is for both.
 use mathlib.Core.Path.{_≡_, refl, sym, ap, ap₂, _∙_}
 use mathlib.Core.List.{List, [], _∷_, _++_, append-assoc, append-nil}
-use Prim.Native.Nat.{ℕ, _+_, _*_, _≤_}
+use Prim.Native.Nat.{ℕ, _+_, _*_, _≤_, _<_}
 use native.Mathlib.Nat.{zero-add, add-zero, add-assoc}
 use native.Mathlib.Omega.{arith}
 use lib.ListN.{length, take, drop, length-append}
@@ -9,7 +9,8 @@ use lib.Seq.{length-take-le}
 use Rattle.rules.specs.declared.Info.{Info}
 use Rattle.rules.specs.Octets.{be}
 use Rattle.rules.specs.Areas.{laid, joined, recordSize}
-use Rattle.rules.specs.Reading.{DataUnit, unitFrom, octetsOf, Made, nothing, hands, idles, both, recordOf, recordsFrom}
+use Rattle.rules.specs.Settings.{noSlot}
+use Rattle.rules.specs.Reading.{DataUnit, noUnit, carries, unitFrom, octetsOf, Made, nothing, hands, idles, both, recordOf, recordsFrom}
 use Rattle.rules.proofs.Octets.{length-be}
 use Rattle.rules.proofs.Areas.{laid-nil, laid-laid, length-laid}
 use Rattle.rules.proofs.Lanes.{octets-append, octets-both}
@@ -19,16 +20,17 @@ use Rattle.lanes.specs.Hands.{Room, Handed, Begun, Ready, Went}
 
 -- ---- records
 
-pub length-record : (i : Info) (start size : ℕ) → length (recordOf i start size) ≡ recordSize
+length-record : (i : Info) (start size span : ℕ) → length (recordOf i start size span) ≡ recordSize
 unfolding recordOf be
-length-record i start size = refl
+length-record i start size span = refl
 
 length-records : (i : Info) (start : ℕ) (us : List DataUnit) → length (recordsFrom i start us) ≡ recordSize * length us
 unfolding recordsFrom
 length-records i start [] = refl
 length-records i start (u ∷ us) =
-    length-append (recordOf i start (length (u .octets))) (recordsFrom i (start + length (u .octets)) us)
-    ∙ ap₂ _+_ (length-record i start (length (u .octets))) (length-records i (start + length (u .octets)) us) ∙ omega arith
+    let n = length (u .octets) in
+    length-append (recordOf i start n (u .span)) (recordsFrom i (start + n) us)
+    ∙ ap₂ _+_ (length-record i start n (u .span)) (length-records i (start + n) us) ∙ omega arith
 
 records-append : (i : Info) (start : ℕ) (es bs : List DataUnit)
     → recordsFrom i start (es ++ bs) ≡ recordsFrom i start es ++ recordsFrom i (start + length (joined (octetsOf es))) bs
@@ -37,33 +39,49 @@ records-append i start [] bs = ap (λ (n : ℕ). recordsFrom i n bs) (sym (add-z
 records-append i start (e ∷ es) bs =
     let x = e .octets in
     let xs = joined (octetsOf es) in
+    let first = recordOf i start (length x) (e .span) in
     let n : start + length x + length xs ≡ start + length (x ++ xs) = add-assoc start (length x) (length xs) ∙ ap (λ (k : ℕ). start + k)
     (sym (length-append x xs)) in
-    ap (λ (y : List ℕ). recordOf i start (length x) ++ y)
+    ap (λ (y : List ℕ). first ++ y)
     (records-append i (start + length x) es bs ∙ ap (λ (k : ℕ). recordsFrom i (start + length x) es ++ recordsFrom i k bs) n)
-    ∙ sym (append-assoc (recordOf i start (length x)) (recordsFrom i (start + length x) es) (recordsFrom i (start + length (x ++ xs)) bs))
+    ∙ sym (append-assoc first (recordsFrom i (start + length x) es) (recordsFrom i (start + length (x ++ xs)) bs))
 
--- Four octets and three numbers of four, laid one after another, are a record.
-pub record-laid : (area : List ℕ) (from : ℕ) (i : Info) (start size : ℕ) → from + recordSize ≤ length area
-    → laid (laid (laid (laid area from (i .lane ∷ i .vc ∷ i .map ∷ i .service ∷ [])) (from + 4) (be 4 start)) (from + 8) (be 4 size)) (from + 12)
-    (be 4 (i .count))
-    ≡ laid area from (recordOf i start size)
+-- So many octets are laid from a place on: a number that is laid where they end goes with them.
+number-laid : (area : List ℕ) (from : ℕ) (xs : List ℕ) (n k v : ℕ) {a b : List ℕ} → from + n ≤ length area → (a ≡ laid area from xs) × (length xs ≡ n)
+    → b ≡ laid a (from + n) (be k v) → (b ≡ laid area from (xs ++ be k v)) × (length (xs ++ be k v) ≡ n + k)
+number-laid area from xs n k v room (e, long) f = (
+  f ∙ ap₂ (λ (x : List ℕ) (j : ℕ). laid x (from + j) (be k v)) e (sym long) ∙ laid-laid area from xs (omega arith) (be k v),
+  length-append xs (be k v) ∙ ap₂ _+_ long (length-be k v),
+)
+
+-- Four octets and four numbers, laid one after another, are a record.
+pub record-laid : (area : List ℕ) (from : ℕ) (i : Info) (start size span : ℕ) {a b c d e : List ℕ} → from + recordSize ≤ length area
+    → a ≡ laid area from (i .lane ∷ i .vc ∷ i .map ∷ i .service ∷ []) → b ≡ laid a (from + 4) (be 4 start) → c ≡ laid b (from + 8) (be 4 size)
+    → d ≡ laid c (from + 12) (be 8 (i .count)) → e ≡ laid d (from + 20) (be 4 span) → e ≡ laid area from (recordOf i start size span)
 unfolding recordOf
-record-laid area from i start size room =
-    let whose : List ℕ = i .lane ∷ i .vc ∷ i .map ∷ i .service ∷ [] in
-    let a : length (be 4 start) ≡ 4 = length-be 4 start in
-    let b : length (be 4 size) ≡ 4 = length-be 4 size in
-    let e : length (whose ++ be 4 start) ≡ 8 = length-append whose (be 4 start) ∙ omega arith in
-    let f : length (whose ++ be 4 start ++ be 4 size) ≡ 12 = length-append (whose ++ be 4 start) (be 4 size) ∙ omega arith in
-    ap (λ (x : List ℕ). laid (laid x (from + 8) (be 4 size)) (from + 12) (be 4 (i .count))) (laid-laid area from whose (omega arith) (be 4 start))
-    ∙ ap (λ (n : ℕ). laid (laid (laid area from (whose ++ be 4 start)) (from + n) (be 4 size)) (from + 12) (be 4 (i .count))) (sym e)
-    ∙ ap (λ (x : List ℕ). laid x (from + 12) (be 4 (i .count))) (laid-laid area from (whose ++ be 4 start) (omega arith) (be 4 size))
-    ∙ ap (λ (n : ℕ). laid (laid area from (whose ++ be 4 start ++ be 4 size)) (from + n) (be 4 (i .count))) (sym f)
-    ∙ laid-laid area from (whose ++ be 4 start ++ be 4 size) (omega arith) (be 4 (i .count))
+record-laid area from i start size span room whose s n k p =
+    let a = number-laid area from _ 4 4 start (omega arith) (whose, refl) s in
+    let b = number-laid area from _ 8 4 size (omega arith) a n in
+    let c = number-laid area from _ 12 8 (i .count) (omega arith) b k in
+    number-laid area from _ 20 4 span (omega arith) c p .0
+
+-- ---- spans
+
+-- A frame that carries a unit has an octet of it,
+pub carries-few : (xs : List ℕ) → carries xs ≤ length xs
+unfolding carries
+carries-few [] = omega arith
+carries-few (x ∷ xs) = omega arith
+
+-- and one that has an octet of it carries it.
+pub carries-some : (xs : List ℕ) → 0 < length xs → carries xs ≡ 1
+unfolding carries
+carries-some [] h = absurd (omega arith)
+carries-some (x ∷ xs) h = refl
 
 -- ---- one after the other, of what is made
 
-pub made-same : {us vs : List DataUnit} {h : List ℕ} {i j f g d e : ℕ} → us ≡ vs → i ≡ j → f ≡ g → d ≡ e
+pub made-same : {us vs : List DataUnit} {h : DataUnit} {i j f g d e : ℕ} → us ≡ vs → i ≡ j → f ≡ g → d ≡ e
     → _≡_ {A = Made} (record { units = us; held = h; idle = i; fill = f; dropped = d }) (record { units = vs; held = h; idle = j; fill = g; dropped = e })
 made-same a b c d = rw (a, b, c, d)
 
@@ -156,7 +174,7 @@ module _ {t : Tally} {u r : List ℕ} (a b : Made) (room : Room t u r (both a b)
 
     pub went-after : {d : List ℕ} {s : Stand} {u₂ r₂ d₂ : List ℕ} → Went i t₁ u₁ r₁ d b s u₂ r₂ d₂ → Went i t u r d (both a b) s u₂ r₂ d₂
     unfolding both
-    went-after second = record { handed = handed-both (second .handed); part = second .part; held = second .held }
+    went-after second = record { handed = handed-both (second .handed); part = second .part; slot = second .slot }
 
 -- ---- a whole of which something is handed out
 
@@ -234,14 +252,15 @@ only-counted {i} {t} {u} {r} {m} e count octets idle fill dropped =
 
 -- One unit, with its record.
 pub one-handed : {i : Info} {t : Tally} {u r : List ℕ} {x : DataUnit} {t′ : Tally} {u′ r′ : List ℕ} → u′ ≡ laid u (t .octets) (x .octets)
-    → r′ ≡ laid r (recordSize * t .count) (recordOf i (t .octets) (length (x .octets))) → t′ .count ≡ t .count + 1 → t′ .octets ≡ t .octets + length (x .octets)
-    → t′ .idle ≡ t .idle → t′ .fill ≡ t .fill → t′ .dropped ≡ t .dropped → Handed i t u r (hands x nothing) t′ u′ r′
+    → r′ ≡ laid r (recordSize * t .count) (recordOf i (t .octets) (length (x .octets)) (x .span)) → t′ .count ≡ t .count + 1
+    → t′ .octets ≡ t .octets + length (x .octets) → t′ .idle ≡ t .idle → t′ .fill ≡ t .fill → t′ .dropped ≡ t .dropped
+    → Handed i t u r (hands x nothing) t′ u′ r′
 unfolding joined recordsFrom
 one-handed {i} {t} {u} {r} {x} a b count octets idle fill dropped =
     let n : length (x .octets ++ []) ≡ length (x .octets) = ap length (append-nil (x .octets)) in
     record {
       unitArea = a ∙ ap (laid u (t .octets)) (sym (append-nil (x .octets)));
-      recordArea = b ∙ ap (laid r (recordSize * t .count)) (sym (append-nil (recordOf i (t .octets) (length (x .octets)))));
+      recordArea = b ∙ ap (laid r (recordSize * t .count)) (sym (append-nil (recordOf i (t .octets) (length (x .octets)) (x .span))));
       count = omega arith;
       octets = omega arith;
       idle = omega arith;
@@ -250,26 +269,35 @@ one-handed {i} {t} {u} {r} {x} a b count octets idle fill dropped =
     }
 
 -- There is room for a unit of two parts.
-pub two-fit : {t : Tally} {u r : List ℕ} (x y : List ℕ) → Room t u r (hands (unitFrom x y) nothing) → t .octets + length x + length y ≤ length u
+pub two-fit : {t : Tally} {u r : List ℕ} (x y : List ℕ) (span : ℕ) → Room t u r (hands (unitFrom (record { octets = x; span = span }) y) nothing)
+    → t .octets + length x + length y ≤ length u
 unfolding joined
-two-fit x y room =
+two-fit x y span room =
     let n : length (x ++ y ++ []) ≡ length x + length y = ap length (append-nil (x ++ y)) ∙ length-append x y in
     omega arith
 
--- Nothing is held: the lane's part stays.
-pub part-stays : {i : Info} {t : Tally} {u r d : List ℕ} {m : Made} {t′ : Tally} {u′ r′ : List ℕ} → m .held ≡ [] → Handed i t u r m t′ u′ r′
-    → Went i t u r d m (record { tally = t′; held = 0 }) u′ r′ d
-part-stays {d = d} e h = record { handed = h; part = sym (ap (laid d 0) e ∙ laid-nil d 0); held = sym (ap length e) }
+-- Nothing is held: the lane's part stays, and its slot is one of zeros.
+pub part-stays : {i : Info} {t : Tally} {u r d : List ℕ} {m : Made} {t′ : Tally} {u′ r′ : List ℕ} → m .held ≡ noUnit → Handed i t u r m t′ u′ r′
+    → Went i t u r d m (record { tally = t′; slot = noSlot }) u′ r′ d
+part-stays {d = d} e h =
+    record {
+      handed = h;
+      part = sym (ap (λ (x : DataUnit). laid d 0 (x .octets)) e ∙ laid-nil d 0);
+      slot = sym (ap (λ (x : DataUnit). record { held = length (x .octets); span = x .span }) e);
+    }
 
 -- ---- held octets and those that follow them
 
 module _ {s : Stand} {u r d x : List ℕ} {m : Made} (ready : Ready s u r d x m) where
-  pub held-length : length (take (s .held) d) ≡ s .held
-  held-length = length-take-le (s .held) d (ready .inside)
+  abbrev h : ℕ
+  h = s .slot .held
 
-  pub follow-length : length (take (s .held) d ++ x) ≡ s .held + length x
-  follow-length = length-append (take (s .held) d) x ∙ ap (λ (n : ℕ). n + length x) held-length
+  pub held-length : length (take h d) ≡ h
+  held-length = length-take-le h d (ready .inside)
 
-  pub follow-laid : laid d (s .held) x ≡ laid d 0 (take (s .held) d ++ x)
+  pub follow-length : length (take h d ++ x) ≡ h + length x
+  follow-length = length-append (take h d) x ∙ ap (λ (n : ℕ). n + length x) held-length
+
+  pub follow-laid : laid d h x ≡ laid d 0 (take h d ++ x)
   unfolding laid
-  follow-laid = ap (λ (n : ℕ). take (s .held) d ++ x ++ drop n d) (sym (zero-add _ ∙ follow-length))
+  follow-laid = ap (λ (n : ℕ). take h d ++ x ++ drop n d) (sym (zero-add _ ∙ follow-length))

@@ -11,7 +11,7 @@ use Rattle.rules.specs.declared.Next.{Next}
 use Rattle.rules.specs.declared.Next.the-variants.{Give, Skip, Keep, Lose}
 use Rattle.rules.specs.declared.Info.{Info}
 use Rattle.rules.specs.Packets.{measure}
-use Rattle.rules.specs.Reading.{unitFrom, Made, nothing, holds, drops, hands, idles, both, sizedNext, nextOf, front, walkUpTo, walk}
+use Rattle.rules.specs.Reading.{unitOf, Made, nothing, holds, drops, hands, idles, both, sizedNext, nextOf, front, walkUpTo, walk}
 use Rattle.rules.proofs.Tests.{split}
 use Rattle.rules.proofs.Measures.{measure-fill}
 use Rattle.rules.proofs.Lanes.{next-cases, walk-front}
@@ -108,7 +108,7 @@ module _ {longest : ℕ} {z : List ℕ} {from : ℕ} {i : Info} {t : Tally} {u r
         (next-cases (Passed longest (length (drop at z))) longest (drop at z) (λ n a b c. (omega arith, b)) (λ n a b c. (a, b, c)) (λ h. tt) tt)
 
     -- A packet is lent from where it starts to where it ends.
-    pub given : {n : ℕ} → s ≡ Give n → Turn longest z at n (hands (unitFrom [] (take (at + n - at) (drop at z))) nothing)
+    pub given : {n : ℕ} → s ≡ Give n → Turn longest z at n (hands (unitOf (take (at + n - at) (drop at z))) nothing)
     given {n} e =
         let q : Passed longest (length z - at) (Give n) = rw e at passed in
         let k : n ≡ at + n - at = omega arith in
@@ -116,8 +116,8 @@ module _ {longest : ℕ} {z : List ℕ} {from : ℕ} {i : Info} {t : Tally} {u r
           some = q .0;
           inside = q .1;
           split =
-              rw e at here ∙ hands-both (unitFrom [] (take n (drop at z))) (walk longest (drop n (drop at z)))
-              ∙ ap₂ (λ (i : ℕ) (xs : List ℕ). both (hands (unitFrom [] (take i (drop at z))) nothing) (walk longest xs)) k (drop-drop n at z);
+              rw e at here ∙ hands-both (unitOf (take n (drop at z))) (walk longest (drop n (drop at z)))
+              ∙ ap₂ (λ (i : ℕ) (xs : List ℕ). both (hands (unitOf (take i (drop at z))) nothing) (walk longest xs)) k (drop-drop n at z);
         }
 
     -- An idle packet, and the run of E0 octets after it.
@@ -144,7 +144,7 @@ module _ {longest : ℕ} {z : List ℕ} {from : ℕ} {i : Info} {t : Tally} {u r
         }
 
     -- What is left is held, or dropped.
-    pub kept : s ≡ Keep → Begun i t u r (walk longest (drop from z)) (holds (drop at z)) t₁ u₁ r₁
+    pub kept : s ≡ Keep → Begun i t u r (walk longest (drop from z)) (holds (unitOf (drop at z))) t₁ u₁ r₁
     kept e = begun-is (rw e at here) (w .begun)
 
     pub lost : s ≡ Lose → Begun i t u r (walk longest (drop from z)) (drops (length (drop at z))) t₁ u₁ r₁

@@ -4,7 +4,7 @@ use mathlib.Core.List.{List}
 use Prim.Native.Nat.{ℕ, _≤_, _<_}
 use lib.ListN.{length, getD, drop}
 use Rattle.rules.specs.declared.Info.{Info}
-use Rattle.rules.specs.Reading.{Made, nothing, holds, drops}
+use Rattle.rules.specs.Reading.{unitOf, Made, nothing, holds, drops}
 use Rattle.lanes.specs.declared.units.Tally.{Tally}
 use Rattle.lanes.specs.Hands.{Begun}
 use Rattle.lanes.specs.declared.walks.Walk.{Walk}
@@ -14,13 +14,13 @@ use Rattle.lanes.specs.declared.walks.Walked.{Walked}
 -- What is still to be made of the zone.
 abbrev pub ended : List ℕ → Walk → Made
 ended z Finished = nothing
-ended z (Held at) = holds (drop at z)
+ended z (Held at) = holds (unitOf (drop at z))
 ended z (Dropped at) = drops (length (drop at z))
 
--- It is not past a zone of n octets.
+-- It is not past a zone of n octets, and what is held there has one at least.
 abbrev pub Within : ℕ → Walk → Type 0
 Within n Finished = Unit {0}
-Within n (Held at) = at ≤ n
+Within n (Held at) = at < n
 Within n (Dropped at) = at ≤ n
 
 -- A walk left only what its end says.

@@ -2,12 +2,24 @@
 use mathlib.Core.Path.{_≡_}
 use mathlib.Core.List.{List}
 use Prim.Native.Nat.{ℕ, _+_, _*_, _≤_}
-use lib.ListN.{length}
+use lib.ListN.{length, take}
 use Rattle.rules.specs.declared.Info.{Info}
+use Rattle.rules.specs.declared.Slot.{Slot}
 use Rattle.rules.specs.Areas.{laid, joined, recordSize, unitsSize}
-use Rattle.rules.specs.Reading.{octetsOf, Made, both, recordsFrom}
+use Rattle.rules.specs.Reading.{DataUnit, octetsOf, Made, keeps, both, recordsFrom}
 use Rattle.lanes.specs.declared.units.Tally.{Tally}
 use Rattle.lanes.specs.declared.units.Stand.{Stand}
+
+-- ---- what a lane holds
+
+-- By its slot, at the front of its part of the held area.
+abbrev pub heldIn : Slot → List ℕ → DataUnit
+heldIn x d = record { octets = take (x .held) d; span = x .span }
+
+-- These octets are as many as the slot says, and at least as many as the frames that carry them.
+pub record Kept (x : Slot) (d : List ℕ) : Type 0 where
+  pub long : length d ≡ x .held
+  pub within : x .span ≤ x .held
 
 -- ---- handing out, from a tally on
 
@@ -37,15 +49,17 @@ pub record Begun (i : Info) (t : Tally) (u r : List ℕ) (whole rest : Made) (t�
 
 -- ---- a part of a lane's step, from a tally on
 
--- What the lane holds is in its part, there is room for what is to be made of it and of z, and both are few enough to count.
+-- What the lane holds is in its part, with an octet for each frame that carries it; there is room for what is to be made of it and of z, and both are
+-- few enough to count.
 pub record Ready (s : Stand) (u r d z : List ℕ) (m : Made) : Type 0 where
   pub room : Room (s .tally) u r m
-  pub held : length (m .held) ≤ length d
-  pub inside : s .held ≤ length d
+  pub held : length (m .held .octets) ≤ length d
+  pub inside : s .slot .held ≤ length d
+  pub within : s .slot .span ≤ s .slot .held
   pub few : length d + length z ≤ unitsSize
 
--- What was made is handed out, and what is held now stands at the front of the lane's part.
+-- What was made is handed out, what is held now stands at the front of the lane's part, and the slot says it.
 pub record Went (i : Info) (t : Tally) (u r d : List ℕ) (m : Made) (s : Stand) (u′ r′ d′ : List ℕ) : Type 0 where
   pub handed : Handed i t u r m (s .tally) u′ r′
-  pub part : d′ ≡ laid d 0 (m .held)
-  pub held : s .held ≡ length (m .held)
+  pub part : d′ ≡ laid d 0 (m .held .octets)
+  pub slot : s .slot ≡ keeps m

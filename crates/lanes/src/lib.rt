@@ -2,10 +2,11 @@
 ghost use mathlib.Core.Path.{_≡_};
 ghost use mathlib.Core.List.{List, _++_};
 ghost use Prim.Native.Nat.{ℕ, _+_, _≤_};
-ghost use lib.ListN.{length, getD, take};
+ghost use lib.ListN.{length, getD};
 ghost use Rattle.rules.specs.Packets.{measure};
 ghost use Rattle.rules.specs.Reading.{leadFate, packetLane, accessLane, laneStep};
 ghost use Rattle.rules.specs.Valid.{Inside};
+ghost use Rattle.lanes.specs.Hands.{heldIn, Kept};
 ghost use Rattle.lanes.specs.Steps.{Lent, portionOpening, Opens, Stepped};
 ghost use Rattle.rules.specs.Areas.{unitsSize};
 
@@ -17,6 +18,7 @@ use rules::Fate;
 use rules::Kind;
 use rules::Measure;
 use rules::Place;
+use rules::Slot;
 use units::Stand;
 use units::Tally;
 use units::Terms;
@@ -47,10 +49,10 @@ fn measure_of(first: &[u8], second: &[u8]) -> Measure
     packets::measured_of(first.len() + second.len(), a, b, d, e)
 }
 
-// How a lane begins its step: some octets are only counted, as fill or as dropped; then `held` of those it holds and `size` of the zone become
-// what `fate` says. There the step `stops`, or else packets are read from there on.
+// How a lane begins its step: some octets are only counted, as fill or as dropped. `slot` is what it goes on with, all that it holds or nothing: that and
+// `size` octets of the zone become what `fate` says. There the step `stops`, or else packets are read from there on.
 struct Opening {
-    held: usize,
+    slot: Slot,
     size: usize,
     fill: usize,
     dropped: usize,
@@ -68,15 +70,15 @@ fn lead_of(longest: usize, on: bool, held: &[u8], next: &[u8]) -> Fate
 }
 
 // A packet lane's opening: the lead, which is the octets before the pointer, or all of the zone.
-fn packet_opening(longest: usize, place: Place, held: &[u8], zone: &[u8]) -> Opening
-    requires { ⌜ Inside (length (now zone)) place × (length (now held) + length (now zone) ≤ unitsSize) ⌝ }
-    ensures { λ r. ⌜ Opens longest (packetLane longest (now (held .entry)) place (now (zone .entry))) r (now (held .entry)) (now (zone .entry)) ⌝ }
+fn packet_opening(longest: usize, place: Place, slot: Slot, held: &[u8], zone: &[u8]) -> Opening
+    requires { ⌜ Kept slot (now held) × Inside (length (now zone)) place × (length (now held) + length (now zone) ≤ unitsSize) ⌝ }
+    ensures { λ r. ⌜ Opens longest (packetLane longest (record { octets = now (held .entry); span = slot .span }) place (now (zone .entry))) r (now (held .entry)) (now (zone .entry)) ⌝ }
 {
     match place {
         Place::At(p) => {
             let fate = lead_of(longest, false, held, &zone[..p]);
             Opening {
-                held: held.len(),
+                slot: slot,
                 size: p,
                 fill: 0,
                 dropped: 0,
@@ -87,7 +89,7 @@ fn packet_opening(longest: usize, place: Place, held: &[u8], zone: &[u8]) -> Ope
         Place::Nowhere => {
             let fate = lead_of(longest, true, held, zone);
             Opening {
-                held: held.len(),
+                slot: slot,
                 size: zone.len(),
                 fill: 0,
                 dropped: 0,
@@ -98,21 +100,24 @@ fn packet_opening(longest: usize, place: Place, held: &[u8], zone: &[u8]) -> Ope
     }
 }
 
-// The opening by `size` octets of an access unit, which begin it or follow the h held ones, and `fill` after its last.
+// The opening by `size` octets of an access unit, which begin it or follow what is held, and `fill` after its last. Where they begin it, what is held is
+// dropped, and its span with it.
 fn portion_opening(
     longest: usize,
     finished: bool,
     begins: bool,
-    h: usize,
+    slot: Slot,
     size: usize,
     fill: usize,
 ) -> Opening
-    ensures { λ r. ⌜ r ≡ portionOpening longest finished begins h size fill ⌝ }
+    ensures { λ r. ⌜ r ≡ portionOpening longest finished begins slot size fill ⌝ }
 {
+    let h = slot.held;
     if begins {
         let fate = fates::unit_fate(longest, finished, size);
+        let none = Slot { held: 0, span: 0 };
         return Opening {
-            held: 0,
+            slot: none,
             size: size,
             fill: fill,
             dropped: h,
@@ -122,7 +127,7 @@ fn portion_opening(
     }
     let fate = fates::follow_fate(longest, finished, h, size);
     Opening {
-        held: h,
+        slot: slot,
         size: size,
         fill: fill,
         dropped: 0,
@@ -131,37 +136,38 @@ fn portion_opening(
     }
 }
 
-// An access lane's opening, of h held octets and a zone of n: the unit's octets go up to its last, or are all of the zone.
-fn access_opening(longest: usize, place: Place, begins: bool, h: usize, n: usize) -> Opening
+// An access lane's opening, with a zone of n octets: the unit's octets go up to its last, or are all of the zone.
+fn access_opening(longest: usize, place: Place, begins: bool, slot: Slot, n: usize) -> Opening
     requires { ⌜ Inside n place ⌝ }
-    ensures { λ r. ⌜ ((held zone : List ℕ) → length held ≡ h → length zone ≡ n → Opens longest (accessLane longest begins held place zone) r held zone) ⌝ }
+    ensures { λ r. ⌜ ((held zone : List ℕ) → Kept slot held → length zone ≡ n → Opens longest (accessLane longest begins (record { octets = held; span = slot .span }) place zone) r held zone) ⌝ }
 {
     match place {
         Place::At(p) => {
             let e = p + 1;
-            portion_opening(longest, true, begins, h, e, n - e)
+            portion_opening(longest, true, begins, slot, e, n - e)
         }
-        Place::Nowhere => portion_opening(longest, false, begins, h, n, 0),
+        Place::Nowhere => portion_opening(longest, false, begins, slot, n, 0),
     }
 }
 
 // A lane's opening, by its kind.
-fn opening_of(terms: Terms, place: Place, rule: u8, held: &[u8], zone: &[u8]) -> Opening
-    requires { ⌜ Inside (length (now zone)) place × (length (now held) + length (now zone) ≤ unitsSize) ⌝ }
-    ensures { λ r. ⌜ Opens (terms .longest) (laneStep (terms .kind) (terms .longest) rule (now (held .entry)) place (now (zone .entry))) r (now (held .entry)) (now (zone .entry)) ⌝ }
+fn opening_of(terms: Terms, slot: Slot, place: Place, rule: u8, held: &[u8], zone: &[u8]) -> Opening
+    requires { ⌜ Kept slot (now held) × Inside (length (now zone)) place × (length (now held) + length (now zone) ≤ unitsSize) ⌝ }
+    ensures { λ r. ⌜ Opens (terms .longest) (laneStep (terms .kind) (terms .longest) rule (record { octets = now (held .entry); span = slot .span }) place (now (zone .entry))) r (now (held .entry)) (now (zone .entry)) ⌝ }
 {
     let kind = terms.kind;
     let longest = terms.longest;
     match kind {
-        Kind::Packets => packet_opening(longest, place, held, zone),
-        Kind::Access => access_opening(longest, place, rule == 0b001, held.len(), zone.len()),
+        Kind::Packets => packet_opening(longest, place, slot, held, zone),
+        Kind::Access => access_opening(longest, place, rule == 0b001, slot, zone.len()),
     }
 }
 
-// A lane's step: its units and their records to the front of their areas, what it then holds to the front of its part of the held area.
+// A lane's step: its units and their records to the front of their areas, what it then holds to the front of its part of the held area. `slot` is
+// what it kept, and what it keeps now is in the result.
 pub fn lane_step(
     terms: Terms,
-    h: usize,
+    slot: Slot,
     place: Place,
     rule: u8,
     zone: &[u8],
@@ -169,10 +175,11 @@ pub fn lane_step(
     units: &mut [u8],
     records: &mut [u8],
 ) -> Stand
-    requires { ⌜ Lent terms h place (now zone) (now part) (now units) (now records) ⌝ }
-    ensures { λ r. ⌜ Stepped (terms .info) (laneStep (terms .kind) (terms .longest) rule (take h (now (part .entry))) place (now (zone .entry))) (now (part .entry)) (now (units .entry)) (now (records .entry)) r (now (part .exit)) (now (units .exit)) (now (records .exit)) ⌝ }
+    requires { ⌜ Lent terms slot place (now zone) (now part) (now units) (now records) ⌝ }
+    ensures { λ r. ⌜ Stepped (terms .info) (laneStep (terms .kind) (terms .longest) rule (heldIn slot (now (part .entry))) place (now (zone .entry))) (now (part .entry)) (now (units .entry)) (now (records .entry)) r (now (part .exit)) (now (units .exit)) (now (records .exit)) ⌝ }
 {
-    let o = opening_of(terms, place, rule, &part[..h], zone);
+    let h = slot.held;
+    let o = opening_of(terms, slot, place, rule, &part[..h], zone);
     let t = Tally {
         count: 0,
         octets: 0,
@@ -180,9 +187,10 @@ pub fn lane_step(
         fill: o.fill,
         dropped: o.dropped,
     };
+    let kept = o.slot;
     let s = Stand {
         tally: t,
-        held: o.held,
+        slot: kept,
     };
     let info = terms.info;
     let fate = o.fate;

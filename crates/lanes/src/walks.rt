@@ -12,6 +12,7 @@ use crate::units::Stand;
 use crate::units::Tally;
 use crate::units::Terms;
 use rules::Next;
+use rules::Slot;
 
 // Where a walk over a zone ends: with the zone, at a packet that the zone's end cuts, or at one that drops the rest with itself.
 pub enum Walk {
@@ -73,7 +74,7 @@ fn walk_on(
         match next {
             Next::Give(n) => {
                 let e = at + n;
-                t = units::hand_out(info, t, &zone[..0], &zone[at..e], units, records);
+                t = units::hand_out(info, t, 0, &zone[..0], &zone[at..e], units, records);
                 at = e;
             }
             Next::Skip(n) => {
@@ -92,7 +93,7 @@ fn walk_on(
     Walked { end: end, tally: t }
 }
 
-// The packets from the pointer on: a tail that the zone's end cuts goes to the lane's part of the held area.
+// The packets from the pointer on: a tail that the zone's end cuts goes to the lane's part of the held area, and this frame is the first to carry it.
 pub fn walk_step(
     terms: Terms,
     t: Tally,
@@ -106,24 +107,35 @@ pub fn walk_step(
     ensures { λ r. ⌜ Went (terms .info) t (now (units .entry)) (now (records .entry)) (now (part .entry)) (walk (terms .longest) (drop from (now (zone .entry)))) r (now (units .exit)) (now (records .exit)) (now (part .exit)) ⌝ }
 {
     let n = zone.len();
+    let none = Slot { held: 0, span: 0 };
     let w = walk_on(terms, t, zone, from, units, records);
     let end = w.end;
     let mut s = w.tally;
     match end {
         Walk::Finished => {
-            return Stand { tally: s, held: 0 };
+            return Stand {
+                tally: s,
+                slot: none,
+            };
         }
         Walk::Held(at) => {
             let rest = n - at;
             octets::lay(part, 0, &zone[at..]);
+            let kept = Slot {
+                held: rest,
+                span: 1,
+            };
             return Stand {
                 tally: s,
-                held: rest,
+                slot: kept,
             };
         }
         Walk::Dropped(at) => {
             s.dropped = s.dropped + (n - at);
-            return Stand { tally: s, held: 0 };
+            return Stand {
+                tally: s,
+                slot: none,
+            };
         }
     }
 }

@@ -27,12 +27,12 @@ portion-opening-requires-2 c κs = search needs
 
 returns : tie.Need-returns
 unfolding accessLane
-returns c = λ held zone e f.
+returns c = λ held zone kept f.
     let q = rw (c .before .before .place .given .1) at (c .before .before .before .before .pre) in
-    rw (c .portion-opening .ensures, c .before .before .place .given .1, ← e, ← f) (portion-opens _ held zone true _ _ (omega arith))
+    rw (c .portion-opening .ensures, c .before .before .place .given .1, ← f) (portion-opens _ kept zone true _ _ (omega arith))
 
 returns-2 : tie.Need-returns-2
-returns-2 c = λ held zone e f. rw (c .portion-opening2 .ensures, c .before .enum-told .given .1, ← e, ← f) (portion-nowhere _ held zone _)
+returns-2 c = λ held zone kept f. rw (c .portion-opening2 .ensures, c .before .enum-told .given .1, ← f) (portion-nowhere _ kept zone _)
 
 pub access-opening-spec : {M : Type 1} → statement M
 access-opening-spec =

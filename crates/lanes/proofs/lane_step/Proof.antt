@@ -3,6 +3,7 @@ use mathlib.Core.Path.{sym}
 use native.Mathlib.Omega.{arith}
 use lib.Seq.{length-take-le}
 use borrow.Author.Needs.{needs}
+use Rattle.lanes.proofs.Hands.{held-length}
 use Rattle.lanes.proofs.Parts.{opens-ready, stops-went, walks-room, walks-went, lent-ready, stepped}
 use Rattle.lanes.proofs.lane_step.Statement.{statement}
 use Rattle.lanes.proofs.lane_step.Tie as tie
@@ -18,17 +19,17 @@ opening-of-requires : tie.Need-opening-of-requires
 opening-of-requires c κs =
     let c₅ = c .before .before .before .before .before in
     let ready = lent-ready (c₅ .args .rule) (c₅ .pre) in
-    let n = length-take-le (c₅ .args .h) (c₅ .args .part .now) (ready .inside) in
-    (c₅ .pre .inside, omega (arith, n, ready .inside, ready .few))
+    let n = held-length ready in
+    (record { long = n; within = ready .within }, c₅ .pre .inside, omega (arith, n, ready .inside, ready .few))
 
 slice-aggregate-settle : tie.Need-slice-aggregate-settle
-slice-aggregate-settle c = sym (length-take-le _ _ (c .before .before .before .opening-of .ensures .inside))
+slice-aggregate-settle c = sym (length-take-le _ _ (c .before .before .before .before .opening-of .ensures .inside))
 
 settle-requires : tie.Need-settle-requires
 settle-requires c κs =
-    let c₅ = c .before .before .before .before .before in
-    let c₁₁ = c₅ .before .before .before .before .before .before in
-    opens-ready (c₁₁ .args .terms .info) (lent-ready (c₁₁ .args .rule) (c₁₁ .pre)) (c₅ .opening-of .ensures)
+    let c₆ = c .before .before .before .before .before .before in
+    let c₁₂ = c₆ .before .before .before .before .before .before in
+    opens-ready (c₁₂ .args .terms .info) (lent-ready (c₁₂ .args .rule) (c₁₂ .pre)) (c₆ .opening-of .ensures)
 
 same-length : tie.Need-same-length
 same-length c = search needs
@@ -42,19 +43,19 @@ same-length-3 c = search needs
 returns : tie.Need-returns
 returns c =
     let c₇ = c .before .before .before .before .before .before .before in
-    let c₁₃ = c₇ .before .before .before .before .before .before in
-    let c₁₉ = c₁₃ .before .before .before .before .before .before in
-    stepped (stops-went _ (lent-ready (c₁₉ .args .rule) (c₁₉ .pre)) (c₁₃ .opening-of .ensures) (c₇ .settle .ensures) (c .if1 .taken))
+    let c₁₄ = c₇ .before .before .before .before .before .before .before in
+    let c₂₀ = c₁₄ .before .before .before .before .before .before in
+    stepped (stops-went _ (lent-ready (c₂₀ .args .rule) (c₂₀ .pre)) (c₁₄ .opening-of .ensures) (c₇ .settle .ensures) (c .if1 .taken))
 
 walk-step-requires : tie.Need-walk-step-requires
 walk-step-requires c κs =
     let c₄ = c .before .before .before .before in
     let c₁₁ = c₄ .before .before .before .before .before .before .before in
-    let c₁₇ = c₁₁ .before .before .before .before .before .before in
-    let c₂₃ = c₁₇ .before .before .before .before .before .before in (
-      c₁₇ .opening-of .ensures .inside,
-      omega (arith, c₂₃ .pre .zone, c₂₃ .pre .part),
-      walks-room _ (lent-ready (c₂₃ .args .rule) (c₂₃ .pre)) (c₁₇ .opening-of .ensures) (c₁₁ .settle .ensures) (c₄ .if1 .left),
+    let c₁₈ = c₁₁ .before .before .before .before .before .before .before in
+    let c₂₄ = c₁₈ .before .before .before .before .before .before in (
+      c₁₈ .opening-of .ensures .inside,
+      omega (arith, c₂₄ .pre .zone, c₂₄ .pre .part, c₄ .before .before .before .before .before .before .part .given),
+      walks-room _ (lent-ready (c₂₄ .args .rule) (c₂₄ .pre)) (c₁₈ .opening-of .ensures) (c₁₁ .settle .ensures) (c₄ .if1 .left),
     )
 
 same-length-4 : tie.Need-same-length-4
@@ -71,9 +72,9 @@ returns-2 c =
     let c₆ = c .before .before .before .before .before .before in
     let c₁₁ = c₆ .before .before .before .before .before in
     let c₁₈ = c₁₁ .before .before .before .before .before .before .before in
-    let c₂₄ = c₁₈ .before .before .before .before .before .before in
-    let c₃₀ = c₂₄ .before .before .before .before .before .before in
-    stepped (walks-went _ (lent-ready (c₃₀ .args .rule) (c₃₀ .pre)) (c₂₄ .opening-of .ensures) (c₁₈ .settle .ensures) (c₁₁ .if1 .left)
+    let c₂₅ = c₁₈ .before .before .before .before .before .before .before in
+    let c₃₁ = c₂₅ .before .before .before .before .before .before in
+    stepped (walks-went _ (lent-ready (c₃₁ .args .rule) (c₃₁ .pre)) (c₂₅ .opening-of .ensures) (c₁₈ .settle .ensures) (c₁₁ .if1 .left)
     (c₆ .walk-step .ensures))
 
 pub lane-step-spec : {M : Type 1} → statement M

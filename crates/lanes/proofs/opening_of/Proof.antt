@@ -23,7 +23,7 @@ returns c = rw (c .before .enum-told .given .1) (c .packet-opening .ensures)
 
 returns-2 : tie.Need-returns-2
 unfolding laneStep
-returns-2 c = rw (c .before .enum-told2 .given .1) (c .access-opening .ensures _ _ refl refl)
+returns-2 c = rw (c .before .enum-told2 .given .1) (c .access-opening .ensures _ _ (c .before .before .before .before .before .pre .0) refl)
 
 pub opening-of-spec : {M : Type 1} → statement M
 opening-of-spec =

@@ -14,15 +14,15 @@ enum-known-place c = search needs
 
 slice-aggregate-lead-of : tie.Need-slice-aggregate-lead-of
 slice-aggregate-lead-of c =
-    let q = rw (c .before .before .place .given .1) at (c .before .before .before .before .before .before .pre .0) in sym (length-take-le _ _ (omega arith))
+    let q = rw (c .before .before .place .given .1) at (c .before .before .before .before .before .before .pre .1) in sym (length-take-le _ _ (omega arith))
 
 lead-of-requires : tie.Need-lead-of-requires
 lead-of-requires c κs =
     let c₆ = c .before .before .before .before .before .before in
     let p = c .before .before .place .given .0 .0 in
-    let q : p < length (c₆ .args .zone .now) = rw (c .before .before .place .given .1) at (c₆ .pre .0) in
+    let q : p < length (c₆ .args .zone .now) = rw (c .before .before .place .given .1) at (c₆ .pre .1) in
     let n : length (take p (c₆ .args .zone .now)) ≡ p = length-take-le p (c₆ .args .zone .now) (omega arith) in
-    omega (arith, c₆ .pre .1)
+    omega (arith, c₆ .pre .2)
 
 enum-told : tie.Need-enum-told
 enum-told c = search needs
@@ -32,11 +32,12 @@ lead-of-requires-2 c κs = search needs
 
 returns : tie.Need-returns
 returns c =
-    let q = rw (c .before .before .before .place .given .1) at (c .before .before .before .before .before .before .before .pre .0) in
-    rw (c .before .before .before .place .given .1) (lead-at _ _ _ (omega arith) (c .lead-of .ensures))
+    let c₇ = c .before .before .before .before .before .before .before in
+    let q = rw (c .before .before .before .place .given .1) at (c₇ .pre .1) in
+    rw (c .before .before .before .place .given .1) (lead-at _ (c₇ .pre .0) _ (omega arith) (c .lead-of .ensures))
 
 returns-2 : tie.Need-returns-2
-returns-2 c = rw (c .before .enum-told .given .1) (lead-nowhere _ _ _ (c .lead-of2 .ensures))
+returns-2 c = rw (c .before .enum-told .given .1) (lead-nowhere _ (c .before .before .before .before .before .pre .0) _ (c .lead-of2 .ensures))
 
 pub packet-opening-spec : {M : Type 1} → statement M
 packet-opening-spec =

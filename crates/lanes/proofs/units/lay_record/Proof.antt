@@ -1,10 +1,5 @@
--- The four fields are laid one after another, as the rule's record has them.
-use mathlib.Core.Path.{ap, _∙_}
-use mathlib.Core.List.{List}
-use Prim.Native.Nat.{ℕ, _+_}
+-- Whose the unit is and four numbers are laid one after another, as the rule's record has them.
 use borrow.Author.Needs.{needs}
-use Rattle.rules.specs.Octets.{be}
-use Rattle.rules.specs.Areas.{laid}
 use Rattle.lanes.proofs.Hands.{record-laid}
 use Rattle.lanes.proofs.units.lay_record.Statement.{statement}
 use Rattle.lanes.proofs.units.lay_record.Tie as tie
@@ -33,21 +28,22 @@ add-lay-number-3 c = search needs
 lay-number-requires-3 : tie.Need-lay-number-requires-3
 lay-number-requires-3 c κs = search needs
 
+add-lay-number-4 : tie.Need-add-lay-number-4
+add-lay-number-4 c = search needs
+
+lay-number-requires-4 : tie.Need-lay-number-requires-4
+lay-number-requires-4 c κs = search needs
+
 same-length : tie.Need-same-length
 same-length c = search needs
 
 returns : tie.Need-returns
 returns c =
-    let c₈ = c .before .before .before .before .before .before .before .before in
-    let c₁₆ = c₈ .before .before .before .before .before .before .before .before in
-    let a = c₁₆ .before .before .args in
-    c .before .before .lay-number3 .ensures
-    ∙ ap (λ (x : List ℕ). laid x (a .from + 12) (be 4 (a .info .count)))
-    (c .before .before .before .before .before .before .lay-number2 .ensures
-    ∙ ap (λ (x : List ℕ). laid x (a .from + 8) (be 4 (a .size)))
-    (c₈ .before .before .lay-number .ensures ∙ ap (λ (x : List ℕ). laid x (a .from + 4) (be 4 (a .start)))
-    (c₈ .before .before .before .before .before .before .lay .ensures)))
-    ∙ record-laid (a .area .now) (a .from) (a .info) (a .start) (a .size) (c₁₆ .before .before .pre)
+    let c₆ = c .before .before .before .before .before .before in
+    let c₁₄ = c₆ .before .before .before .before .before .before .before .before in
+    let c₂₂ = c₁₄ .before .before .before .before .before .before .before .before in
+    record-laid _ _ _ _ _ _ (c₂₂ .pre) (c₁₄ .before .before .before .before .lay .ensures) (c₁₄ .lay-number .ensures)
+    (c₆ .before .before .before .before .lay-number2 .ensures) (c₆ .lay-number3 .ensures) (c .before .before .lay-number4 .ensures)
 
 pub lay-record-spec : {M : Type 1} → statement M
 lay-record-spec =
@@ -61,5 +57,7 @@ lay-record-spec =
     lay-number-requires-2
     add-lay-number-3
     lay-number-requires-3
+    add-lay-number-4
+    lay-number-requires-4
     same-length
     returns)

@@ -1,9 +1,9 @@
 -- In each case the octets go where the rule puts them: out as one unit, into the count of idle or dropped ones, or behind the held ones,
--- which stand at the front of the lane's part already.
+-- which stand at the front of the lane's part already. These octets of the frame add a frame to the span where there are any.
 use mathlib.Core.Path.{refl, sym, _∙_}
 use native.Mathlib.Omega.{arith}
 use borrow.Author.Needs.{needs}
-use Rattle.lanes.proofs.Hands.{held-length, only-counted, part-stays, follow-length, follow-laid}
+use Rattle.lanes.proofs.Hands.{carries-few, held-length, only-counted, part-stays, follow-length, follow-laid}
 use Rattle.lanes.proofs.units.settle.Statement.{statement}
 use Rattle.lanes.proofs.units.settle.Tie as tie
 
@@ -17,12 +17,13 @@ slice-reshare-prefix-hand-out : tie.Need-slice-reshare-prefix-hand-out
 slice-reshare-prefix-hand-out c = search needs
 
 slice-aggregate-hand-out : tie.Need-slice-aggregate-hand-out
-slice-aggregate-hand-out c = sym (held-length (c .before .before .before .before .before .before .before .before .pre))
+slice-aggregate-hand-out c = let c₈ = c .before .before .before .before .before .before .before .before in sym (held-length (c₈ .before .pre))
 
 hand-out-requires : tie.Need-hand-out-requires
 hand-out-requires c κs =
     let c₈ = c .before .before .before .before .before .before .before .before in
-    rw (c .before .before .before .enum-told .given .1) at (c₈ .before .before .pre .room)
+    let ready = c₈ .before .before .before .pre in
+    (rw (held-length ready) (ready .within), rw (c .before .before .before .enum-told .given .1) at (ready .room))
 
 same-length : tie.Need-same-length
 same-length c = search needs
@@ -45,7 +46,8 @@ add-t c = search needs
 
 returns-2 : tie.Need-returns-2
 returns-2 c =
-    let n = follow-length (c .before .before .before .before .before .before .before .before .pre) in
+    let c₈ = c .before .before .before .before .before .before .before .before in
+    let n = follow-length (c₈ .before .pre) in
     rw (c .before .enum-told2 .given .1) (part-stays refl (only-counted refl refl refl (omega arith) (omega arith) (omega arith)))
 
 enum-told-3 : tie.Need-enum-told-3
@@ -53,9 +55,21 @@ enum-told-3 c = search needs
 
 lay-requires : tie.Need-lay-requires
 lay-requires c κs =
-    let n = follow-length (c .before .before .before .before .before .before .before .before .pre) in
-    let held = rw (c .before .enum-told3 .given .1) at (c .before .before .before .before .before .before .before .before .pre .held) in
+    let c₈ = c .before .before .before .before .before .before .before .before in
+    let n = follow-length (c₈ .before .pre) in
+    let held = rw (c .before .enum-told3 .given .1) at (c₈ .before .pre .held) in
     omega arith
+
+carried-requires : tie.Need-carried-requires
+carried-requires c κs = search needs
+
+add-t25 : tie.Need-add-t25
+add-t25 c =
+    let c₈ = c .before .before .before .before .before .before .before .before in
+    let c₁₄ = c₈ .before .before .before .before .before .before in
+    let few = carries-few (c₁₄ .args .next .now) in
+    let more = c .before .carried .ensures in
+    let within = c₁₄ .pre .within in search needs
 
 same-length-4 : tie.Need-same-length-4
 same-length-4 c = search needs
@@ -63,11 +77,12 @@ same-length-4 c = search needs
 returns-3 : tie.Need-returns-3
 returns-3 c =
     let c₈ = c .before .before .before .before .before .before .before .before in
-    rw (c .before .before .before .before .enum-told3 .given .1)
+    let ready = c₈ .before .before .before .before .before .before .pre in
+    rw (c .before .before .before .before .before .before .enum-told3 .given .1)
     (record {
       handed = only-counted refl refl refl (omega arith) (omega arith) (omega arith);
-      part = c .before .before .lay .ensures ∙ follow-laid (c₈ .before .before .before .pre);
-      held = sym (follow-length (c₈ .before .before .before .pre));
+      part = c .before .before .before .before .lay .ensures ∙ follow-laid ready;
+      slot = rw (follow-length ready, c .before .carried .ensures);
     })
 
 enum-told-4 : tie.Need-enum-told-4
@@ -78,7 +93,8 @@ add-t-2 c = search needs
 
 returns-4 : tie.Need-returns-4
 returns-4 c =
-    let n = follow-length (c .before .before .before .before .before .before .before .before .pre) in
+    let c₈ = c .before .before .before .before .before .before .before .before in
+    let n = follow-length (c₈ .before .pre) in
     rw (c .before .enum-told4 .given .1) (part-stays refl (only-counted refl refl refl (omega arith) (omega arith) (omega arith)))
 
 pub settle-spec : {M : Type 1} → statement M
@@ -99,6 +115,8 @@ settle-spec =
     returns-2
     enum-told-3
     lay-requires
+    carried-requires
+    add-t25
     same-length-4
     returns-3
     enum-told-4

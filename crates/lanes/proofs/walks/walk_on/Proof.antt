@@ -54,10 +54,12 @@ part-hand-out-end c = let turn = given (c .before .before .before .before .befor
 
 hand-out-requires : tie.Need-hand-out-requires Inv-loop μ-loop
 hand-out-requires c κs =
-    let c₈ = c .before .before .before .before .before .before .before .before in
-    turn-room (c₈ .before .before .loop .inv) (c₈ .before .before .before .before .before .before .before .pre .1)
-    (given (c₈ .before .before .loop .inv) (c .before .before .before .before .before .before .before .next-at .ensures)
-    (c .before .before .before .before .before .next .given .1))
+    let c₈ = c .before .before .before .before .before .before .before .before in (
+      omega arith,
+      turn-room (c₈ .before .before .loop .inv) (c₈ .before .before .before .before .before .before .before .pre .1)
+          (given (c₈ .before .before .loop .inv) (c .before .before .before .before .before .before .before .next-at .ensures)
+          (c .before .before .before .before .before .next .given .1)),
+    )
 
 loop-less : tie.Need-loop-less Inv-loop μ-loop
 loop-less c =
@@ -137,7 +139,7 @@ same-length-4 c =
 
 returns-2 : tie.Need-returns-2 Inv-loop μ-loop
 returns-2 c = record {
-  within = c .before .before .before .before .before .loop .inv .inside;
+  within = c .before .before .before .before .if1 .left;
   begun = kept
       (c .before .before .before .before .before .loop .inv) (c .before .before .next-at .ensures) (c .enum-told .given .1);
 }

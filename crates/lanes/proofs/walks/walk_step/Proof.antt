@@ -1,10 +1,11 @@
 -- What the walk left is held or dropped as its end says, and the rest of what it makes was handed out.
-use mathlib.Core.Path.{refl, sym, ap, _∙_}
+use mathlib.Core.Path.{refl, ap, _∙_}
+use native.Mathlib.Nat.{le-of-lt}
 use native.Mathlib.Omega.{arith}
-use lib.ListN.{length-drop}
+use lib.ListN.{drop, length-drop}
 use borrow.Author.Needs.{needs}
 use Rattle.rules.specs.Areas.{laid}
-use Rattle.lanes.proofs.Hands.{begun-room, begun-went, only-counted, part-stays}
+use Rattle.lanes.proofs.Hands.{carries-some, begun-room, begun-went, only-counted, part-stays}
 use Rattle.lanes.proofs.Walking.{rest-lent}
 use Rattle.lanes.proofs.walks.walk_step.Statement.{statement}
 use Rattle.lanes.proofs.walks.walk_step.Tie as tie
@@ -43,7 +44,7 @@ sub-lay c =
 part-lay-start : tie.Need-part-lay-start
 part-lay-start c =
     let c₈ = c .before .before .before .before .before .before .before .before in
-    rw (c .before .before .end .given .1) at (c₈ .before .walk-on .ensures .within)
+    le-of-lt (rw (c .before .before .end .given .1) at (c₈ .before .walk-on .ensures .within))
 
 part-lay-end : tie.Need-part-lay-end
 part-lay-end c = search needs
@@ -66,12 +67,13 @@ returns-2 c =
     let c₁₆ = c₈ .before .before .before .before .before .before .before .before in
     let a = c₁₆ .before .before .before .before .args in
     let from = c .before .before .before .before .before .before .end .given .0 .0 in
-    begun-went (c₁₆ .before .before .before .before .pre .2) (rw (c .before .before .before .before .before .before .end .given .1) at
-    (c₈ .before .before .before .before .before .walk-on .ensures .begun))
+    let left = rw (c .before .before .before .before .before .before .end .given .1) at (c₈ .before .before .before .before .before .walk-on .ensures) in
+    let n = length-drop from (a .zone .now) in
+    begun-went (c₁₆ .before .before .before .before .pre .2) (left .begun)
     (record {
       handed = only-counted refl refl refl (omega arith) (omega arith) (omega arith);
       part = c .before .before .lay .ensures ∙ ap (laid (a .part .now) 0) (rest-lent (a .zone .now) from);
-      held = sym (length-drop from (a .zone .now));
+      slot = rw (n, carries-some (drop from (a .zone .now)) (omega (arith, left .within)));
     })
 
 enum-known-end-2 : tie.Need-enum-known-end-2
