@@ -21,6 +21,7 @@ use Rattle.rules.specs.Valid.{GoodKind}
 use Rattle.rules.proofs.Lanes.{lane-total, lane-below, total}
 use Rattle.lanes.specs.declared.units.Stand.{Stand}
 use Rattle.lanes.specs.declared.units.Terms.{Terms}
+use Rattle.lanes.specs.Hands.{heldIn}
 use Rattle.lanes.specs.Steps.{Lent, Stepped}
 use Rattle.reader.specs.Reads.{takenOf, termsFor, OnLane}
 use Rattle.judge.specs.declared.Sight.{Sight}
@@ -28,17 +29,18 @@ use Rattle.judge.specs.Sights.{readSight}
 use Rattle.judge.proofs.Places.{Fits, fits, lane-eight}
 
 -- A step, laid out: the answer, the state and the three areas of a read. The lane's part is cut out as n octets.
-pub step-laid : (g : Gap) (l k n : ℕ) (m : Made) (h u c : List ℕ) (led : Stand) (d′ u′ c′ : List ℕ) → n ≡ partSize → partSize * l + partSize ≤ length h → length
-    (m .held) ≤ 8192
+pub step-laid : (g : Gap) (l k n : ℕ) (m : Made) (h u c : List ℕ) (led : Stand) (d′ u′ c′ : List ℕ) → n ≡ partSize
+    → partSize * l + partSize ≤ length h → length (m .held .octets) ≤ 8192
     → Stepped (infoOf (g .state .setting) l k) m (take n (drop (partSize * l) h)) u c led d′ u′ c′
     → (t : Taken) → t ≡ takenOf g l led
     → record { taken = t; heldArea = take (partSize * l) h ++ (d′ ++ drop n (drop (partSize * l) h)); unitArea = u′; recordArea = c′ } ≡ laidOut g l k m h u c
 unfolding laidOut
 step-laid g l k n m h u c led d′ u′ c′ en room small s t et =
-    let a : take (partSize * l) h ++ (d′ ++ drop n (drop (partSize * l) h)) ≡ laid h (partSize * l) (m .held) =
+    let a : take (partSize * l) h ++ (d′ ++ drop n (drop (partSize * l) h)) ≡ laid h (partSize * l) (m .held .octets) =
     ap (λ (x : List ℕ). take (partSize * l) h ++ (x ++ drop n (drop (partSize * l) h))) (s .part)
-    ∙ laid-part h (partSize * l) n 0 (m .held) (omega arith) (omega arith) ∙ ap (λ (i : ℕ). laid h i (m .held)) (add-zero (partSize * l)) in
-    rw (et, a, s .units, s .records, s .held, s .count, s .octets, s .idle, s .fill, s .dropped)
+    ∙ laid-part h (partSize * l) n 0 (m .held .octets) (omega arith) (omega arith)
+    ∙ ap (λ (i : ℕ). laid h i (m .held .octets)) (add-zero (partSize * l)) in
+    rw (et, a, s .units, s .records, s .slot, s .count, s .octets, s .idle, s .fill, s .dropped)
 
 -- ---- a frame that lane l reads after gap g
 
@@ -86,7 +88,7 @@ module _ (g : Gap) (l : ℕ) (f h u c : List ℕ) (o : OnLane g l f h u c) where
     part-cut = take n (drop (partSize * l) h)
 
     abbrev made : Made
-    made = laneStep (t .kind) (t .longest) (x .rule) (take (y .held) part-cut) (x .place) zone-cut
+    made = laneStep (t .kind) (t .longest) (x .rule) (heldIn y part-cut) (x .place) zone-cut
 
     zone-is : zone-cut ≡ zoneIn s its f
     unfolding zoneIn
@@ -95,13 +97,13 @@ module _ (g : Gap) (l : ℕ) (f h u c : List ℕ) (o : OnLane g l f h u c) where
     part-long : length part-cut ≡ partSize
     part-long = let a = length-drop (partSize * l) h in let b = room in length-take-le n (drop (partSize * l) h) (omega arith) ∙ en
 
-    pub lent-here : Lent t (y .held) (x .place) zone-cut part-cut u c
+    pub lent-here : Lent t y (x .place) zone-cut part-cut u c
     lent-here =
         record {
           units = o .units;
           records = o .records;
           part = part-long;
-          held = rw (et, ey) (o .good .held l (o .reads .numbered));
+          slot = rw (et, ey) (o .good .slots l (o .reads .numbered));
           most = rw et (kind-of .most);
           enough = rw et (kind-of .enough);
           zone = let a = zone-long in rw zone-is (omega (arith, here .small));
@@ -115,7 +117,7 @@ module _ (g : Gap) (l : ℕ) (f h u c : List ℕ) (o : OnLane g l f h u c) where
     pub few-dropped : (v : ℕ) → v ≡ made .dropped → v ≤ unitsSize
     unfolding total
     few-dropped v e =
-        let all = lane-total (t .kind) (t .longest) (x .rule) (take (y .held) part-cut) (x .place) zone-cut in
+        let all = lane-total (t .kind) (t .longest) (x .rule) (heldIn y part-cut) (x .place) zone-cut in
         let a = length-take (y .held) part-cut in
         let b = part-long in
         let z : length zone-cut ≡ zone s its = ap length zone-is ∙ zone-long in
@@ -128,7 +130,7 @@ module _ (g : Gap) (l : ℕ) (f h u c : List ℕ) (o : OnLane g l f h u c) where
         ≡ readOn g l its f h u c
     unfolding readOn infoOf
     laid-here led d′ u′ c′ r st er =
-        let small = lane-below (t .kind) (t .longest) (x .rule) (take (y .held) part-cut) (x .place) zone-cut (lent-here .enough) in
+        let small = lane-below (t .kind) (t .longest) (x .rule) (heldIn y part-cut) (x .place) zone-cut (lent-here .enough) in
         let info : t .info ≡ infoOf s l (countIn its f) = ap (λ (i : Terms). i .info) et ∙ rw ex in
         step-laid g l (countIn its f) n made h u c led d′ u′ c′ en room (omega (arith, lent-here .most)) (rw (sym info) st) r er
         ∙ ap (λ (y : Made). laidOut g l (countIn its f) y h u c) made-is

@@ -1,10 +1,9 @@
 -- A read by its verdict: what each case may rely on, and what it makes of the call.
 use mathlib.Core.Path.{_≡_, refl, sym, ap, _∙_}
 use mathlib.Core.Bool.{Bool, true, false, cond, not}
-use Prim.Native.Nat.{ℕ, _≤_}
+use Prim.Native.Nat.{ℕ}
 use mathlib.Core.List.{List}
 use lib.ListN.{length}
-use borrow.Author.Tests.{eqb-true, ltb-false}
 use Rattle.rules.specs.declared.Gap.{Gap}
 use Rattle.rules.specs.declared.Reader.{Reader}
 use Rattle.rules.specs.declared.Setting.{Setting}
@@ -14,8 +13,6 @@ use Rattle.rules.specs.Settings.{channel, lane, channelOf, readerOk}
 use Rattle.rules.specs.Frames.{countIn}
 use Rattle.rules.specs.Reading.{gap}
 use Rattle.rules.specs.Calls.{Got, areasShort, readOn, onVerdict, verdict, read, again, looked, repeatsAt, missingAt, onLook}
-use borrow.Author.Tests.{not-false}
-use Rattle.rules.proofs.Tests.{or-none}
 use Rattle.rules.proofs.States.{gap-setting, good-gap}
 use Rattle.rules.specs.Promises.{ReadGives}
 use Rattle.rules.specs.Refusals.{judge}
@@ -23,7 +20,7 @@ use Rattle.rules.proofs.Judged.{Judged, judge-facts}
 use Rattle.rules.proofs.Valid.{good-reader}
 use Rattle.rules.proofs.Looks.{verdict-looked}
 use Rattle.rules.proofs.Promises.{Keeps, read-by}
-use Rattle.rules.proofs.Calls.{Ordered, Ruled, verdict-cond, verdict-facts}
+use Rattle.rules.proofs.Calls.{areas-long, Ordered, Ruled, verdict-cond, verdict-facts}
 use Rattle.judge.specs.declared.Sight.{Sight}
 use Rattle.judge.specs.declared.Sighting.{Sighting}
 use Rattle.judge.specs.declared.Sighting.the-variants.{Seen}
@@ -34,7 +31,6 @@ use Rattle.reader.specs.Reads.{shortOf, shortRefusal, countedOf, OnLane,
 use Rattle.reader.specs.declared.Found.{Found}
 use Rattle.reader.specs.Finds.{Sound, againOf, missingFor, foundOf, shownOf}
 use Rattle.gaps.proofs.Gaps.{gap-small}
-use Rattle.rules.specs.Areas.{heldSize, recordsSize, unitsSize}
 
 -- ---- what is found
 
@@ -136,14 +132,6 @@ module _ (r : Reader) (f h u c : List ℕ) where
   facts : (w : Verdict) → verdict r f h u c ≡ w → Ruled r f h u c w
   facts w e = rw (sym e) (verdict-facts r f h u c)
 
-  -- The areas of a read that is not refused.
-  areas : areasShort h u c ≡ false → (length h ≡ heldSize) × (unitsSize ≤ length u) × (recordsSize ≤ length c)
-  unfolding areasShort
-  areas e =
-      let a = or-none _ _ e in
-      let b = or-none _ _ (a .0) in
-      (eqb-true _ _ (not-false _ (b .0)), ltb-false _ _ (b .1), ltb-false _ _ (a .1))
-
   -- What was seen, with its count taken.
   module _ (x : Sight) (m : ℕ) (o : SeenOn r x m f h u c) where
     -- Counted: what the gap leaves.
@@ -168,7 +156,7 @@ module _ (r : Reader) (f h u c : List ℕ) where
       pub on-lane : OnLane g l f h u c × (x ≡ readSight (g .state .setting) f l)
       on-lane =
           let k : Ordered r f h u c (Verdict.Read l) = facts (Verdict.Read l) (is-read .0) in
-          let a = areas (k .areas) in (
+          let a = areas-long h u c (k .areas) in (
             record {
               good = rw its-gap (good-gap r (k .good) (lane (r .setting) l .channel) (countIn (channelOf (r .setting) l) f));
               dropped = rw its-gap (gap-small r (lane (r .setting) l .channel) (countIn (channelOf (r .setting) l) f) (k .good));

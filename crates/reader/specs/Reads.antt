@@ -44,7 +44,7 @@ takenOf g l led =
             fill = led .tally .fill;
             dropped = g .dropped + led .tally .dropped;
           };
-      state = withSlot (g .state) l (record { held = led .held });
+      state = withSlot (g .state) l (led .slot);
     }
 
 -- A frame that lane l reads after gap g, and areas of the paper's sizes.

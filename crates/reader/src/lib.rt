@@ -28,7 +28,6 @@ use rules::Passed;
 use rules::Place;
 use rules::Reader;
 use rules::Setting;
-use rules::Slot;
 use rules::Taken;
 use rules::Verdict;
 
@@ -67,7 +66,7 @@ fn taken_of(g: Gap, l: usize, led: Stand) -> Taken
     let s = r.setting;
     let expects = r.expects;
     let slots = r.slots;
-    let slot = Slot { held: led.held };
+    let slot = led.slot;
     let slots = setting::with_slot(slots, l, slot);
     Taken {
         answer: Answer {
@@ -104,7 +103,7 @@ fn read_on(g: Gap, l: usize, x: Sight, f: &[u8], h: &mut [u8], u: &mut [u8], c: 
     let to = from + rules::PART_SIZE;
     let led = lanes::lane_step(
         terms,
-        slot.held,
+        slot,
         place,
         x.rule,
         &f[begin..end],
