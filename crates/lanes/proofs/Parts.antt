@@ -14,13 +14,13 @@ use Rattle.rules.specs.declared.Info.{Info}
 use Rattle.rules.specs.declared.Slot.{Slot}
 use Rattle.rules.specs.Areas.{laid}
 use Rattle.rules.specs.Packets.{measure}
-use Rattle.rules.specs.Reading.{DataUnit, noUnit, unitFrom, unitOf, Made, fills, both, become, leadFate, lead, walk, packetLane, unitFate, followFate, portion, accessLane, laneStep}
+use Rattle.rules.specs.Reading.{DataUnit, noUnit, unitFrom, unitOf, heldIn, Made, fills, both, become, leadFate, lead, walk, packetLane, unitFate, followFate, portion, accessLane, laneStep}
 use Rattle.rules.proofs.Areas.{laid-nil}
 use Rattle.rules.proofs.Lanes.{total, lead-held, lane-total, lane-below, lane-few}
 use Rattle.lanes.specs.declared.units.Tally.{Tally}
 use Rattle.lanes.specs.declared.units.Stand.{Stand}
 use Rattle.lanes.specs.declared.units.Terms.{Terms}
-use Rattle.lanes.specs.Hands.{heldIn, Kept, Room, Handed, Ready, Went}
+use Rattle.lanes.specs.Hands.{Kept, Room, Handed, Ready, Went}
 use Rattle.lanes.specs.declared.Opening.{Opening}
 use Rattle.lanes.specs.Steps.{Lent, portionOpening, counted, opened, Goes, Opens, Stepped}
 use Rattle.lanes.proofs.Hands.{made-same, both-nothing, room-first, room-second, went-after, only-counted, held-length}

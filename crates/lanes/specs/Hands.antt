@@ -2,19 +2,15 @@
 use mathlib.Core.Path.{_≡_}
 use mathlib.Core.List.{List}
 use Prim.Native.Nat.{ℕ, _+_, _*_, _≤_}
-use lib.ListN.{length, take}
+use lib.ListN.{length}
 use Rattle.rules.specs.declared.Info.{Info}
 use Rattle.rules.specs.declared.Slot.{Slot}
 use Rattle.rules.specs.Areas.{laid, joined, recordSize, unitsSize}
-use Rattle.rules.specs.Reading.{DataUnit, octetsOf, Made, keeps, both, recordsFrom}
+use Rattle.rules.specs.Reading.{octetsOf, Made, keeps, both, recordsFrom}
 use Rattle.lanes.specs.declared.units.Tally.{Tally}
 use Rattle.lanes.specs.declared.units.Stand.{Stand}
 
 -- ---- what a lane holds
-
--- By its slot, at the front of its part of the held area.
-abbrev pub heldIn : Slot → List ℕ → DataUnit
-heldIn x d = record { octets = take (x .held) d; span = x .span }
 
 -- These octets are as many as the slot says, and at least as many as the frames that carry them.
 pub record Kept (x : Slot) (d : List ℕ) : Type 0 where

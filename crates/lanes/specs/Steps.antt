@@ -9,12 +9,11 @@ use Rattle.rules.specs.declared.Info.{Info}
 use Rattle.rules.specs.declared.Slot.{Slot}
 use Rattle.rules.specs.Areas.{laid, joined, partSize, recordsSize, unitsSize}
 use Rattle.rules.specs.Settings.{noSlot}
-use Rattle.rules.specs.Reading.{noUnit, unitFrom, octetsOf, Made, keeps, both, become, walk, unitFate, followFate, recordsFrom}
+use Rattle.rules.specs.Reading.{noUnit, unitFrom, heldIn, octetsOf, Made, keeps, both, become, walk, unitFate, followFate, recordsFrom}
 use Rattle.rules.specs.Valid.{least, Inside, GoodSlot}
 use Rattle.lanes.specs.declared.units.Stand.{Stand}
 use Rattle.lanes.specs.declared.units.Terms.{Terms}
 use Rattle.lanes.specs.declared.Opening.{Opening}
-use Rattle.lanes.specs.Hands.{heldIn}
 
 -- What it is lent: areas of the paper's sizes, and a zone and a slot as a valid state and a frame that is Read have them.
 pub record Lent (terms : Terms) (x : Slot) (p : Place) (z d u r : List ℕ) : Type 0 where

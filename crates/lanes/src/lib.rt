@@ -4,9 +4,9 @@ ghost use mathlib.Core.List.{List, _++_};
 ghost use Prim.Native.Nat.{ℕ, _+_, _≤_};
 ghost use lib.ListN.{length, getD};
 ghost use Rattle.rules.specs.Packets.{measure};
-ghost use Rattle.rules.specs.Reading.{leadFate, packetLane, accessLane, laneStep};
+ghost use Rattle.rules.specs.Reading.{heldIn, leadFate, packetLane, accessLane, laneStep};
 ghost use Rattle.rules.specs.Valid.{Inside};
-ghost use Rattle.lanes.specs.Hands.{heldIn, Kept};
+ghost use Rattle.lanes.specs.Hands.{Kept};
 ghost use Rattle.lanes.specs.Steps.{Lent, portionOpening, Opens, Stepped};
 ghost use Rattle.rules.specs.Areas.{unitsSize};
 

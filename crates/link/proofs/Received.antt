@@ -21,7 +21,7 @@ use Rattle.rules.specs.Areas.{laid, joined, part, heldSize, partSize, recordsSi
 use Rattle.rules.specs.Settings.{noLane, noSlot, lane, expectOn, expecting, channelOf, zone, readerOk}
 use Rattle.rules.specs.Frames.{ruleIn, pointerIn, zoneIn, pointsTo}
 use Rattle.rules.specs.Writing.{zoneOf, ruleOf, pointerOf}
-use Rattle.rules.specs.Reading.{missing, expected, repeats, emptied, lanesOf, gapBy, gap, DataUnit, noUnit, octetsOf, Made, keeps, laneStep}
+use Rattle.rules.specs.Reading.{missing, expected, repeats, emptied, lanesOf, gapBy, gap, DataUnit, noUnit, heldIn, octetsOf, Made, keeps, laneStep}
 use Rattle.rules.specs.Refusals.{refusals, judged, judge}
 use Rattle.rules.specs.Calls.{Got, areasShort, laidOut, madeBy, readOn, repeatsAt, again, onVerdict, verdict, read}
 use Rattle.rules.proofs.Tests.{split, and-left, and-right}
@@ -71,12 +71,9 @@ module _ (r : Reader) (f h : List ℕ) (a : Lent) where
 abbrev pub reader : Setting → Expects → List Slot → Reader
 reader s es hs = record { setting = s; expects = es; slots = hs }
 
--- What a lane with this slot holds, of its part of the held area.
-abbrev pub kept : Slot → List ℕ → DataUnit
-kept x p = record { octets = take (x .held) p; span = x .span }
-
+-- What lane l holds.
 abbrev pub holds : List Slot → List ℕ → ℕ → DataUnit
-holds hs h l = kept (getD hs l noSlot) (part l h)
+holds hs h l = heldIn (getD hs l noSlot) (part l h)
 
 -- The slots once m frames of channel c were missed.
 unfoldable pub left : Setting → ℕ → ℕ → List Slot → List Slot
@@ -129,16 +126,16 @@ module _ (s : Setting) (g : Good s) (l : ℕ) (lh : l < s .numbered) where
           ∙ ap (λ (x : Lane). cond (x .channel =? c) noSlot (getD hs l noSlot)) (getD-take (s .numbered) (s .lanes) l noLane lh)
 
   pub holds-other : (c m : ℕ) (hs : List Slot) (h : List ℕ) → (placeOf s l ≡ c → ⊥) → holds (left s c m hs) h l ≡ holds hs h l
-  holds-other c m hs h e = ap (λ (x : Slot). kept x (part l h)) (left-at c m hs ∙ go (m =? 0))
+  holds-other c m hs h e = ap (λ (x : Slot). heldIn x (part l h)) (left-at c m hs ∙ go (m =? 0))
     where
       go : (t : Bool) → cond t (getD hs l noSlot) (cond (placeOf s l =? c) noSlot (getD hs l noSlot)) ≡ getD hs l noSlot
       go true = refl
       go false = rw (ne-eqb (placeOf s l) c e)
 
   pub holds-gap : (m : ℕ) (hs : List Slot) (h : List ℕ) → holds (left s (placeOf s l) m hs) h l ≡ cond (m =? 0) (holds hs h l) noUnit
-  holds-gap m hs h = ap (λ (x : Slot). kept x (part l h)) (left-at (placeOf s l) m hs) ∙ go (m =? 0)
+  holds-gap m hs h = ap (λ (x : Slot). heldIn x (part l h)) (left-at (placeOf s l) m hs) ∙ go (m =? 0)
     where
-      go : (t : Bool) → kept (cond t (getD hs l noSlot) (cond (placeOf s l =? placeOf s l) noSlot (getD hs l noSlot))) (part l h)
+      go : (t : Bool) → heldIn (cond t (getD hs l noSlot) (cond (placeOf s l =? placeOf s l) noSlot (getD hs l noSlot))) (part l h)
           ≡ cond t (holds hs h l) noUnit
       go true = refl
       go false = rw (eq-eqb (placeOf s l) (placeOf s l) refl)
@@ -158,13 +155,13 @@ module _ (hs : List Slot) (h : List ℕ) (m : Made) (i : ℕ) (ih : i < 8) (slot
 
   pub stored-here : holds (set hs i (keeps m)) (laid h (partSize * i) xs) i ≡ m .held
   stored-here =
-      ap (λ (x : Slot). kept x (part i (laid h (partSize * i) xs))) (getD-set-same hs i (keeps m) noSlot (omega arith))
+      ap (λ (x : Slot). heldIn x (part i (laid h (partSize * i) xs))) (getD-set-same hs i (keeps m) noSlot (omega arith))
       ∙ ap (λ (ys : List ℕ). record { octets = ys; span = m .held .span })
       (take-take (length xs) 8192 (drop (partSize * i) (laid h (partSize * i) xs)) small ∙ laid-at h (partSize * i) xs room)
 
   pub stored-other : (l : ℕ) → (l ≡ i → ⊥) → holds (set hs i (keeps m)) (laid h (partSize * i) xs) l ≡ holds hs h l
   stored-other l e =
-      ap₂ kept (getD-set-other hs i l (keeps m) noSlot e)
+      ap₂ heldIn (getD-set-other hs i l (keeps m) noSlot e)
       (split i l
       (λ q. ap (take 8192) (laid-after h (partSize * i) xs room (partSize * l) (omega arith)))
       (λ q. laid-before h (partSize * i) xs room (partSize * l) 8192 (omega arith)))

@@ -14,6 +14,7 @@ use Rattle.rules.specs.declared.Sender.{Sender}
 use Rattle.rules.specs.declared.Outcome.the-variants.{Done, Refused}
 use Rattle.rules.specs.Areas.{part, heldSize}
 use Rattle.rules.specs.Settings.{noSlot, channelOf, zone, settingOk, freshReader, freshWriter, noWriter}
+use Rattle.rules.specs.Reading.{heldIn}
 use Rattle.rules.specs.Calls.{setUpReader, setUpWriter}
 use Rattle.rules.specs.Valid.{Good}
 use Rattle.rules.proofs.Tests.{and-left, and-right, getD-alike}
@@ -24,7 +25,6 @@ use Rattle.rules.proofs.Calls.{setup-accepted}
 use Rattle.link.specs.Link.{Call, Frame, placeOf, frameBy, Event, Writes, Copy, Stray, arrives, placeIn, flown, sent, Arrival, silence, arrivals, Filed, reads, handedOut}
 use Rattle.link.specs.Due.{due}
 use Rattle.link.specs.Demand.{lending, InOrder, enough, inert, passes, allPass, keptOn, fewGone, Demand}
-use Rattle.link.proofs.Received.{kept}
 use Rattle.link.proofs.Ends.{Fresh}
 use Rattle.link.proofs.Flights.{flies, hearing, Runs}
 use Rattle.link.proofs.Run.{from-fresh}
@@ -74,7 +74,7 @@ module _ (s : Setting) (h : List ℕ) (full : length h ≡ heldSize) where
         start = λ l b. ap (λ (i : ℕ). i * zone s (channelOf s l)) (getD-alike {A = ℕ} 8 l 0) ∙ zero-mul _;
         unknown = λ l lh. none-expected (placeOf s l) (channel-8 s (good s ok) l lh);
         below = λ l lh. rw (getD-alike {A = ℕ} 8 (placeOf s l) 0) (pow256-pos ((channelOf s l) .octets));
-        held = λ l lh. ap (λ (x : Slot). kept x (part l h)) (empty l lh);
+        held = λ l lh. ap (λ (x : Slot). heldIn x (part l h)) (empty l lh);
       }
     where
       empty : (l : ℕ) → l < s .numbered → getD (replicate 8 noSlot) l noSlot ≡ noSlot

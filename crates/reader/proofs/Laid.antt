@@ -12,7 +12,7 @@ use Rattle.rules.specs.declared.Setting.{Setting}
 use Rattle.rules.specs.declared.Slot.{Slot}
 use Rattle.rules.specs.declared.Taken.{Taken}
 use Rattle.rules.specs.Areas.{laid, part, partSize, unitsSize}
-use Rattle.rules.specs.Reading.{Made, laneStep, infoOf}
+use Rattle.rules.specs.Reading.{heldIn, Made, laneStep, infoOf}
 use Rattle.rules.specs.Settings.{lane, channelOf, slot, zoneAt, zone}
 use Rattle.rules.specs.Frames.{zoneIn, countIn}
 use Rattle.rules.specs.Calls.{laidOut, madeBy, readOn}
@@ -21,7 +21,6 @@ use Rattle.rules.specs.Valid.{GoodKind}
 use Rattle.rules.proofs.Lanes.{lane-total, lane-below, total}
 use Rattle.lanes.specs.declared.units.Stand.{Stand}
 use Rattle.lanes.specs.declared.units.Terms.{Terms}
-use Rattle.lanes.specs.Hands.{heldIn}
 use Rattle.lanes.specs.Steps.{Lent, Stepped}
 use Rattle.reader.specs.Reads.{takenOf, termsFor, OnLane}
 use Rattle.judge.specs.declared.Sight.{Sight}

@@ -3,7 +3,7 @@
 use Prim.Native.Nat.{ℕ, zero, suc, _+_, _*_}
 use mathlib.Core.Bool.{Bool, cond, not, _||_}
 use mathlib.Core.List.{List, [], _∷_}
-use lib.ListN.{length, take}
+use lib.ListN.{length}
 use Rattle.rules.specs.declared.Channel.{Channel}
 use Rattle.rules.specs.declared.Setting.{Setting}
 use Rattle.rules.specs.declared.Reader.{Reader}
@@ -21,10 +21,10 @@ use Rattle.rules.specs.declared.Verdict.{Verdict}
 use Rattle.rules.specs.declared.Gap.{Gap}
 use Rattle.rules.specs.Tests.{_≤?_, _<?_, _≠?_, Refusal, refuse, given}
 use Rattle.rules.specs.Areas.{laid, joined, part, heldSize, partSize, recordsSize, unitsSize}
-use Rattle.rules.specs.Settings.{channel, lane, channelOf, expect, heldBy, spanBy, withSlot, count, number, zone, ocfOctets, settingOk, readerOk, writerOk, freshReader, freshWriter, noReader, noWriter}
+use Rattle.rules.specs.Settings.{channel, lane, channelOf, expect, slot, withSlot, count, number, zone, ocfOctets, settingOk, readerOk, writerOk, freshReader, freshWriter, noReader, noWriter}
 use Rattle.rules.specs.Frames.{countIn, ruleIn, pointerIn, zoneIn, pointsTo}
 use Rattle.rules.specs.Writing.{batchOk, frames, frameOf, writerAfter}
-use Rattle.rules.specs.Reading.{missing, repeats, gap, DataUnit, octetsOf, Made, keeps, laneStep, recordsFrom, infoOf}
+use Rattle.rules.specs.Reading.{missing, repeats, gap, DataUnit, heldIn, octetsOf, Made, keeps, laneStep, recordsFrom, infoOf}
 use Rattle.rules.specs.Refusals.{refusals, judged}
 
 -- ---- the paper's number for each case of an answer; 0 where none is refused
@@ -129,9 +129,9 @@ laidOut g l k m h u c =
       recordArea = laid c 0 (recordsFrom (infoOf (g .state .setting) l k) 0 (m .units));
     }
 
--- What lane l holds: the first octets of its part of the held area, and the span so far.
+-- What lane l holds.
 abbrev pub holding : Reader → ℕ → List ℕ → DataUnit
-holding r l h = record { octets = take (heldBy r l) (part l h); span = spanBy r l }
+holding r l h = heldIn (slot r l) (part l h)
 
 -- What lane l makes of a frame of its channel, after a gap.
 unfoldable pub madeBy : Gap → ℕ → Channel → List ℕ → List ℕ → Made

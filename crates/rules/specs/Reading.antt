@@ -100,6 +100,10 @@ unitFrom held xs = record { octets = held .octets ++ xs; span = held .span + car
 abbrev pub unitOf : List ℕ → DataUnit
 unitOf xs = unitFrom noUnit xs
 
+-- What a lane with this slot holds: the first octets of its part of the held area, and the span so far.
+abbrev pub heldIn : Slot → List ℕ → DataUnit
+heldIn x d = record { octets = take (x .held) d; span = x .span }
+
 -- The octets of each.
 abbrev pub octetsOf : List DataUnit → List (List ℕ)
 octetsOf us = map (λ (u : DataUnit). u .octets) us
