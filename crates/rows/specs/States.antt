@@ -51,7 +51,7 @@ lanesIn xs k = slots noLane (λ (i : ℕ). laneIn xs (8 * (k + i))) 8
 
 -- What is kept of a lane, behind its numbers.
 unfoldable pub slotIn : List ℕ → ℕ → Slot
-slotIn xs i = record { held = word xs (i + 5) }
+slotIn xs i = record { held = word xs (i + 5); span = word xs (i + 6) }
 
 unfoldable pub slotsIn : List ℕ → ℕ → List Slot
 slotsIn xs k = slots noSlot (λ (i : ℕ). slotIn xs (8 * (k + i))) 8
@@ -81,7 +81,7 @@ heldOf xs =
     (getD xs 0 noSlot) .held ∷ (getD xs 1 noSlot) .held ∷ (getD xs 2 noSlot) .held ∷ (getD xs 3 noSlot) .held
     ∷ (getD xs 4 noSlot) .held ∷ (getD xs 5 noSlot) .held ∷ (getD xs 6 noSlot) .held ∷ (getD xs 7 noSlot) .held ∷ []
 
--- The writer's state from row k on: counts stand for expected counts, next frame numbers for what is held.
+-- The writer's state from row k on: counts stand for expected counts, next frame numbers for what is held, and a span says nothing.
 unfoldable pub writerIn : List ℕ → ℕ → Writer
 writerIn xs k = record { setting = settingIn xs k; counts = countsIn xs (k + 1); next = heldOf (slotsIn xs (k + 9)) }
 
@@ -98,7 +98,7 @@ kindNumber Packets = 0
 kindNumber Access = 1
 
 unfoldable pub laneRow : Lane → Slot → List ℕ
-laneRow l x = l .channel ∷ l .map ∷ kindNumber (l .kind) ∷ l .longest ∷ l .upid ∷ x .held ∷ 0 ∷ 0 ∷ []
+laneRow l x = l .channel ∷ l .map ∷ kindNumber (l .kind) ∷ l .longest ∷ l .upid ∷ x .held ∷ x .span ∷ 0 ∷ []
 
 -- The first n of the rows that f says, as octets.
 unfoldable pub rows : (ℕ → List ℕ) → ℕ → List ℕ
@@ -122,9 +122,9 @@ readerOctets r = stateOctets (r .setting) (r .expects) (r .slots)
 unfoldable pub expectsOf : List ℕ → Expects
 expectsOf ns = record { counts = ns; known = replicate 8 false }
 
--- A slot that holds so many octets.
+-- A slot that holds so many octets, of no frame: a writer's lane has no span.
 abbrev pub holding : ℕ → Slot
-holding n = record { held = n }
+holding n = record { held = n; span = 0 }
 
 unfoldable pub slotsOf : List ℕ → List Slot
 slotsOf ns =

@@ -147,6 +147,7 @@ fn slot_in(s: &[u8], i: usize) -> Slot
 {
     Slot {
         held: word_in(s, i + 5) as usize,
+        span: word_in(s, i + 6) as usize,
     }
 }
 
@@ -155,7 +156,7 @@ fn slots_in(s: &[u8], k: usize) -> [Slot; 8]
     requires { ⌜ 64 * k + 512 ≤ length (now s) ⌝ }
     ensures { λ r. ⌜ r ≡ slotsIn (now (s .entry)) k ⌝ }
 {
-    let none = Slot { held: 0 };
+    let none = Slot { held: 0, span: 0 };
     let mut r = [none; 8];
     let mut i: usize = 0;
     while i < 8 {
@@ -320,7 +321,7 @@ fn lane_row(l: Lane, x: Slot) -> [u64; 8]
         l.longest as u64,
         l.upid as u64,
         x.held as u64,
-        0,
+        x.span as u64,
         0,
     ]
 }
@@ -386,19 +387,43 @@ fn expects_of(n: [u64; 8]) -> Expects
     }
 }
 
-// Slots for the rows of lanes.
+// Slots for the rows of lanes. A writer has no span.
 fn slots_of(n: [usize; 8]) -> [Slot; 8]
     ensures { λ r. ⌜ r ≡ slotsOf n ⌝ }
 {
     [
-        Slot { held: n[0] },
-        Slot { held: n[1] },
-        Slot { held: n[2] },
-        Slot { held: n[3] },
-        Slot { held: n[4] },
-        Slot { held: n[5] },
-        Slot { held: n[6] },
-        Slot { held: n[7] },
+        Slot {
+            held: n[0],
+            span: 0,
+        },
+        Slot {
+            held: n[1],
+            span: 0,
+        },
+        Slot {
+            held: n[2],
+            span: 0,
+        },
+        Slot {
+            held: n[3],
+            span: 0,
+        },
+        Slot {
+            held: n[4],
+            span: 0,
+        },
+        Slot {
+            held: n[5],
+            span: 0,
+        },
+        Slot {
+            held: n[6],
+            span: 0,
+        },
+        Slot {
+            held: n[7],
+            span: 0,
+        },
     ]
 }
 

@@ -1,4 +1,4 @@
--- `rows::slot_in` meets its contract. What is held stands where the row has it.
+-- `rows::slot_in` meets its contract. What is held and its span stand where the row has them.
 use Rattle.rows.specs.States.{slotIn}
 use borrow.Author.Needs.{needs}
 use Rattle.rows.proofs.slot_in.Statement.{statement}
@@ -10,9 +10,15 @@ add-word-in c = search needs
 word-in-requires : tie.Need-word-in-requires
 word-in-requires c κs = search needs
 
+add-word-in-2 : tie.Need-add-word-in-2
+add-word-in-2 c = search needs
+
+word-in-requires-2 : tie.Need-word-in-requires-2
+word-in-requires-2 c κs = search needs
+
 returns : tie.Need-returns
 unfolding slotIn
-returns c = rw (c .word-in .ensures)
+returns c = rw (c .before .word-in .ensures, c .word-in2 .ensures)
 
 pub slot-in-spec : {M : Type 1} → statement M
-slot-in-spec = tie.close (tie.spec add-word-in word-in-requires returns)
+slot-in-spec = tie.close (tie.spec add-word-in word-in-requires add-word-in-2 word-in-requires-2 returns)
