@@ -15,7 +15,7 @@ use Rattle.unpack_text.specs.declared.LaneTally.{LaneTally}
 use Rattle.unpack_text.specs.Totals.{noLaneTally}
 use Rattle.unpack_text.specs.Lines.{Wrote}
 use Rattle.unit_table.specs.declared.Row.{Row}
-use Rattle.unit_table.specs.Rows.{isPackets, numberAt, placeText, frameText, packetText, rowText}
+use Rattle.unit_table.specs.Rows.{isPackets, numberAt, placeText, frameText, packetText, spanText, rowText}
 
 drop-past : (at : ℕ) (xs : List ℕ) → length xs ≤ at → drop at xs ≡ []
 drop-past at xs h =
@@ -49,19 +49,19 @@ octets-out tallies l h = sym (ap (λ (x : LaneTally). x .octets) (List·getD-eq-
 
 -- ---- rows
 
-pub wrote-row : {r q : Row} {area : List ℕ} {from : ℕ} {area′ : List ℕ} {end : ℕ} → r ≡ q → Wrote 147 (rowText r) area from area′ end
-    → Wrote 147 (rowText q) area from area′ end
-wrote-row {area = area} {from = from} {area′ = area′} {end = end} e w = subst (λ (x : Row). Wrote 147 (rowText x) area from area′ end) e w
+pub wrote-row : {r q : Row} {area : List ℕ} {from : ℕ} {area′ : List ℕ} {end : ℕ} → r ≡ q → Wrote 168 (rowText r) area from area′ end
+    → Wrote 168 (rowText q) area from area′ end
+wrote-row {area = area} {from = from} {area′ = area′} {end = end} e w = subst (λ (x : Row). Wrote 168 (rowText x) area from area′ end) e w
 
 module _ (r : Row) where
-  abbrev fields : List ℕ
-  fields = r .lane ∷ r .offset ∷ r .length ∷ r .frame ∷ r .count ∷ r .apid ∷ r .sequence ∷ []
-
   pub packet-strung : r .packets ≡ true
-      → strung ([] ∷ text "," ∷ text "," ∷ text "," ∷ text "," ∷ text "," ∷ text "," ∷ []) fields (text "\n") ≡ rowText r
-  unfolding strung rowText placeText frameText packetText
+      → strung ([] ∷ text "," ∷ text "," ∷ text "," ∷ text "," ∷ text "," ∷ text "," ∷ text "," ∷ [])
+      (r .lane ∷ r .offset ∷ r .length ∷ r .frame ∷ r .count ∷ r .apid ∷ r .sequence ∷ r .span ∷ []) (text "\n") ≡ rowText r
+  unfolding strung rowText placeText frameText packetText spanText
   packet-strung h = rw h (simp append-assoc)
 
-  pub access-strung : r .packets ≡ false → strung ([] ∷ text "," ∷ text "," ∷ text "," ∷ text "," ∷ []) fields (text ",," ++ text "\n") ≡ rowText r
-  unfolding strung rowText placeText frameText packetText
+  pub access-strung : r .packets ≡ false
+      → strung ([] ∷ text "," ∷ text "," ∷ text "," ∷ text "," ∷ (text ",," ++ text ",") ∷ [])
+      (r .lane ∷ r .offset ∷ r .length ∷ r .frame ∷ r .count ∷ r .span ∷ []) (text "\n") ≡ rowText r
+  unfolding strung rowText placeText frameText packetText spanText
   access-strung h = rw h (simp append-assoc)

@@ -18,7 +18,7 @@ use Rattle.unit_table.specs.declared.Origin.{Origin}
 use Rattle.unit_table.specs.declared.Row.{Row}
 
 unfoldable pub tableTitle : List ℕ
-tableTitle = text "lane,offset,length,frame,count,apid,sequence\n"
+tableTitle = text "lane,offset,length,frame,count,apid,sequence,span\n"
 
 -- ---- where a read's units come from
 
@@ -49,7 +49,7 @@ apid xs = bits 4 5 11 xs
 unfoldable pub sequence : List ℕ → ℕ
 sequence xs = bits 4 18 14 xs
 
--- Unit i of a read, by its record (lane 1, virtual channel 1, map 1, service 1, start 4, length 4, count 4) and the unit octets.
+-- Unit i of a read, by its record (lane 1, virtual channel 1, map 1, service 1, start 4, length 4, count 8, span 4) and the unit octets.
 unfoldable pub rowOf : Origin → List ℕ → List ℕ → ℕ → Row
 rowOf g units records i =
     record {
@@ -57,9 +57,10 @@ rowOf g units records i =
       frame = g .frame;
       lane = numberAt records (recordSize * i) 1;
       length = numberAt records (recordSize * i + 8) 4;
-      count = numberAt records (recordSize * i + 12) 4;
+      count = numberAt records (recordSize * i + 12) 8;
       apid = apid (drop (numberAt records (recordSize * i + 4) 4) units);
       sequence = sequence (drop (numberAt records (recordSize * i + 4) 4) units);
+      span = numberAt records (recordSize * i + 20) 4;
       packets = g .packets;
     }
 
@@ -71,12 +72,16 @@ placeText r = decimal (r .lane) ++ (text "," ++ decimal (r .offset)) ++ (text ",
 unfoldable pub frameText : Row → List ℕ
 frameText r = text "," ++ decimal (r .frame) ++ (text "," ++ decimal (r .count))
 
--- "... of a packet lane's unit its APID and its sequence count; of an access lane's unit two empty fields."
+-- "... of a packet lane's unit its APID and its sequence count; of an access lane's unit two empty fields; ..."
 unfoldable pub packetText : Row → List ℕ
 packetText r = cond (r .packets) (text "," ++ decimal (r .apid) ++ (text "," ++ decimal (r .sequence))) (text ",,")
 
+-- "... the record's span."
+unfoldable pub spanText : Row → List ℕ
+spanText r = text "," ++ decimal (r .span)
+
 unfoldable pub rowText : Row → List ℕ
-rowText r = placeText r ++ frameText r ++ packetText r ++ text "\n"
+rowText r = placeText r ++ frameText r ++ packetText r ++ spanText r ++ text "\n"
 
 -- The lines of a read that gave n units.
 unfoldable pub rowsText : Origin → ℕ → List ℕ → List ℕ → List ℕ

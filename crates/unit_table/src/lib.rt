@@ -29,6 +29,7 @@ pub struct Row {
     pub count: u64,
     pub apid: u64,
     pub sequence: u64,
+    pub span: u64,
     pub packets: bool,
 }
 
@@ -116,7 +117,8 @@ fn row_of(g: Origin, units: &[u8], records: &[u8], i: usize) -> Row
     let lane = number_at(records, at, 1);
     let start = number_at(records, at + 4, 4);
     let length = number_at(records, at + 8, 4);
-    let count = number_at(records, at + 12, 4);
+    let count = number_at(records, at + 12, 8);
+    let span = number_at(records, at + 20, 4);
     let front = number_at(units, start as usize, 4);
     let offset = unpack_text::add(g.base, start);
     Row {
@@ -127,48 +129,51 @@ fn row_of(g: Origin, units: &[u8], records: &[u8], i: usize) -> Row
         count: count,
         apid: front / 65536 % 2048,
         sequence: front % 16384,
+        span: span,
         packets: g.packets,
     }
 }
 
 // Puts the line of a unit; what a packet says of itself is not said of an access unit.
 fn put_row(area: &mut [u8], from: usize, r: Row) -> usize
-    requires { ⌜ from + 147 ≤ length (now area) ⌝ }
-    ensures { λ e. ⌜ Wrote 147 (rowText r) (now (area .entry)) from (now (area .exit)) e ⌝ }
+    requires { ⌜ from + 168 ≤ length (now area) ⌝ }
+    ensures { λ e. ⌜ Wrote 168 (rowText r) (now (area .entry)) from (now (area .exit)) e ⌝ }
 {
-    let values = [
-        r.lane,
-        r.offset,
-        r.length,
-        r.frame,
-        r.count,
-        r.apid,
-        r.sequence,
-    ];
     if r.packets {
-        return listing_text::put_filled(area, from, b"#,#,#,#,#,#,#\n", &values);
+        let values = [
+            r.lane,
+            r.offset,
+            r.length,
+            r.frame,
+            r.count,
+            r.apid,
+            r.sequence,
+            r.span,
+        ];
+        return listing_text::put_filled(area, from, b"#,#,#,#,#,#,#,#\n", &values);
     }
-    listing_text::put_filled(area, from, b"#,#,#,#,#,,\n", &values)
+    let values = [r.lane, r.offset, r.length, r.frame, r.count, r.span];
+    listing_text::put_filled(area, from, b"#,#,#,#,#,,,#\n", &values)
 }
 
 // ---- the table
 
 // Puts the title.
 pub fn put_title(area: &mut [u8], from: usize) -> usize
-    requires { ⌜ from + 45 ≤ length (now area) ⌝ }
-    ensures { λ r. ⌜ Wrote 45 tableTitle (now (area .entry)) from (now (area .exit)) r ⌝ }
+    requires { ⌜ from + 50 ≤ length (now area) ⌝ }
+    ensures { λ r. ⌜ Wrote 50 tableTitle (now (area .entry)) from (now (area .exit)) r ⌝ }
 {
     listing_text::put_text(
         area,
         from,
-        b"lane,offset,length,frame,count,apid,sequence\n",
+        b"lane,offset,length,frame,count,apid,sequence,span\n",
     )
 }
 
 // Puts the lines of a read that gave n units.
 pub fn put_rows(area: &mut [u8], g: Origin, n: usize, units: &[u8], records: &[u8]) -> usize
-    requires { ⌜ (n ≤ 600) × (88200 ≤ length (now area)) ⌝ }
-    ensures { λ r. ⌜ Wrote 88200 (rowsText g n (now (units .entry)) (now (records .entry))) (now (area .entry)) 0 (now (area .exit)) r ⌝ }
+    requires { ⌜ (n ≤ 600) × (100800 ≤ length (now area)) ⌝ }
+    ensures { λ r. ⌜ Wrote 100800 (rowsText g n (now (units .entry)) (now (records .entry))) (now (area .entry)) 0 (now (area .exit)) r ⌝ }
 {
     let mut at: usize = 0;
     let mut i: usize = 0;

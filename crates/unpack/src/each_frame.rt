@@ -189,7 +189,7 @@ fn hand_rows(g: Origin, n: usize, fds: [i32; 10], units: &[u8], records: &[u8], 
 fn put_table(g: Origin, n: usize, fds: [i32; 10], units: &[u8], records: &[u8]) -> Went
     requires { ⌜ n ≤ 600 ⌝ }
 {
-    let mut area = [0u8; 88200];
+    let mut area = [0u8; 100800];
     let end = unit_table::put_rows(&mut area, g, n, units, records);
     hand_rows(g, n, fds, units, records, &area[..end])
 }
@@ -463,7 +463,7 @@ fn hand_table(fds: [i32; 10], text: &[u8]) -> Went
 pub fn start_table(o: Sinks) -> Went {
     if o.table {
         let fds = o.fds;
-        let mut area = [0u8; 45];
+        let mut area = [0u8; 50];
         let end = unit_table::put_title(&mut area, 0);
         return hand_table(fds, &area[..end]);
     }

@@ -1,4 +1,4 @@
--- Seven numbers, or five and two empty fields.
+-- Eight numbers, or six with two empty fields before the last.
 use mathlib.Core.Path.{refl}
 use lib.Dec.{lit≤}
 use Rattle.rules.specs.Listing.{text}
@@ -41,7 +41,7 @@ same-length-2 c = search needs
 returns-2 : tie.Need-returns-2
 unfolding text marked plain plains
 returns-2 c =
-    wrote-more 147 (lit≤ tt) (wrote-filled _ _ _ (access-strung _ (c .before .before .before .before .before .before .if1 .left)) refl
+    wrote-more 168 (lit≤ tt) (wrote-filled _ _ _ (access-strung _ (c .before .before .before .before .before .before .if1 .left)) refl
     (c .before .before .put-filled2 .ensures))
 
 pub put-row-spec : {M : Type 1} → statement M

@@ -33,6 +33,12 @@ number-at-requires-4 c κs = search needs
 number-at-requires-5 : tie.Need-number-at-requires-5
 number-at-requires-5 c κs = search needs
 
+add-number-at-4 : tie.Need-add-number-at-4
+add-number-at-4 c = search needs
+
+number-at-requires-6 : tie.Need-number-at-requires-6
+number-at-requires-6 c κs = search needs
+
 add-requires : tie.Need-add-requires
 add-requires c κs = search needs
 
@@ -40,11 +46,12 @@ returns : tie.Need-returns
 unfolding rowOf apid sequence bits numberAt
 returns c = rw (
   c .add .ensures,
-  c .before .number-at5 .ensures,
-  c .before .before .number-at4 .ensures,
-  c .before .before .before .number-at3 .ensures,
-  c .before .before .before .before .number-at2 .ensures,
-  c .before .before .before .before .before .number-at .ensures,
+  c .before .number-at6 .ensures,
+  c .before .before .number-at5 .ensures,
+  c .before .before .before .number-at4 .ensures,
+  c .before .before .before .before .number-at3 .ensures,
+  c .before .before .before .before .before .number-at2 .ensures,
+  c .before .before .before .before .before .before .number-at .ensures,
   div-one,
 )
 
@@ -60,6 +67,8 @@ row-of-spec =
     number-at-requires-3
     add-number-at-3
     number-at-requires-4
+    add-number-at-4
     number-at-requires-5
+    number-at-requires-6
     add-requires
     returns)

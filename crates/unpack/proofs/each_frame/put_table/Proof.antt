@@ -12,7 +12,7 @@ slice-aggregate-put-rows : tie.Need-slice-aggregate-put-rows
 slice-aggregate-put-rows c = search needs
 
 put-rows-requires : tie.Need-put-rows-requires
-put-rows-requires c κs = (c .before .before .before .pre, subst (λ (n : ℕ). 88200 ≤ n) (sym (length-replicate {A = ℕ} 88200 0)) (le-refl 88200))
+put-rows-requires c κs = (c .before .before .before .pre, subst (λ (n : ℕ). 100800 ≤ n) (sym (length-replicate {A = ℕ} 100800 0)) (le-refl 100800))
 
 array-share-prefix-area : tie.Need-array-share-prefix-area
 array-share-prefix-area c = search needs
