@@ -1,4 +1,4 @@
-//! The work that docs/FIGURES.md counts, by a Rust program that is made to be quick: what ours is held against. Written from document 01.
+//! The work that docs/FIGURES.md counts, by a Rust program that is made to be quick: what ours is held against. Written from document 01, with A2 and A3 of document 02.
 //! Its calls are the paper's: a read is lent a frame and the areas, a write a lane and its batch, and each call judges what it is lent. A
 //! setting is judged once, in set-up; the states are kept in their place and can be changed by the calls alone, so that they stay valid. No call
 //! asks for memory. The frame check goes eight octets at a time, by tables (slicing by eight); built with --cfg 'check="table"' it goes an octet
@@ -218,15 +218,23 @@ fn idle_run(octets: &[u8]) -> usize {
 const HELD: usize = 65_536;
 const PART: usize = 8_192;
 const UNITS: usize = 12_288;
-const RECORDS: usize = 9_600;
+const RECORDS: usize = 14_400;
+const RECORD: usize = 24;
 
 struct Reader {
     setting: Setting,
     places: Vec<Place>,
     /// The count that each channel expects, once one was taken.
     expected: Vec<Option<u64>>,
-    /// How many octets each lane holds.
-    held: Vec<usize>,
+    /// What each lane holds.
+    held: Vec<Held>,
+}
+
+/// Octets that a lane holds, and the frames of the lane that carry them.
+#[derive(Clone, Copy, Default)]
+struct Held {
+    octets: usize,
+    span: u32,
 }
 
 struct Areas<'a> {
@@ -265,10 +273,10 @@ impl Answer {
 #[derive(Clone, Copy)]
 struct Common {
     head: [u8; 4],
-    count: u32,
+    count: u64,
 }
 
-/// Hands out a unit of two parts, the second behind the first.
+/// Hands out a unit of two parts, the second behind the first, that so many frames carry.
 #[inline(always)]
 fn hand_out(
     answer: &mut Answer,
@@ -276,6 +284,7 @@ fn hand_out(
     common: Common,
     first: Option<std::ops::Range<usize>>,
     second: &[u8],
+    span: u32,
 ) {
     let start = answer.octets;
     let mut end = start;
@@ -285,11 +294,13 @@ fn hand_out(
     }
     areas.units[end..end + second.len()].copy_from_slice(second);
     end += second.len();
-    let record: &mut [u8; 16] = (&mut areas.records[16 * answer.units..16 * answer.units + 16]).try_into().unwrap();
+    let at = RECORD * answer.units;
+    let record: &mut [u8; RECORD] = (&mut areas.records[at..at + RECORD]).try_into().unwrap();
     record[..4].copy_from_slice(&common.head);
     record[4..8].copy_from_slice(&(start as u32).to_be_bytes());
     record[8..12].copy_from_slice(&((end - start) as u32).to_be_bytes());
-    record[12..].copy_from_slice(&common.count.to_be_bytes());
+    record[12..20].copy_from_slice(&common.count.to_be_bytes());
+    record[20..].copy_from_slice(&span.to_be_bytes());
     answer.units += 1;
     answer.octets = end;
 }
@@ -299,7 +310,7 @@ impl Reader {
         if !setting.valid() {
             return None;
         }
-        let (expected, held) = (vec![None; setting.channels.len()], vec![0; setting.lanes.len()]);
+        let (expected, held) = (vec![None; setting.channels.len()], vec![Held::default(); setting.lanes.len()]);
         Some(Reader { places: places(&setting), expected, held, setting })
     }
 
@@ -372,8 +383,7 @@ impl Reader {
         self.take(place, count, &mut answer);
         let zone = &frame[data_field + 3..data_field + 3 + zone];
         let pointer = Some(pointer).filter(|&pointer| pointer != 0xFFFF);
-        let common =
-            Common { head: [lane as u8, channel.virtual_channel, of.map, channel.service], count: count as u32 };
+        let common = Common { head: [lane as u8, channel.virtual_channel, of.map, channel.service], count };
         match of.kind {
             Kind::Packets => self.packets(lane, zone, pointer, common, areas, &mut answer),
             Kind::Access => self.access(lane, zone, rule, pointer, common, areas, &mut answer),
@@ -397,8 +407,8 @@ impl Reader {
         if answer.missing != 0 {
             for (lane, held) in self.setting.lanes.iter().zip(&mut self.held) {
                 if usize::from(lane.channel) == place {
-                    answer.dropped += *held;
-                    *held = 0;
+                    answer.dropped += held.octets;
+                    *held = Held::default();
                 }
             }
         }
@@ -416,9 +426,8 @@ impl Reader {
         let longest = usize::from(self.setting.lanes[lane].longest);
         let begin = lane * PART;
         let lead = &zone[..pointer.unwrap_or(zone.len())];
-        let held = self.held[lane];
-        self.held[lane] = 0;
-        if held == 0 {
+        let held = std::mem::take(&mut self.held[lane]);
+        if held.octets == 0 {
             answer.dropped += lead.len();
         } else {
             self.join(lane, held, lead, pointer, common, areas, answer);
@@ -438,7 +447,7 @@ impl Reader {
                     if idle {
                         answer.idle += length;
                     } else {
-                        hand_out(answer, areas, common, None, &rest[..length]);
+                        hand_out(answer, areas, common, None, &rest[..length], 1);
                     }
                     at += length;
                 }
@@ -452,7 +461,7 @@ impl Reader {
                 }
                 _ => {
                     areas.held[begin..begin + rest.len()].copy_from_slice(rest);
-                    self.held[lane] = rest.len();
+                    self.held[lane] = Held { octets: rest.len(), span: 1 };
                     return;
                 }
             }
@@ -463,7 +472,7 @@ impl Reader {
     fn join(
         &mut self,
         lane: usize,
-        held: usize,
+        before: Held,
         lead: &[u8],
         pointer: Option<usize>,
         common: Common,
@@ -472,6 +481,7 @@ impl Reader {
     ) {
         let longest = usize::from(self.setting.lanes[lane].longest);
         let begin = lane * PART;
+        let held = before.octets;
         let all = held + lead.len();
         let measured = if held >= 6 {
             measure(&areas.held[begin..begin + held])
@@ -492,12 +502,12 @@ impl Reader {
                 if idle {
                     answer.idle += all;
                 } else {
-                    hand_out(answer, areas, common, Some(begin..begin + held), lead);
+                    hand_out(answer, areas, common, Some(begin..begin + held), lead, before.span + 1);
                 }
             }
-            Measure::TooFew => self.goes_on(lane, held, lead, pointer, areas, answer),
+            Measure::TooFew => self.goes_on(lane, before, lead, pointer, areas, answer),
             Measure::Long { length, .. } if length > all && length <= longest => {
-                self.goes_on(lane, held, lead, pointer, areas, answer)
+                self.goes_on(lane, before, lead, pointer, areas, answer)
             }
             _ => fails(answer),
         }
@@ -507,18 +517,19 @@ impl Reader {
     fn goes_on(
         &mut self,
         lane: usize,
-        held: usize,
+        before: Held,
         lead: &[u8],
         pointer: Option<usize>,
         areas: &mut Areas,
         answer: &mut Answer,
     ) {
         let begin = lane * PART;
+        let Held { octets: held, span } = before;
         if pointer.is_some() {
             answer.dropped += held + lead.len();
         } else {
             areas.held[begin + held..begin + held + lead.len()].copy_from_slice(lead);
-            self.held[lane] = held + lead.len();
+            self.held[lane] = Held { octets: held + lead.len(), span: span + 1 };
         }
     }
 
@@ -536,21 +547,20 @@ impl Reader {
         let begin = lane * PART;
         let octets = &zone[..pointer.map_or(zone.len(), |last| last + 1)];
         answer.fill = zone.len() - octets.len();
-        let mut held = self.held[lane];
-        self.held[lane] = 0;
+        let Held { octets: mut held, mut span } = std::mem::take(&mut self.held[lane]);
         if rule == 1 {
             answer.dropped += held;
-            held = 0;
+            (held, span) = (0, 0);
         } else if held == 0 {
             answer.dropped += octets.len();
             return;
         }
         let all = held + octets.len();
         if pointer.is_some() && all <= longest {
-            hand_out(answer, areas, common, Some(begin..begin + held), octets);
+            hand_out(answer, areas, common, Some(begin..begin + held), octets, span + 1);
         } else if pointer.is_none() && all < longest {
             areas.held[begin + held..begin + all].copy_from_slice(octets);
-            self.held[lane] = all;
+            self.held[lane] = Held { octets: all, span: span + 1 };
         } else {
             answer.dropped += all;
         }
@@ -728,7 +738,7 @@ fn read(length: usize, check: bool, shown: Shown) -> Option<(u64, u64)> {
         match shown {
             Shown::Nothing => {}
             Shown::Units => out.write_all(&units[..a.octets]).unwrap(),
-            Shown::Records => out.write_all(&records[..16 * a.units]).unwrap(),
+            Shown::Records => out.write_all(&records[..RECORD * a.units]).unwrap(),
         }
         let counted = plus(plus(a.units as u64, a.octets as u64), plus(a.idle as u64, a.dropped as u64));
         black_box((a.class, a.fill));
