@@ -1,7 +1,7 @@
 -- Handing out, one after another: what two steps leave is what both at once would, and there is room for the second once there is for both.
 use mathlib.Core.Path.{_≡_, refl, sym, ap, ap₂, _∙_}
 use mathlib.Core.List.{List, [], _∷_, _++_, append-assoc, append-nil}
-use Prim.Native.Nat.{ℕ, _+_, _*_, _≤_, _<_}
+use Prim.Native.Nat.{ℕ, _+_, _*_, _≤_}
 use native.Mathlib.Nat.{zero-add, add-zero, add-assoc}
 use native.Mathlib.Omega.{arith}
 use lib.ListN.{length, take, drop, length-append}
@@ -10,7 +10,7 @@ use Rattle.rules.specs.declared.Info.{Info}
 use Rattle.rules.specs.Octets.{be}
 use Rattle.rules.specs.Areas.{laid, joined, recordSize}
 use Rattle.rules.specs.Settings.{noSlot}
-use Rattle.rules.specs.Reading.{DataUnit, noUnit, carries, unitFrom, octetsOf, Made, nothing, hands, idles, both, recordOf, recordsFrom}
+use Rattle.rules.specs.Reading.{DataUnit, noUnit, unitFrom, octetsOf, Made, nothing, hands, idles, both, recordOf, recordsFrom}
 use Rattle.rules.proofs.Octets.{length-be}
 use Rattle.rules.proofs.Areas.{laid-nil, laid-laid, length-laid}
 use Rattle.rules.proofs.Lanes.{octets-append, octets-both}
@@ -64,20 +64,6 @@ record-laid area from i start size span room whose s n k p =
     let b = number-laid area from _ 8 4 size (omega arith) a n in
     let c = number-laid area from _ 12 8 (i .count) (omega arith) b k in
     number-laid area from _ 20 4 span (omega arith) c p .0
-
--- ---- spans
-
--- A frame that carries a unit has an octet of it,
-pub carries-few : (xs : List ℕ) → carries xs ≤ length xs
-unfolding carries
-carries-few [] = omega arith
-carries-few (x ∷ xs) = omega arith
-
--- and one that has an octet of it carries it.
-pub carries-some : (xs : List ℕ) → 0 < length xs → carries xs ≡ 1
-unfolding carries
-carries-some [] h = absurd (omega arith)
-carries-some (x ∷ xs) h = refl
 
 -- ---- one after the other, of what is made
 

@@ -293,6 +293,12 @@ pub record MadeSound (m : Made) : Type 0 where
 none-sound : Sound noUnit
 none-sound = record { within = omega arith; some = λ h. h }
 
+-- A frame that carries a unit has an octet of it, and one that has an octet of it carries it.
+pub carries-few : (xs : List ℕ) → carries xs ≤ length xs
+unfolding carries
+carries-few [] = omega arith
+carries-few (x ∷ xs) = omega arith
+
 pub carries-some : (xs : List ℕ) → 0 < length xs → carries xs ≡ 1
 unfolding carries
 carries-some [] h = absurd (not-suc-le-zero h)

@@ -1,7 +1,7 @@
 -- A frame that has octets of a unit carries it, and one that has none does not.
 use mathlib.Core.Path.{sym}
 use native.Mathlib.Omega.{arith}
-use Rattle.lanes.proofs.Hands.{carries-few, carries-some}
+use Rattle.rules.proofs.Lanes.{carries-few, carries-some}
 use Rattle.lanes.proofs.units.carried.Statement.{statement}
 use Rattle.lanes.proofs.units.carried.Tie as tie
 

@@ -8,7 +8,8 @@ use borrow.Author.Needs.{needs}
 use Rattle.rules.specs.Areas.{laid, recordSize}
 use Rattle.rules.specs.Reading.{recordOf}
 use Rattle.rules.proofs.Areas.{laid-laid}
-use Rattle.lanes.proofs.Hands.{carries-few, two-fit, one-handed}
+use Rattle.rules.proofs.Lanes.{carries-few}
+use Rattle.lanes.proofs.Hands.{two-fit, one-handed}
 use Rattle.lanes.proofs.units.hand_out.Statement.{statement}
 use Rattle.lanes.proofs.units.hand_out.Tie as tie
 

@@ -3,7 +3,8 @@
 use mathlib.Core.Path.{refl, sym, _∙_}
 use native.Mathlib.Omega.{arith}
 use borrow.Author.Needs.{needs}
-use Rattle.lanes.proofs.Hands.{carries-few, held-length, only-counted, part-stays, follow-length, follow-laid}
+use Rattle.rules.proofs.Lanes.{carries-few}
+use Rattle.lanes.proofs.Hands.{held-length, only-counted, part-stays, follow-length, follow-laid}
 use Rattle.lanes.proofs.units.settle.Statement.{statement}
 use Rattle.lanes.proofs.units.settle.Tie as tie
 

@@ -5,7 +5,8 @@ use native.Mathlib.Omega.{arith}
 use lib.ListN.{drop, length-drop}
 use borrow.Author.Needs.{needs}
 use Rattle.rules.specs.Areas.{laid}
-use Rattle.lanes.proofs.Hands.{carries-some, begun-room, begun-went, only-counted, part-stays}
+use Rattle.rules.proofs.Lanes.{carries-some}
+use Rattle.lanes.proofs.Hands.{begun-room, begun-went, only-counted, part-stays}
 use Rattle.lanes.proofs.Walking.{rest-lent}
 use Rattle.lanes.proofs.walks.walk_step.Statement.{statement}
 use Rattle.lanes.proofs.walks.walk_step.Tie as tie
