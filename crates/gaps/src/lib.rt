@@ -73,7 +73,7 @@ fn lost_of(s: Setting, c: usize, slots: [Slot; 8]) -> usize
         let a = lanes[i];
         if a.channel as usize == c {
             let x = slots[i];
-            lost += x.held;
+            lost += x.held as usize;
         }
         i += 1;
     }

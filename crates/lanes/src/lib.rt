@@ -52,10 +52,10 @@ fn measure_of(first: &[u8], second: &[u8]) -> Measure
 // How a lane begins its step: some octets are only counted, as fill or as dropped. `slot` is what it goes on with, all that it holds or nothing: that and
 // `size` octets of the zone become what `fate` says. There the step `stops`, or else packets are read from there on.
 struct Opening {
-    slot: Slot,
     size: usize,
     fill: usize,
     dropped: usize,
+    slot: Slot,
     fate: Fate,
     stops: bool,
 }
@@ -78,10 +78,10 @@ fn packet_opening(longest: usize, place: Place, slot: Slot, held: &[u8], zone: &
         Place::At(p) => {
             let fate = lead_of(longest, false, held, &zone[..p]);
             Opening {
-                slot: slot,
                 size: p,
                 fill: 0,
                 dropped: 0,
+                slot: slot,
                 fate: fate,
                 stops: false,
             }
@@ -89,10 +89,10 @@ fn packet_opening(longest: usize, place: Place, slot: Slot, held: &[u8], zone: &
         Place::Nowhere => {
             let fate = lead_of(longest, true, held, zone);
             Opening {
-                slot: slot,
                 size: zone.len(),
                 fill: 0,
                 dropped: 0,
+                slot: slot,
                 fate: fate,
                 stops: true,
             }
@@ -112,25 +112,25 @@ fn portion_opening(
 ) -> Opening
     ensures { λ r. ⌜ r ≡ portionOpening longest finished begins slot size fill ⌝ }
 {
-    let h = slot.held;
+    let h = slot.held as usize;
     if begins {
         let fate = fates::unit_fate(longest, finished, size);
         let none = Slot { held: 0, span: 0 };
         return Opening {
-            slot: none,
             size: size,
             fill: fill,
             dropped: h,
+            slot: none,
             fate: fate,
             stops: true,
         };
     }
     let fate = fates::follow_fate(longest, finished, h, size);
     Opening {
-        slot: slot,
         size: size,
         fill: fill,
         dropped: 0,
+        slot: slot,
         fate: fate,
         stops: true,
     }
@@ -178,7 +178,7 @@ pub fn lane_step(
     requires { ⌜ Lent terms slot place (now zone) (now part) (now units) (now records) ⌝ }
     ensures { λ r. ⌜ Stepped (terms .info) (laneStep (terms .kind) (terms .longest) rule (heldIn slot (now (part .entry))) place (now (zone .entry))) (now (part .entry)) (now (units .entry)) (now (records .entry)) r (now (part .exit)) (now (units .exit)) (now (records .exit)) ⌝ }
 {
-    let h = slot.held;
+    let h = slot.held as usize;
     let o = opening_of(terms, slot, place, rule, &part[..h], zone);
     let t = Tally {
         count: 0,

@@ -108,12 +108,13 @@ pub fn settle(
 {
     let slot = s.slot;
     let none = Slot { held: 0, span: 0 };
-    let h = slot.held;
+    let h = slot.held as usize;
     let n = h + next.len();
     let mut t = s.tally;
     match fate {
         Fate::Hand => {
-            t = hand_out(info, t, slot.span, &part[..h], next, units, records);
+            let span = slot.span as usize;
+            t = hand_out(info, t, span, &part[..h], next, units, records);
             return Stand {
                 tally: t,
                 slot: none,
@@ -130,8 +131,8 @@ pub fn settle(
             octets::lay(part, h, next);
             let more = carried(next);
             let kept = Slot {
-                held: n,
-                span: slot.span + more,
+                held: n as u16,
+                span: slot.span + more as u16,
             };
             return Stand {
                 tally: t,

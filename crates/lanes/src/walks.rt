@@ -2,6 +2,7 @@
 ghost use mathlib.Core.Path.{_≡_};
 ghost use Prim.Native.Nat.{_≤_};
 ghost use lib.ListN.{length, drop};
+ghost use Rattle.rules.specs.Areas.{unitsSize};
 ghost use Rattle.rules.specs.Packets.{measure};
 ghost use Rattle.rules.specs.Reading.{nextOf, walk};
 ghost use Rattle.lanes.specs.Hands.{Room, Went};
@@ -103,7 +104,7 @@ pub fn walk_step(
     units: &mut [u8],
     records: &mut [u8],
 ) -> Stand
-    requires { ⌜ (from ≤ length (now zone)) × (length (now zone) ≤ length (now part)) × Room t (now units) (now records) (walk (terms .longest) (drop from (now zone))) ⌝ }
+    requires { ⌜ (from ≤ length (now zone)) × (length (now zone) ≤ length (now part)) × (length (now zone) ≤ unitsSize) × Room t (now units) (now records) (walk (terms .longest) (drop from (now zone))) ⌝ }
     ensures { λ r. ⌜ Went (terms .info) t (now (units .entry)) (now (records .entry)) (now (part .entry)) (walk (terms .longest) (drop from (now (zone .entry)))) r (now (units .exit)) (now (records .exit)) (now (part .exit)) ⌝ }
 {
     let n = zone.len();
@@ -122,7 +123,7 @@ pub fn walk_step(
             let rest = n - at;
             octets::lay(part, 0, &zone[at..]);
             let kept = Slot {
-                held: rest,
+                held: rest as u16,
                 span: 1,
             };
             return Stand {

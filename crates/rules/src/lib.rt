@@ -64,10 +64,11 @@ pub struct Expects {
     pub known: [bool; 8],
 }
 
-// What a reader keeps of a lane: how many octets it holds, and how many frames of the lane carry them.
+// What a reader keeps of a lane: how many octets it holds, and how many frames of the lane carry them. A lane holds fewer than 8,192 octets, so
+// two octets are enough for each.
 pub struct Slot {
-    pub held: usize,
-    pub span: usize,
+    pub held: u16,
+    pub span: u16,
 }
 
 // A reader's state: of each channel the count that it expects, of each lane its slot.

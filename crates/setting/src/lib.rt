@@ -369,7 +369,7 @@ fn counts_ok(s: Setting, counts: [u64; 8]) -> bool
 fn slot_ok(longest: usize, x: Slot) -> bool
     ensures { λ b. ⌜ b ≡ slotOk longest x ⌝ }
 {
-    if longest <= x.held {
+    if longest <= x.held as usize {
         return false;
     }
     if x.held < x.span {

@@ -33,6 +33,9 @@ mul-x c = search needs
 array-copy-out-x : tie.Need-array-copy-out-x Inv-loop μ-loop
 array-copy-out-x c = search needs
 
+cast-lost : tie.Need-cast-lost Inv-loop μ-loop
+cast-lost c = search needs
+
 add-lost : tie.Need-add-lost Inv-loop μ-loop
 add-lost c =
     let l = c .before .before .before .before .before .before in
@@ -74,6 +77,7 @@ lost-of-spec =
     cast-if1
     mul-x
     array-copy-out-x
+    cast-lost
     add-lost
     add-i
     loop-less

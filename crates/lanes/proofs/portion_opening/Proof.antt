@@ -4,6 +4,9 @@ use Rattle.lanes.specs.Steps.{portionOpening}
 use Rattle.lanes.proofs.portion_opening.Statement.{statement}
 use Rattle.lanes.proofs.portion_opening.Tie as tie
 
+cast-h : tie.Need-cast-h
+cast-h c = search needs
+
 unit-fate-requires : tie.Need-unit-fate-requires
 unit-fate-requires c κs = search needs
 
@@ -20,4 +23,4 @@ returns-2 c = rw (c .before .if1 .left, c .follow-fate .ensures)
 
 pub portion-opening-spec : {M : Type 1} → statement M
 portion-opening-spec =
-    tie.close (tie.spec unit-fate-requires returns follow-fate-requires returns-2)
+    tie.close (tie.spec cast-h unit-fate-requires returns follow-fate-requires returns-2)

@@ -10,6 +10,9 @@ mul-x c = search needs
 array-copy-out-x : tie.Need-array-copy-out-x
 array-copy-out-x c = search needs
 
+cast-result : tie.Need-cast-result
+cast-result c = search needs
+
 returns : tie.Need-returns
 returns c = search needs
 
@@ -17,4 +20,4 @@ returns-2 : tie.Need-returns-2
 returns-2 c = slot-out (c .before .args .t1) (c .before .args .i) (search needs)
 
 pub held-by-spec : {M : Type 1} → statement M
-held-by-spec = tie.close (tie.spec mul-x array-copy-out-x returns returns-2)
+held-by-spec = tie.close (tie.spec mul-x array-copy-out-x cast-result returns returns-2)

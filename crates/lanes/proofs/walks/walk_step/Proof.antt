@@ -26,7 +26,7 @@ same-length-2 c = search needs
 returns : tie.Need-returns
 returns c =
     let c₈ = c .before .before .before .before .before .before .before .before in
-    begun-went (c₈ .before .before .before .before .before .before .pre .2)
+    begun-went (c₈ .before .before .before .before .before .before .pre .3)
     (rw (c .enum-told .given .1) at (c .before .before .before .before .before .before .before .walk-on .ensures .begun))
     (part-stays refl (only-counted refl refl refl (omega arith) (omega arith) (omega arith)))
 
@@ -53,6 +53,9 @@ part-lay-end c = search needs
 lay-requires : tie.Need-lay-requires
 lay-requires c κs = search needs
 
+cast-t28 : tie.Need-cast-t28
+cast-t28 c = search needs
+
 same-length-3 : tie.Need-same-length-3
 same-length-3 c = search needs
 
@@ -70,7 +73,7 @@ returns-2 c =
     let from = c .before .before .before .before .before .before .end .given .0 .0 in
     let left = rw (c .before .before .before .before .before .before .end .given .1) at (c₈ .before .before .before .before .before .walk-on .ensures) in
     let n = length-drop from (a .zone .now) in
-    begun-went (c₁₆ .before .before .before .before .pre .2) (left .begun)
+    begun-went (c₁₆ .before .before .before .before .pre .3) (left .begun)
     (record {
       handed = only-counted refl refl refl (omega arith) (omega arith) (omega arith);
       part = c .before .before .lay .ensures ∙ ap (laid (a .part .now) 0) (rest-lent (a .zone .now) from);
@@ -88,7 +91,7 @@ add-s : tie.Need-add-s
 add-s c =
     let c₈ = c .before .before .before .before .before .before .before .before in
     let n = length-drop (c .before .before .end2 .given .0 .0) (c₈ .before .before .before .before .before .before .before .before .args .zone .now) in
-    let q = begun-room (c₈ .before .before .before .before .before .before .before .before .pre .2)
+    let q = begun-room (c₈ .before .before .before .before .before .before .before .before .pre .3)
     (rw (c .before .before .end2 .given .1) at (c₈ .before .walk-on .ensures .begun)) in
     search needs
 
@@ -102,7 +105,7 @@ returns-3 : tie.Need-returns-3
 returns-3 c =
     let c₈ = c .before .before .before .before .before .before .before .before in
     let n = length-drop (c .before .before .end2 .given .0 .0) (c₈ .before .before .before .before .before .before .before .before .args .zone .now) in
-    begun-went (c₈ .before .before .before .before .before .before .before .before .pre .2)
+    begun-went (c₈ .before .before .before .before .before .before .before .before .pre .3)
     (rw (c .before .before .end2 .given .1) at (c₈ .before .walk-on .ensures .begun))
     (part-stays refl (only-counted refl refl refl (omega arith) (omega arith) (omega arith)))
 
@@ -121,6 +124,7 @@ walk-step-spec =
     part-lay-start
     part-lay-end
     lay-requires
+    cast-t28
     same-length-3
     same-length-4
     same-length-5
