@@ -11,12 +11,12 @@ use Rattle.rules.specs.declared.Lane.{Lane}
 use Rattle.rules.specs.declared.Setting.{Setting}
 use Rattle.rules.specs.declared.Expect.{Expect}
 use Rattle.rules.specs.declared.Expects.{Expects}
-use Rattle.rules.specs.declared.Slot.{Slot}
 use Rattle.rules.specs.Settings.{noChannel, expectOn}
 use Rattle.rules.specs.Octets.{be}
 use Rattle.rules.specs.Areas.{laid}
 use Rattle.rules.proofs.Octets.{length-be}
 use Rattle.rules.proofs.Areas.{laid-laid}
+use Rattle.rows.specs.declared.Tail.{Tail}
 use Rattle.rows.specs.Rows.{spelled}
 use Rattle.rows.specs.States.{frontRow, channelRow, laneRow, rows, channelRows, laneRows, stateOctets}
 
@@ -77,12 +77,12 @@ pub channel-long : (c : Channel) (x : Expect) → length (channelRow c x) ≡ 8
 unfolding channelRow
 channel-long c x = refl
 
-pub lane-long : (l : Lane) (x : Slot) → length (laneRow l x) ≡ 8
+pub lane-long : (l : Lane) (x : Tail) → length (laneRow l x) ≡ 8
 unfolding laneRow
 lane-long l x = refl
 
 -- The three parts of a state, one after another.
-pub state-laid : (d₀ d₁ d₂ d₃ row : List ℕ) (k : ℕ) (s : Setting) (xs : Expects) (ys : List Slot) → 64 * k + 1088 ≤ length d₀ → row ≡ frontRow s
+pub state-laid : (d₀ d₁ d₂ d₃ row : List ℕ) (k : ℕ) (s : Setting) (xs : Expects) (ys : List Tail) → 64 * k + 1088 ≤ length d₀ → row ≡ frontRow s
     → d₁ ≡ laid d₀ (64 * k) (spelled row) → d₂ ≡ laid d₁ (64 * (k + 1)) (channelRows (s .channels) xs)
     → d₃ ≡ laid d₂ (64 * (k + 9)) (laneRows (s .lanes) ys) → d₃ ≡ laid d₀ (64 * k) (stateOctets s xs ys)
 unfolding stateOctets channelRows laneRows frontRow

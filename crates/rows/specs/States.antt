@@ -13,6 +13,7 @@ use Rattle.rules.specs.declared.Expects.{Expects}
 use Rattle.rules.specs.declared.Slot.{Slot}
 use Rattle.rules.specs.declared.Reader.{Reader}
 use Rattle.rules.specs.declared.Writer.{Writer}
+use Rattle.rows.specs.declared.Tail.{Tail}
 use Rattle.rules.specs.Tests.{_=?_}
 use Rattle.rules.specs.Octets.{flag}
 use Rattle.rules.specs.Settings.{noChannel, noLane, noSlot, expectOn}
@@ -39,10 +40,11 @@ slots z f (suc n) = set (slots z f n) n (f n)
 unfoldable pub channelsIn : List ℕ → ℕ → List Channel
 channelsIn xs k = slots noChannel (λ (i : ℕ). channelIn xs (8 * (k + i))) 8
 
--- The counts, and whether each is expected, behind the channels' numbers.
+-- Number 5 of each of eight rows: behind a channel's numbers its count, behind a lane's a writer's next frame number.
 unfoldable pub countsIn : List ℕ → ℕ → List ℕ
 countsIn xs k = slots 0 (λ (i : ℕ). word xs (8 * (k + i) + 5)) 8
 
+-- Whether each count is expected.
 unfoldable pub knownIn : List ℕ → ℕ → List Bool
 knownIn xs k = slots false (λ (i : ℕ). word xs (8 * (k + i) + 4) =? 1) 8
 
@@ -51,7 +53,7 @@ lanesIn xs k = slots noLane (λ (i : ℕ). laneIn xs (8 * (k + i))) 8
 
 -- What is kept of a lane, behind its numbers.
 unfoldable pub slotIn : List ℕ → ℕ → Slot
-slotIn xs i = record { held = word xs (i + 5); span = word xs (i + 6) }
+slotIn xs i = record { held = word xs (i + 5) % 65536; span = word xs (i + 6) % 65536 }
 
 unfoldable pub slotsIn : List ℕ → ℕ → List Slot
 slotsIn xs k = slots noSlot (λ (i : ℕ). slotIn xs (8 * (k + i))) 8
@@ -75,15 +77,9 @@ settingIn xs k =
 unfoldable pub readerIn : List ℕ → ℕ → Reader
 readerIn xs k = record { setting = settingIn xs k; expects = record { counts = countsIn xs (k + 1); known = knownIn xs (k + 1) }; slots = slotsIn xs (k + 9) }
 
--- How many octets each of eight lanes holds.
-unfoldable pub heldOf : List Slot → List ℕ
-heldOf xs =
-    (getD xs 0 noSlot) .held ∷ (getD xs 1 noSlot) .held ∷ (getD xs 2 noSlot) .held ∷ (getD xs 3 noSlot) .held
-    ∷ (getD xs 4 noSlot) .held ∷ (getD xs 5 noSlot) .held ∷ (getD xs 6 noSlot) .held ∷ (getD xs 7 noSlot) .held ∷ []
-
--- The writer's state from row k on: counts stand for expected counts, next frame numbers for what is held, and a span says nothing.
+-- The writer's state from row k on: counts stand for expected counts, next frame numbers for what is held, whole, and a span says nothing.
 unfoldable pub writerIn : List ℕ → ℕ → Writer
-writerIn xs k = record { setting = settingIn xs k; counts = countsIn xs (k + 1); next = heldOf (slotsIn xs (k + 9)) }
+writerIn xs k = record { setting = settingIn xs k; counts = countsIn xs (k + 1); next = countsIn xs (k + 9) }
 
 -- ---- into octets
 
@@ -97,8 +93,8 @@ abbrev pub kindNumber : Kind → ℕ
 kindNumber Packets = 0
 kindNumber Access = 1
 
-unfoldable pub laneRow : Lane → Slot → List ℕ
-laneRow l x = l .channel ∷ l .map ∷ kindNumber (l .kind) ∷ l .longest ∷ l .upid ∷ x .held ∷ x .span ∷ 0 ∷ []
+unfoldable pub laneRow : Lane → Tail → List ℕ
+laneRow l x = l .channel ∷ l .map ∷ kindNumber (l .kind) ∷ l .longest ∷ l .upid ∷ x .first ∷ x .second ∷ 0 ∷ []
 
 -- The first n of the rows that f says, as octets.
 unfoldable pub rows : (ℕ → List ℕ) → ℕ → List ℕ
@@ -108,28 +104,34 @@ rows f (suc n) = rows f n ++ spelled (f n)
 unfoldable pub channelRows : List Channel → Expects → List ℕ
 channelRows cs xs = rows (λ (i : ℕ). channelRow (getD cs i noChannel) (expectOn xs i)) 8
 
-unfoldable pub laneRows : List Lane → List Slot → List ℕ
-laneRows ls ys = rows (λ (i : ℕ). laneRow (getD ls i noLane) (getD ys i noSlot)) 8
+-- A tail of zeros.
+abbrev pub noTail : Tail
+noTail = record { first = 0; second = 0 }
+
+unfoldable pub laneRows : List Lane → List Tail → List ℕ
+laneRows ls ys = rows (λ (i : ℕ). laneRow (getD ls i noLane) (getD ys i noTail)) 8
 
 -- A state as octets.
-unfoldable pub stateOctets : Setting → Expects → List Slot → List ℕ
+unfoldable pub stateOctets : Setting → Expects → List Tail → List ℕ
 stateOctets s xs ys = spelled (frontRow s) ++ channelRows (s .channels) xs ++ laneRows (s .lanes) ys
 
+-- What is kept of a lane, behind its numbers.
+unfoldable pub tailOf : Slot → Tail
+tailOf x = record { first = x .held; second = x .span }
+
+unfoldable pub tailsOf : List Slot → List Tail
+tailsOf xs = slots noTail (λ (i : ℕ). tailOf (getD xs i noSlot)) 8
+
 unfoldable pub readerOctets : Reader → List ℕ
-readerOctets r = stateOctets (r .setting) (r .expects) (r .slots)
+readerOctets r = stateOctets (r .setting) (r .expects) (tailsOf (r .slots))
 
 -- Counts that are said to be expected by nobody.
 unfoldable pub expectsOf : List ℕ → Expects
 expectsOf ns = record { counts = ns; known = replicate 8 false }
 
--- A slot that holds so many octets, of no frame: a writer's lane has no span.
-abbrev pub holding : ℕ → Slot
-holding n = record { held = n; span = 0 }
-
-unfoldable pub slotsOf : List ℕ → List Slot
-slotsOf ns =
-    holding (getD ns 0 0) ∷ holding (getD ns 1 0) ∷ holding (getD ns 2 0) ∷ holding (getD ns 3 0) ∷ holding (getD ns 4 0) ∷ holding (getD ns 5 0)
-    ∷ holding (getD ns 6 0) ∷ holding (getD ns 7 0) ∷ []
+-- Next frame numbers, behind the lanes' numbers: a writer's lane has no span.
+unfoldable pub tailsOfNext : List ℕ → List Tail
+tailsOfNext ns = slots noTail (λ (i : ℕ). record { first = getD ns i 0; second = 0 }) 8
 
 unfoldable pub writerOctets : Writer → List ℕ
-writerOctets w = stateOctets (w .setting) (expectsOf (w .counts)) (slotsOf (w .next))
+writerOctets w = stateOctets (w .setting) (expectsOf (w .counts)) (tailsOfNext (w .next))

@@ -6,8 +6,9 @@ ghost use Rattle.rules.specs.Octets.{flag};
 ghost use Rattle.rules.specs.Areas.{laid};
 ghost use Rattle.rows.specs.Rows.{word, spelled};
 ghost use Rattle.rows.specs.States.{channelIn, kindIn, laneIn, channelsIn, countsIn, knownIn, lanesIn, slotIn, slotsIn};
-ghost use Rattle.rows.specs.States.{settingIn, readerIn, heldOf, writerIn};
-ghost use Rattle.rows.specs.States.{frontRow, channelRow, kindNumber, laneRow, channelRows, laneRows, stateOctets, readerOctets, expectsOf, slotsOf, writerOctets};
+ghost use Rattle.rows.specs.States.{settingIn, readerIn, writerIn};
+ghost use Rattle.rows.specs.States.{frontRow, channelRow, kindNumber, laneRow, channelRows, laneRows, stateOctets};
+ghost use Rattle.rows.specs.States.{tailOf, tailsOf, readerOctets, expectsOf, tailsOfNext, writerOctets};
 use rules::Channel;
 use rules::Expect;
 use rules::Expects;
@@ -17,6 +18,12 @@ use rules::Reader;
 use rules::Setting;
 use rules::Slot;
 use rules::Writer;
+
+// The two numbers behind a lane's own in its row: of a reader what its slot says, of a writer the next frame number, and 0.
+pub struct Tail {
+    pub first: u64,
+    pub second: u64,
+}
 
 // Number i of some octets.
 pub fn word_in(s: &[u8], i: usize) -> u64
@@ -88,7 +95,7 @@ fn channels_in(s: &[u8], k: usize) -> [Channel; 8]
     r
 }
 
-// The counts behind the eight channels from row k on.
+// Number 5 of each of the eight rows from row k on: the counts behind channels.
 fn counts_in(s: &[u8], k: usize) -> [u64; 8]
     requires { ⌜ 64 * k + 512 ≤ length (now s) ⌝ }
     ensures { λ r. ⌜ r ≡ countsIn (now (s .entry)) k ⌝ }
@@ -146,8 +153,8 @@ fn slot_in(s: &[u8], i: usize) -> Slot
     ensures { λ r. ⌜ r ≡ slotIn (now (s .entry)) i ⌝ }
 {
     Slot {
-        held: word_in(s, i + 5) as usize,
-        span: word_in(s, i + 6) as usize,
+        held: (word_in(s, i + 5) % 65536) as u16,
+        span: (word_in(s, i + 6) % 65536) as u16,
     }
 }
 
@@ -207,19 +214,21 @@ pub fn reader_in(s: &[u8], k: usize) -> Reader
     }
 }
 
-// How many octets each of eight lanes holds.
-fn held_of(x: [Slot; 8]) -> [usize; 8]
-    ensures { λ r. ⌜ r ≡ heldOf x ⌝ }
+// The next frame numbers behind the eight lanes from row k on, where channels have their counts.
+fn next_in(s: &[u8], k: usize) -> [usize; 8]
+    requires { ⌜ 64 * k + 512 ≤ length (now s) ⌝ }
+    ensures { λ r. ⌜ r ≡ countsIn (now (s .entry)) k ⌝ }
 {
+    let n = counts_in(s, k);
     [
-        x[0].held,
-        x[1].held,
-        x[2].held,
-        x[3].held,
-        x[4].held,
-        x[5].held,
-        x[6].held,
-        x[7].held,
+        n[0] as usize,
+        n[1] as usize,
+        n[2] as usize,
+        n[3] as usize,
+        n[4] as usize,
+        n[5] as usize,
+        n[6] as usize,
+        n[7] as usize,
     ]
 }
 
@@ -230,7 +239,7 @@ pub fn writer_in(s: &[u8], k: usize) -> Writer
 {
     let setting = setting_in(s, k);
     let counts = counts_in(s, k + 1);
-    let next = held_of(slots_in(s, k + 9));
+    let next = next_in(s, k + 9);
     Writer {
         setting: setting,
         counts: counts,
@@ -308,8 +317,8 @@ fn channel_row(c: Channel, x: Expect) -> [u64; 8]
     ]
 }
 
-// The row of a lane and of what is kept of it.
-fn lane_row(l: Lane, x: Slot) -> [u64; 8]
+// The row of a lane, with the two numbers behind its own.
+fn lane_row(l: Lane, x: Tail) -> [u64; 8]
     ensures { λ r. ⌜ r ≡ laneRow l x ⌝ }
 {
     let k = l.kind;
@@ -320,8 +329,8 @@ fn lane_row(l: Lane, x: Slot) -> [u64; 8]
         kind,
         l.longest as u64,
         l.upid as u64,
-        x.held as u64,
-        x.span as u64,
+        x.first,
+        x.second,
         0,
     ]
 }
@@ -340,8 +349,8 @@ fn put_channels(area: &mut [u8], k: usize, c: [Channel; 8], x: Expects)
     }
 }
 
-// Lays lanes and what is kept of them into the rows from row k on.
-fn put_lanes(area: &mut [u8], k: usize, l: [Lane; 8], x: [Slot; 8])
+// Lays lanes, with the numbers behind each, into the rows from row k on.
+fn put_lanes(area: &mut [u8], k: usize, l: [Lane; 8], x: [Tail; 8])
     requires { ⌜ 64 * k + 512 ≤ length (now area) ⌝ }
     ensures { λ _. ⌜ now (area .exit) ≡ laid (now (area .entry)) (64 * k) (laneRows l x) ⌝ }
 {
@@ -354,7 +363,7 @@ fn put_lanes(area: &mut [u8], k: usize, l: [Lane; 8], x: [Slot; 8])
 }
 
 // Lays a state into the rows from row k on.
-fn put_state(area: &mut [u8], k: usize, s: Setting, x: Expects, y: [Slot; 8])
+fn put_state(area: &mut [u8], k: usize, s: Setting, x: Expects, y: [Tail; 8])
     requires { ⌜ 64 * k + 1088 ≤ length (now area) ⌝ }
     ensures { λ _. ⌜ now (area .exit) ≡ laid (now (area .entry)) (64 * k) (stateOctets s x y) ⌝ }
 {
@@ -366,6 +375,32 @@ fn put_state(area: &mut [u8], k: usize, s: Setting, x: Expects, y: [Slot; 8])
     put_lanes(area, k + 9, lanes, y);
 }
 
+// What is kept of a lane, behind it.
+fn tail_of(x: Slot) -> Tail
+    ensures { λ r. ⌜ r ≡ tailOf x ⌝ }
+{
+    Tail {
+        first: x.held as u64,
+        second: x.span as u64,
+    }
+}
+
+// What is kept of eight lanes, behind each.
+fn tails_of(x: [Slot; 8]) -> [Tail; 8]
+    ensures { λ r. ⌜ r ≡ tailsOf x ⌝ }
+{
+    [
+        tail_of(x[0]),
+        tail_of(x[1]),
+        tail_of(x[2]),
+        tail_of(x[3]),
+        tail_of(x[4]),
+        tail_of(x[5]),
+        tail_of(x[6]),
+        tail_of(x[7]),
+    ]
+}
+
 // Lays a reader's state into the rows from row k on.
 pub fn put_reader(area: &mut [u8], k: usize, r: Reader)
     requires { ⌜ 64 * k + 1088 ≤ length (now area) ⌝ }
@@ -373,7 +408,8 @@ pub fn put_reader(area: &mut [u8], k: usize, r: Reader)
 {
     let s = r.setting;
     let x = r.expects;
-    let y = r.slots;
+    let slots = r.slots;
+    let y = tails_of(slots);
     put_state(area, k, s, x, y);
 }
 
@@ -387,42 +423,42 @@ fn expects_of(n: [u64; 8]) -> Expects
     }
 }
 
-// Slots for the rows of lanes. A writer has no span.
-fn slots_of(n: [usize; 8]) -> [Slot; 8]
-    ensures { λ r. ⌜ r ≡ slotsOf n ⌝ }
+// Next frame numbers for the rows of lanes.
+fn tails_of_next(n: [usize; 8]) -> [Tail; 8]
+    ensures { λ r. ⌜ r ≡ tailsOfNext n ⌝ }
 {
     [
-        Slot {
-            held: n[0],
-            span: 0,
+        Tail {
+            first: n[0] as u64,
+            second: 0,
         },
-        Slot {
-            held: n[1],
-            span: 0,
+        Tail {
+            first: n[1] as u64,
+            second: 0,
         },
-        Slot {
-            held: n[2],
-            span: 0,
+        Tail {
+            first: n[2] as u64,
+            second: 0,
         },
-        Slot {
-            held: n[3],
-            span: 0,
+        Tail {
+            first: n[3] as u64,
+            second: 0,
         },
-        Slot {
-            held: n[4],
-            span: 0,
+        Tail {
+            first: n[4] as u64,
+            second: 0,
         },
-        Slot {
-            held: n[5],
-            span: 0,
+        Tail {
+            first: n[5] as u64,
+            second: 0,
         },
-        Slot {
-            held: n[6],
-            span: 0,
+        Tail {
+            first: n[6] as u64,
+            second: 0,
         },
-        Slot {
-            held: n[7],
-            span: 0,
+        Tail {
+            first: n[7] as u64,
+            second: 0,
         },
     ]
 }
@@ -436,6 +472,6 @@ pub fn put_writer(area: &mut [u8], k: usize, w: Writer)
     let c = w.counts;
     let x = expects_of(c);
     let n = w.next;
-    let y = slots_of(n);
+    let y = tails_of_next(n);
     put_state(area, k, s, x, y);
 }

@@ -24,12 +24,4 @@ unfolding laneRow
 returns c = rw (c .before .before .before .before .kind-number .ensures)
 
 pub lane-row-spec : {M : Type 1} → statement M
-lane-row-spec =
-    tie.close
-    (tie.spec
-    kind-number-requires
-    cast-t5
-    cast-t6
-    cast-t7
-    cast-t8
-    returns)
+lane-row-spec = tie.close (tie.spec kind-number-requires cast-t5 cast-t6 cast-t7 cast-t8 returns)

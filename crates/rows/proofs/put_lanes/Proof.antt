@@ -5,9 +5,9 @@ use native.Mathlib.Omega.{arith}
 use lib.ListN.{length, getD}
 use borrow.Author.Needs.{needs}
 use Rattle.rules.specs.Areas.{laid}
-use Rattle.rules.specs.Settings.{noLane, noSlot}
+use Rattle.rules.specs.Settings.{noLane}
 use Rattle.rules.proofs.Areas.{laid-nil}
-use Rattle.rows.specs.States.{laneRow, rows, laneRows}
+use Rattle.rows.specs.States.{noTail, laneRow, rows, laneRows}
 use Rattle.rows.proofs.Rows.{rows-turn, rows-all, lane-long}
 use Rattle.rows.proofs.put_lanes.Statement.{statement}
 use Rattle.rows.proofs.put_lanes.Tie as tie
@@ -15,7 +15,7 @@ use Rattle.rows.proofs.put_lanes.Tie as tie
 abbrev Inv-loop : tie.InvT-loop
 Inv-loop area₀ k l x i₀ area i =
     (i ≤ 8) × (length area ≡ length area₀)
-    × (area ≡ laid area₀ (64 * k) (rows (λ (j : ℕ). laneRow (getD l j noLane) (getD x j noSlot)) i))
+    × (area ≡ laid area₀ (64 * k) (rows (λ (j : ℕ). laneRow (getD l j noLane) (getD x j noTail)) i))
 
 abbrev μ-loop : tie.MeasureT-loop
 μ-loop area₀ k l x i₀ area i = 8 - i

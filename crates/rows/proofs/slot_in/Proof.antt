@@ -10,15 +10,30 @@ add-word-in c = search needs
 word-in-requires : tie.Need-word-in-requires
 word-in-requires c κs = search needs
 
+cast-t6 : tie.Need-cast-t6
+cast-t6 c = search needs
+
 add-word-in-2 : tie.Need-add-word-in-2
 add-word-in-2 c = search needs
 
 word-in-requires-2 : tie.Need-word-in-requires-2
 word-in-requires-2 c κs = search needs
 
+cast-t10 : tie.Need-cast-t10
+cast-t10 c = search needs
+
 returns : tie.Need-returns
 unfolding slotIn
 returns c = rw (c .before .word-in .ensures, c .word-in2 .ensures)
 
 pub slot-in-spec : {M : Type 1} → statement M
-slot-in-spec = tie.close (tie.spec add-word-in word-in-requires add-word-in-2 word-in-requires-2 returns)
+slot-in-spec =
+    tie.close
+    (tie.spec
+    add-word-in
+    word-in-requires
+    cast-t6
+    add-word-in-2
+    word-in-requires-2
+    cast-t10
+    returns)

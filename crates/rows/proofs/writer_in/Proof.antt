@@ -13,19 +13,15 @@ add-counts-in c = search needs
 counts-in-requires : tie.Need-counts-in-requires
 counts-in-requires c κs = search needs
 
-add-slots-in : tie.Need-add-slots-in
-add-slots-in c = search needs
+add-next-in : tie.Need-add-next-in
+add-next-in c = search needs
 
-slots-in-requires : tie.Need-slots-in-requires
-slots-in-requires c κs = search needs
-
-held-of-requires : tie.Need-held-of-requires
-held-of-requires c κs = search needs
+next-in-requires : tie.Need-next-in-requires
+next-in-requires c κs = search needs
 
 returns : tie.Need-returns
 unfolding writerIn
-returns c =
-    rw (c .before .before .before .setting-in .ensures, c .before .before .counts-in .ensures, c .held-of .ensures, c .before .slots-in .ensures)
+returns c = rw (c .before .before .setting-in .ensures, c .before .counts-in .ensures, c .next-in .ensures)
 
 pub writer-in-spec : {M : Type 1} → statement M
 writer-in-spec =
@@ -34,7 +30,6 @@ writer-in-spec =
     setting-in-requires
     add-counts-in
     counts-in-requires
-    add-slots-in
-    slots-in-requires
-    held-of-requires
+    add-next-in
+    next-in-requires
     returns)
