@@ -54,7 +54,7 @@ impl Line {
                 octets.truncate(HELD_PART);
                 let span = match span {
                     [] => span_of(octets.len() as u64),
-                    [span, ..] => decimal(span)?,
+                    [span, ..] => kept(decimal(span)?),
                 };
                 Ok(Line::Held { slot: decimal(slot)?, octets, span })
             }
@@ -93,12 +93,17 @@ impl Line {
             ("count", &[slot, number]) => Ok(Line::Count(slot, number)),
             ("next", &[slot, number]) => Ok(Line::Next(slot, number)),
             ("expect", &[slot, known, count]) => Ok(Line::Expect(slot, Expected { known: known == 1, count })),
-            ("hold", &[slot, number]) => Ok(Line::Hold { slot, number, span: span_of(number) }),
-            ("hold", &[slot, number, span]) => Ok(Line::Hold { slot, number, span }),
+            ("hold", &[slot, number]) => Ok(Line::Hold { slot, number: kept(number), span: span_of(kept(number)) }),
+            ("hold", &[slot, number, span]) => Ok(Line::Hold { slot, number: kept(number), span: kept(span) }),
             ("keep", &[length]) => Ok(Line::Keep(length)),
             _ => Err("a line of a script".to_string()),
         }
     }
+}
+
+/// A number that a reader keeps of a lane, of octets or of frames, within its two octets.
+fn kept(number: u64) -> u64 {
+    number % 65_536
 }
 
 /// The span where a line says none: one frame carries what is held.

@@ -482,9 +482,9 @@ impl Script {
             let used = if of_channels { self.setting.channels.len() } else { self.setting.lanes.len() };
             if used < 8 && self.random.one_in(3) {
                 let slot = self.random.between(used as u64, 7);
-                let number = self.great_number();
+                let number = if word == "hold" { self.great_kept() } else { self.great_number() };
                 let flag = if word == "expect" { self.random.pick(&["0 ", "1 "]) } else { "" };
-                let great = format!(" {}", self.great_number());
+                let great = format!(" {}", self.great_kept());
                 let span = if word == "hold" { self.random.pick(&["", " 0", &great]) } else { "" };
                 self.line(&format!("{word} {slot} {flag}{number}{span}"));
             }
@@ -720,6 +720,11 @@ impl Script {
         self.random.pick(&[256, 8_192, 32_768, 65_536, 1 << 56, 1 << 63, u64::MAX])
     }
 
+    /// A number of held octets or of frames that fits no state, or nearly so, of those that a state can say: two octets.
+    fn great_kept(&mut self) -> u64 {
+        self.random.pick(&[256, 8_192, 32_768, 65_535])
+    }
+
     fn check_line(&mut self) {
         let length = self.random.below(40) as usize;
         let octets = self.random.octets(length);
@@ -930,7 +935,7 @@ impl Script {
                     self.read_some_frame();
                     self.held_line(lane, &octets[..longest - 1]);
                 } else {
-                    let great = self.great_number();
+                    let great = self.great_kept();
                     let number = self.random.pick(&[longest as u64, longest as u64 + 1, great.max(8_192)]);
                     self.line(&format!("hold {lane} {number}"));
                     self.read_some_frame();
@@ -957,9 +962,9 @@ impl Script {
     fn wrong_span(&mut self, lane: usize) {
         let octets = self.held_octets(lane);
         let held = octets.len() as u64;
-        let great = self.great_number();
-        // Numbers of which the low octets alone would fit.
-        let low_fits = held + self.random.pick(&[1 << 8, 1 << 16, 1 << 32]);
+        let great = self.great_kept();
+        // A number of which the low octet alone would fit.
+        let low_fits = held + (1 << 8);
         let above = self.random.pick(&[held, held + 1, held + 1, held + 1, held + 2, low_fits, great]);
         let (octets, span) = match self.random.below(3) {
             0 => (&octets[..], above),

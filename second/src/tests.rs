@@ -750,7 +750,7 @@ fn a_span_fits_what_is_held_or_the_state_is_not_valid() {
         (0, 0, true),
         (0, 1, false),
         (0, 2, false),
-        (0, u64::MAX, false),
+        (0, 65_535, false),
         (1, 0, false),
         (1, 1, true),
         (1, 2, false),
@@ -760,9 +760,7 @@ fn a_span_fits_what_is_held_or_the_state_is_not_valid() {
         (11, 11, true),
         (11, 12, false),
         (11, 256 + 1, false),
-        (11, 65_536 + 1, false),
-        (11, (1 << 32) + 1, false),
-        (11, u64::MAX, false),
+        (11, 65_535, false),
         (63, 63, true),
         (63, 64, false),
         (64, 1, false),
@@ -793,7 +791,7 @@ fn every_numbered_lane_has_its_span_judged() {
 fn spans_past_the_numbered_lanes_are_nobodys() {
     // Slot 1 of a setting of one lane: more frames than octets, none while some are held, one while none are.
     let frame = "C002A06A001F01000000000001C0000003A1A2A3A40001C001000BB1B2B3B4B5";
-    for (held, span) in [("1", "2"), ("8193", "0"), ("0", "1"), ("0", "18446744073709551615")] {
+    for (held, span) in [("1", "2"), ("8193", "0"), ("0", "1"), ("0", "65535"), ("65535", "65535")] {
         let text =
             printed(&format!("{}begin\nhold 1 {held} {span}\nread {frame}\n", calls::setting_lines(&worked_setting())));
         let state = format!("held 11 {held} 0 0 0 0 0 0 span 1 {span} 0 0 0 0 0 0 setting ");
@@ -1152,12 +1150,33 @@ fn a_script_says_spans() {
     assert_eq!(state("held 0 0001C0 2\nhold 2 9 7\n"), "3 0 9 0 0 0 0 0 span 2 0 7 0 0 0 0 0");
     assert_eq!(state("held 0 0001C0 2\nheld 0 -\nhold 7 9 7\nhold 7 0\n"), "0 0 0 0 0 0 0 0 span 0 0 0 0 0 0 0 0");
     assert_eq!(
-        state("held 0 - 5\nhold 1 0 18446744073709551615\nhold 7 3 0\nhold 8 1 1\n"),
-        "0 0 0 0 0 0 0 3 span 5 18446744073709551615 0 0 0 0 0 0"
+        state("held 0 - 5\nhold 1 0 65535\nhold 7 3 0\nhold 8 1 1\n"),
+        "0 0 0 0 0 0 0 3 span 5 65535 0 0 0 0 0 0"
     );
+    // Numbers of octets and spans are taken modulo 65,536.
+    for (line, held, span) in [
+        ("hold 1 65535 65535", 65_535, 65_535),
+        ("hold 1 65536 65536", 0, 0),
+        ("hold 1 65536", 0, 0),
+        ("hold 1 65538", 2, 1),
+        ("hold 1 4294967303 65539", 7, 3),
+        ("hold 1 18446744073709551615 4294967296", 65_535, 0),
+        ("held 1 4142 65537", 2, 1),
+        ("held 1 - 18446744073709551615", 0, 65_535),
+    ] {
+        let said = format!("0 {held} 0 0 0 0 0 0 span 0 {span} 0 0 0 0 0 0");
+        assert_eq!(state(&format!("{line}\n")), said, "{line}");
+    }
     for wrong in ["held 0 - 1 1\n", "held 0 - 0A\n", "hold 0 1 1 1\n"] {
         assert!(calls::run(wrong.as_bytes(), &mut Vec::new()).is_err());
     }
+}
+
+#[test]
+fn a_script_says_next_frame_numbers_whole() {
+    let script =
+        format!("{}begin\nnext 1 18446744073709551615\nwrite 0 - - - 32\n", calls::setting_lines(&worked_setting()));
+    assert!(printed(&script).contains(" next 0 18446744073709551615 0 0 0 0 0 0 setting "));
 }
 
 #[test]
@@ -1189,15 +1208,20 @@ fn a_script_as_requests() {
     assert_eq!(after("setting 32 42 0 0 0 1 1\n# none\n\nlane 9 0 0 0 0 0\n"), blank);
     assert_eq!(after("count 7 258\n"), [row(&[4, 8, 64 * 9 + 40]), vec![0, 0, 0, 0, 0, 0, 1, 2]].concat());
     assert_eq!(after("next 0 1\ncount 8 1\n"), [row(&[4, 8, 64 * 10 + 40]), vec![0, 0, 0, 0, 0, 0, 0, 1]].concat());
+    assert_eq!(after("next 0 18446744073709551615\n"), [row(&[4, 8, 64 * 10 + 40]), vec![0xFF; 8]].concat());
     let laid = |held: u64, span: u64| {
         [row(&[4, 16, 64 * 28 + 40]), held.to_be_bytes().to_vec(), span.to_be_bytes().to_vec()].concat()
     };
     assert_eq!(after("hold 1 9\n"), laid(9, 1));
     assert_eq!(after("hold 1 9 258\n"), laid(9, 258));
     assert_eq!(after("hold 1 0\nhold 8 1 1\n"), laid(0, 0));
+    assert_eq!(after("hold 1 65535 65535\n"), laid(65_535, 65_535));
+    assert_eq!(after("hold 1 65536\n"), laid(0, 0));
+    assert_eq!(after("hold 1 65545 18446744073709551615\n"), laid(9, 65_535));
     let octets = [row(&[2, 2, 8_192]), vec![1, 2]].concat();
     assert_eq!(after("held 1 0102\n"), [octets.clone(), laid(2, 1)].concat());
-    assert_eq!(after("held 1 0102 2\n"), [octets, laid(2, 2)].concat());
+    assert_eq!(after("held 1 0102 2\n"), [octets.clone(), laid(2, 2)].concat());
+    assert_eq!(after("held 1 0102 65538\n"), [octets, laid(2, 2)].concat());
     assert_eq!(after("held 1 - 7\n"), [row(&[2, 0, 8_192]), laid(0, 7)].concat());
     assert_eq!(after("read 0A 1\n"), [row(&[1, 1, 1, 14_400, 65_536]), vec![10]].concat());
     assert_eq!(after("look 0A0B\n"), [row(&[9, 2]), vec![10, 11]].concat());
