@@ -195,6 +195,10 @@ keptBy o =
     let r : Reader = o .taken .state in
     heldBy r 0 ∷ spanBy r 0 ∷ heldBy r 1 ∷ spanBy r 1 ∷ heldBy r 2 ∷ spanBy r 2 ∷ []
 
+-- The same, and count and span of the record that stands first in its area.
+abbrev pub keptAndFiled : Got → List ℕ
+keptAndFiled o = keptBy o ++ take 12 (drop 12 (o .recordArea))
+
 -- Three frames of a packet of 60 octets on map m, by its count: the first 21, the next 21, the last 18 with fill.
 abbrev pub firstOf60 : ℕ → ℕ → List ℕ
 firstOf60 m k = packetFrame m k 0 (take 21 (packetOf 60))
@@ -248,31 +252,30 @@ spans =
     (spansOf (unitStep 0b001 data21 (At 20) data21) ∷ spansOf (unitStep 0b001 data21 Nowhere data21) ∷ spansOf (unitStep 0b010 data21 (At 20) data21)
     ∷ spansOf (unitStep 0b010 (take 20 data21) Nowhere data21) ∷ [])
     ((1 ∷ 0 ∷ []) ∷ (1 ∷ []) ∷ (2 ∷ 0 ∷ []) ∷ (2 ∷ []) ∷ [])
-    -- Frames of its lane alone: neighbors', Counted ones and copies do not count. The record says count 5, span 3.
-    ∷ case 4
-    (each keptBy (reads paired among60) ++ drop 6 (each recordIn (reads paired among60)))
-    ((21 ∷ 1 ∷ 0 ∷ 0 ∷ 0 ∷ 0 ∷ []) ∷ (21 ∷ 1 ∷ 21 ∷ 1 ∷ 0 ∷ 0 ∷ []) ∷ (42 ∷ 2 ∷ 21 ∷ 1 ∷ 0 ∷ 0 ∷ []) ∷ (42 ∷ 2 ∷ 21 ∷ 1 ∷ 0 ∷ 0 ∷ [])
-    ∷ (42 ∷ 2 ∷ 21 ∷ 1 ∷ 0 ∷ 0 ∷ []) ∷ (42 ∷ 2 ∷ 42 ∷ 2 ∷ 0 ∷ 0 ∷ []) ∷ (0 ∷ 0 ∷ 42 ∷ 2 ∷ 0 ∷ 0 ∷ [])
-    ∷ (0x00 ∷ 0x03 ∷ 0x05 ∷ 0x00 ∷ 0 ∷ 0 ∷ 0 ∷ 0 ∷ 0 ∷ 0 ∷ 0 ∷ 60 ∷ 0 ∷ 0 ∷ 0 ∷ 0 ∷ 0 ∷ 0 ∷ 0 ∷ 5 ∷ 0 ∷ 0 ∷ 0 ∷ 3 ∷ 0x55 ∷ []) ∷ [])
-    -- A gap clears the spans of all lanes of its channel and of no other, also where a Counted frame shows it; what comes next is read.
-    ∷ case 5
-    (each keptBy (reads paired (firstOf60 5 0 ∷ firstOf60 6 1 ∷ accessFrame 0 1 0xFFFF data21 ∷ packetFrame 7 9 0 fill21 ∷ firstOf60 5 10 ∷ [])))
-    ((21 ∷ 1 ∷ 0 ∷ 0 ∷ 0 ∷ 0 ∷ []) ∷ (21 ∷ 1 ∷ 21 ∷ 1 ∷ 0 ∷ 0 ∷ []) ∷ (21 ∷ 1 ∷ 21 ∷ 1 ∷ 21 ∷ 1 ∷ []) ∷ (0 ∷ 0 ∷ 0 ∷ 0 ∷ 21 ∷ 1 ∷ [])
-    ∷ (21 ∷ 1 ∷ 0 ∷ 0 ∷ 21 ∷ 1 ∷ []) ∷ [])
     -- "A held span exceeds the octets held, or is 0 while some are": 1, of a read and of a look; 3 otherwise, for the frame is short. A slot of no lane is not
     -- judged.
-    ∷ case 6
+    ∷ case 4
     (keptRefusal 0 0 0 ∷ keptRefusal 0 0 1 ∷ keptRefusal 0 1 0 ∷ keptRefusal 0 1 1 ∷ keptRefusal 0 1 2 ∷ keptRefusal 0 63 63 ∷ keptRefusal 0 63 64
     ∷ keptRefusal 0 64 1 ∷ keptRefusal 1 0 1 ∷ [])
     ((3 ∷ 3 ∷ []) ∷ (1 ∷ 1 ∷ []) ∷ (1 ∷ 1 ∷ []) ∷ (3 ∷ 3 ∷ []) ∷ (1 ∷ 1 ∷ []) ∷ (3 ∷ 3 ∷ []) ∷ (1 ∷ 1 ∷ []) ∷ (1 ∷ 1 ∷ []) ∷ (3 ∷ 3 ∷ []) ∷ [])
     -- Counts above 2^32, whole: 01 00 00 00 00 00 05 and the one after it.
-    ∷ case 7
+    ∷ case 5
     (each recordIn
     (reads wide
     (wideFrame (1 ∷ 0 ∷ 0 ∷ 0 ∷ 0 ∷ 0 ∷ 5 ∷ []) 0 (packet₀ ++ take 5 packet₁)
     ∷ wideFrame (1 ∷ 0 ∷ 0 ∷ 0 ∷ 0 ∷ 0 ∷ 6 ∷ []) 13 (drop 5 packet₁ ++ replicate 2 0xE0) ∷ [])))
     ((0x00 ∷ 0x03 ∷ 0x05 ∷ 0x00 ∷ 0 ∷ 0 ∷ 0 ∷ 0 ∷ 0 ∷ 0 ∷ 0 ∷ 10 ∷ 0 ∷ 1 ∷ 0 ∷ 0 ∷ 0 ∷ 0 ∷ 0 ∷ 5 ∷ 0 ∷ 0 ∷ 0 ∷ 1 ∷ 0x55 ∷ [])
-    ∷ (0x00 ∷ 0x03 ∷ 0x05 ∷ 0x00 ∷ 0 ∷ 0 ∷ 0 ∷ 0 ∷ 0 ∷ 0 ∷ 0 ∷ 18 ∷ 0 ∷ 1 ∷ 0 ∷ 0 ∷ 0 ∷ 0 ∷ 0 ∷ 6 ∷ 0 ∷ 0 ∷ 0 ∷ 2 ∷ 0x55 ∷ []) ∷ []) ∷ []
+    ∷ (0x00 ∷ 0x03 ∷ 0x05 ∷ 0x00 ∷ 0 ∷ 0 ∷ 0 ∷ 0 ∷ 0 ∷ 0 ∷ 0 ∷ 18 ∷ 0 ∷ 1 ∷ 0 ∷ 0 ∷ 0 ∷ 0 ∷ 0 ∷ 6 ∷ 0 ∷ 0 ∷ 0 ∷ 2 ∷ 0x55 ∷ []) ∷ [])
+    -- Frames of its lane alone: neighbors', Counted ones and copies do not count. The last record says count 5, span 3.
+    ∷ case 6 (each keptAndFiled (reads paired among60))
+    ((21 ∷ 1 ∷ 0 ∷ 0 ∷ 0 ∷ 0 ∷ replicate 12 0x55) ∷ (21 ∷ 1 ∷ 21 ∷ 1 ∷ 0 ∷ 0 ∷ replicate 12 0x55) ∷ (42 ∷ 2 ∷ 21 ∷ 1 ∷ 0 ∷ 0 ∷ replicate 12 0x55)
+    ∷ (42 ∷ 2 ∷ 21 ∷ 1 ∷ 0 ∷ 0 ∷ replicate 12 0x55) ∷ (42 ∷ 2 ∷ 21 ∷ 1 ∷ 0 ∷ 0 ∷ replicate 12 0x55) ∷ (42 ∷ 2 ∷ 42 ∷ 2 ∷ 0 ∷ 0 ∷ replicate 12 0x55)
+    ∷ (0 ∷ 0 ∷ 42 ∷ 2 ∷ 0 ∷ 0 ∷ 0 ∷ 0 ∷ 0 ∷ 0 ∷ 0 ∷ 0 ∷ 0 ∷ 5 ∷ 0 ∷ 0 ∷ 0 ∷ 3 ∷ []) ∷ [])
+    -- A gap clears the spans of all lanes of its channel and of no other, also where a Counted frame shows it; what comes next is read.
+    ∷ case 7
+    (each keptBy (reads paired (firstOf60 5 0 ∷ firstOf60 6 1 ∷ accessFrame 0 1 0xFFFF data21 ∷ packetFrame 7 9 0 fill21 ∷ firstOf60 5 10 ∷ [])))
+    ((21 ∷ 1 ∷ 0 ∷ 0 ∷ 0 ∷ 0 ∷ []) ∷ (21 ∷ 1 ∷ 21 ∷ 1 ∷ 0 ∷ 0 ∷ []) ∷ (21 ∷ 1 ∷ 21 ∷ 1 ∷ 21 ∷ 1 ∷ []) ∷ (0 ∷ 0 ∷ 0 ∷ 0 ∷ 21 ∷ 1 ∷ [])
+    ∷ (21 ∷ 1 ∷ 0 ∷ 0 ∷ 21 ∷ 1 ∷ []) ∷ []) ∷ []
 
 -- ---- edges of the frame and of the calls
 
