@@ -115,12 +115,12 @@ fn portion_opening(
     let h = slot.held as usize;
     if begins {
         let fate = fates::unit_fate(longest, finished, size);
-        let none = Slot { held: 0, span: 0 };
+        let no = Slot { held: 0, span: 0 };
         return Opening {
             size: size,
             fill: fill,
             dropped: h,
-            slot: none,
+            slot: no,
             fate: fate,
             stops: true,
         };

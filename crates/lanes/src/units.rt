@@ -107,7 +107,7 @@ pub fn settle(
     ensures { λ r. ⌜ Went info (s .tally) (now (units .entry)) (now (records .entry)) (now (part .entry)) (become fate (unitFrom (heldIn (s .slot) (now (part .entry))) (now (next .entry)))) r (now (units .exit)) (now (records .exit)) (now (part .exit)) ⌝ }
 {
     let slot = s.slot;
-    let none = Slot { held: 0, span: 0 };
+    let no = Slot { held: 0, span: 0 };
     let h = slot.held as usize;
     let n = h + next.len();
     let mut t = s.tally;
@@ -115,17 +115,11 @@ pub fn settle(
         Fate::Hand => {
             let span = slot.span as usize;
             t = hand_out(info, t, span, &part[..h], next, units, records);
-            return Stand {
-                tally: t,
-                slot: none,
-            };
+            return Stand { tally: t, slot: no };
         }
         Fate::Blank => {
             t.idle = t.idle + n;
-            return Stand {
-                tally: t,
-                slot: none,
-            };
+            return Stand { tally: t, slot: no };
         }
         Fate::Hold => {
             octets::lay(part, h, next);
@@ -141,10 +135,7 @@ pub fn settle(
         }
         Fate::Drop => {
             t.dropped = t.dropped + n;
-            return Stand {
-                tally: t,
-                slot: none,
-            };
+            return Stand { tally: t, slot: no };
         }
     }
 }

@@ -108,16 +108,13 @@ pub fn walk_step(
     ensures { λ r. ⌜ Went (terms .info) t (now (units .entry)) (now (records .entry)) (now (part .entry)) (walk (terms .longest) (drop from (now (zone .entry)))) r (now (units .exit)) (now (records .exit)) (now (part .exit)) ⌝ }
 {
     let n = zone.len();
-    let none = Slot { held: 0, span: 0 };
+    let no = Slot { held: 0, span: 0 };
     let w = walk_on(terms, t, zone, from, units, records);
     let end = w.end;
     let mut s = w.tally;
     match end {
         Walk::Finished => {
-            return Stand {
-                tally: s,
-                slot: none,
-            };
+            return Stand { tally: s, slot: no };
         }
         Walk::Held(at) => {
             let rest = n - at;
@@ -133,10 +130,7 @@ pub fn walk_step(
         }
         Walk::Dropped(at) => {
             s.dropped = s.dropped + (n - at);
-            return Stand {
-                tally: s,
-                slot: none,
-            };
+            return Stand { tally: s, slot: no };
         }
     }
 }
