@@ -1,27 +1,29 @@
 //! `second demand3`: random runs of demand 3 as a script, and what a program made of it, held directly.
 //!
-//! Two fresh ends. Batches on several lanes are worked off, interleaved. A frame is sent once or several times running
-//! (document 02, A3): between two copies no other frame of its channel is sent, but frames of other channels may be. Some
-//! copies are removed or replaced by octets that the reader refuses, and a frame of which no copy is kept is gone. Each
-//! lane must then give out exactly the units of which no frame is gone, where "of which" means every frame of the lane's
-//! channel from the one where the unit begins to the one where it ends. A unit's record has the count of the frame where it
-//! ends, whole, and its span: the number of the lane's frames from the one where it begins to that one (A2).
+//! Two fresh ends. Batches on several lanes are worked off, interleaved; those of a packet lane mix both families of packets
+//! (document 02, A5). A frame is sent once or several times running (A3): between two copies no other frame of its channel
+//! is sent, but frames of other channels may be. Some copies are removed or replaced by octets that the reader refuses, and
+//! a frame of which no copy is kept is gone. Each lane must then give out exactly the units of which no frame is gone, where
+//! "of which" means every frame of the lane's channel from the one where the unit begins to the one where it ends. A unit's
+//! record has the count of the frame where it ends, whole, and its span: the number of the lane's frames from the one where
+//! it begins to that one (A2).
 //!
 //! In some runs there are frames that no lane reads: idle ones, and those of another sender on a channel, who takes the
 //! writer's count and leaves it with the next (`count`). Fresh ends count from 0, and no run is long enough to count past
 //! 2^32: where counts are to be so high another sender was there first, and all of those frames are gone.
 //!
 //! A kept copy is what the program that obeys the script wrote itself. Where another frame was written since, the script
-//! has to say its octets; they are this program's, and that they are what the other one wrote is held too. No reader of
-//! this program has a part in the verdict: what is due follows from the batches, Z, the frames and which of them are gone.
+//! has to say its octets; they are this program's, and that they are what the other one wrote is held too. Neither a reader
+//! of this program nor what measures its packets has a part in the verdict: what is due follows from the units of the
+//! batches, Z, the frames and which of them are gone.
 
 use crate::calls::setting_lines;
 use crate::frame::{big_endian, put_big_endian, put_frame_check, Header};
-use crate::random::{good_batch, high_count, valid_setting, Random};
+use crate::random::{good_units, high_count, valid_setting, Random};
 use crate::reader::RECORD;
-use crate::setting::{Kind, Setting};
+use crate::setting::Setting;
 use crate::text::{hex, unhex};
-use crate::writer::{packet_starts, Lent, Writer};
+use crate::writer::{Lent, Writer};
 
 /// The script of all runs.
 pub fn script(seed: u64, count: u64) -> String {
@@ -84,10 +86,18 @@ struct Said {
     octets: Vec<u8>,
 }
 
-/// A batch being worked off, and where its frames stand among its channel's.
+/// A batch being worked off: its units, packets of both families mixed or one access unit, and where its frames stand among
+/// its channel's.
 struct Batch {
+    units: Vec<Vec<u8>>,
     octets: Vec<u8>,
     places: Vec<usize>,
+}
+
+impl Batch {
+    fn new(units: Vec<Vec<u8>>) -> Batch {
+        Batch { octets: units.concat(), units, places: Vec::new() }
+    }
 }
 
 /// A unit whose last frame is written; `first` and `last` are places among the channel's frames, and `span` is how many of
@@ -411,9 +421,7 @@ impl Run {
         let listed = self.setting().lanes[lane].clone();
         let channel = self.setting().channels[listed.channel].clone();
         let zone = self.setting().zone_length(&channel);
-        let mut batch = self.open[lane]
-            .take()
-            .unwrap_or_else(|| Batch { octets: good_batch(random, &listed, zone), places: Vec::new() });
+        let mut batch = self.open[lane].take().unwrap_or_else(|| Batch::new(good_units(random, &listed, zone)));
         let insert = random.octets(self.setting().insert as usize);
         let ocf = random.octets(if channel.ocf { 4 } else { 0 });
         let mut frame = vec![0; self.setting().frame_length as usize];
@@ -422,7 +430,7 @@ impl Run {
         let lent = Lent { lane: lane as u64, batch: &batch.octets, insert: &insert, ocf: &ocf };
         self.writer.write(&lent, &mut frame).expect("a good write");
         batch.places.push(self.gone[listed.channel].len());
-        self.note_sent(lane, listed.kind, zone, &batch);
+        self.note_sent(lane, zone, &batch);
         if batch.places.len() < batch.octets.len().div_ceil(zone) {
             self.open[lane] = Some(batch);
         }
@@ -430,18 +438,15 @@ impl Run {
     }
 
     /// The units that end in the batch's newest frame are sent now.
-    fn note_sent(&mut self, lane: usize, kind: Kind, zone: usize, batch: &Batch) {
-        let mut edges = match kind {
-            Kind::Packet => packet_starts(&batch.octets),
-            Kind::Access => vec![0],
-        };
-        edges.push(batch.octets.len());
+    fn note_sent(&mut self, lane: usize, zone: usize, batch: &Batch) {
         let newest = batch.places.len() - 1;
-        for edge in edges.windows(2) {
-            let (begin, end) = (edge[0], edge[1]);
+        let mut end = 0;
+        for unit in &batch.units {
+            let begin = end;
+            end += unit.len();
             if (end - 1) / zone == newest {
                 self.sent[lane].push(Sent {
-                    octets: batch.octets[begin..end].to_vec(),
+                    octets: unit.clone(),
                     first: batch.places[begin / zone],
                     last: batch.places[newest],
                     span: (newest - begin / zone + 1) as u64,

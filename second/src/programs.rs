@@ -6,7 +6,7 @@ use std::io::{self, BufReader, BufWriter, Read, Write};
 use std::os::fd::AsFd;
 use std::os::unix::fs::MetadataExt;
 
-use crate::packet::whole_space_packet;
+use crate::packet::{measure, whole_packet, Family, Measure};
 use crate::reader::{Answer, Areas, Class, Look, Reader, HELD_AREA, RECORD, RECORD_AREA, UNIT_AREA};
 use crate::setting::{Kind, Lane, Setting};
 use crate::text::{decimal, setting_from_file, LONGEST_SETTING_FILE};
@@ -188,6 +188,14 @@ fn create(path: String) -> Result<BufWriter<File>, String> {
     File::create(&path).map(BufWriter::new).map_err(|error| format!("{path}: {error}"))
 }
 
+/// The family of a unit that a lane of this kind handed out; an access unit is of none.
+fn family_of(kind: Kind, unit: &[u8]) -> Option<Family> {
+    match (kind, measure(unit)) {
+        (Kind::Packet, Measure::Packet { family, .. }) => Some(family),
+        _ => None,
+    }
+}
+
 /// The table of units that `--units` asks for.
 struct UnitTable {
     file: BufWriter<File>,
@@ -198,7 +206,7 @@ struct UnitTable {
 impl UnitTable {
     fn new(path: String, lanes: usize) -> Result<UnitTable, String> {
         let mut file = create(path)?;
-        writeln!(file, "lane,offset,length,frame,count,apid,sequence,span").map_err(said)?;
+        writeln!(file, "lane,offset,length,frame,count,apid,sequence,span,family").map_err(said)?;
         Ok(UnitTable { file, written: vec![0; lanes] })
     }
 
@@ -211,11 +219,15 @@ impl UnitTable {
             rest = later;
             let length = unit.len() as u64;
             write!(self.file, "{lane},{},{length},{number},{}", self.written[lane], field(&record[12..20]))?;
-            match kind {
-                Kind::Packet => write!(self.file, ",{},{}", field(&unit[..2]) % 2048, field(&unit[2..4]) % 16384)?,
-                Kind::Access => write!(self.file, ",,")?,
+            let span = field(&record[20..24]);
+            match family_of(kind, unit) {
+                Some(Family::Space) => {
+                    let (application, sequence) = (field(&unit[..2]) % 2048, field(&unit[2..4]) % 16384);
+                    writeln!(self.file, ",{application},{sequence},{span},space")?;
+                }
+                Some(Family::Encapsulation) => writeln!(self.file, ",,,{span},encapsulation")?,
+                None => writeln!(self.file, ",,,{span},")?,
             }
-            writeln!(self.file, ",{}", field(&record[20..24]))?;
             self.written[lane] += length;
         }
         Ok(())
@@ -414,7 +426,7 @@ fn fixed_octets(path: &Option<String>, length: usize) -> Result<Vec<u8>, String>
 /// even one, all the rest is a batch, and the writer refuses it.
 fn gathered(rest: &[u8]) -> usize {
     let mut length = 0;
-    while let Some(packet) = whole_space_packet(&rest[length..]) {
+    while let Some(packet) = whole_packet(&rest[length..]) {
         if length + packet > LONGEST_BATCH {
             break;
         }

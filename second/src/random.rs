@@ -2,7 +2,7 @@
 
 use crate::calls::setting_lines;
 use crate::frame::{put_big_endian, put_frame_check, Header, NO_POINTER};
-use crate::packet::IDLE_OCTET;
+use crate::packet::{HEADERS, IDLE_OCTET, LENGTH_FIELDS, SHORTEST_SPACE};
 use crate::reader::{HELD_AREA, RECORD, RECORD_AREA, UNIT_AREA};
 use crate::setting::{Channel, Kind, Lane, Setting};
 use crate::text::hex;
@@ -126,8 +126,31 @@ fn random_lanes(random: &mut Random, setting: &Setting) -> Vec<Lane> {
         let near_zone = zone * random.between(1, 3) + random.below(3);
         let small = random.between(7, 100);
         let lane = if random.percent(60) {
-            let longest = random.pick(&[7, 8, 13, 64, small, small, small, near_zone, 8191, 8192, any_longest]);
-            Lane { channel: place, map, kind: Kind::Packet, longest: longest.clamp(7, 8192), upid: 0 }
+            // Tiny ones cut headers, and some cannot have a Space Packet.
+            let tiny = random.between(2, 9);
+            let near_field = random.between(254, 257);
+            let longest = random.pick(&[
+                2,
+                3,
+                tiny,
+                tiny,
+                tiny,
+                7,
+                8,
+                13,
+                64,
+                small,
+                small,
+                small,
+                small,
+                near_zone,
+                near_zone,
+                near_field,
+                8191,
+                8192,
+                any_longest,
+            ]);
+            Lane { channel: place, map, kind: Kind::Packet, longest: longest.clamp(2, 8192), upid: 0 }
         } else {
             let longest = random.pick(&[1, 2, zone, near_zone, near_zone, small, 8191, 8192, any_longest]);
             let any_upid = random.between(1, 30);
@@ -172,7 +195,7 @@ fn spoil(random: &mut Random, setting: &mut Setting) {
         4 => setting.channels[channel].virtual_channel = random.pick(&[62, 63, 64]),
         5 => setting.channels[channel].count_length = random.pick(&[0, 7, 8]),
         6 => setting.lanes[lane].map = random.pick(&[15, 16]),
-        7 => setting.lanes[lane].longest = random.pick(&[0, 1, 6, 7]),
+        7 => setting.lanes[lane].longest = random.pick(&[0, 1, 1, 1, 2, 2, 3, 6, 7]),
         8 => setting.lanes[lane].longest = random.pick(&[8192, 8193]),
         9 => {
             setting.lanes[lane].kind = Kind::Access;
@@ -222,54 +245,159 @@ pub fn space_packet(random: &mut Random, length: usize, idle: bool) -> Vec<u8> {
     let application = if idle { 0x07FF } else { random.below(0x07FF) };
     let upper = random.below(4) << 11;
     put_big_endian(&mut octets[..2], application | upper);
-    put_big_endian(&mut octets[4..6], length as u64 - 7);
+    put_big_endian(&mut octets[4..6], length as u64 - SHORTEST_SPACE);
     octets
 }
 
-/// A first octet that begins no packet.
-fn unreadable_octet(random: &mut Random) -> u8 {
-    loop {
-        let any = random.octet();
-        let octet = random.pick(&[0x20, 0xE1, 0xFF, 0xC0, any]);
-        if octet >> 5 != 0 && octet != IDLE_OCTET {
-            return octet;
-        }
+/// A protocol that is not idle, or the idle one.
+fn protocol(random: &mut Random, idle: bool) -> u8 {
+    if idle {
+        0
+    } else {
+        random.between(1, 7) as u8
     }
+}
+
+/// The header of an encapsulation packet; of a total that its field has no room for the low octets are in it.
+fn encapsulation_header(random: &mut Random, protocol: u8, length_of_length: usize, total: u64) -> Vec<u8> {
+    let header = HEADERS[length_of_length];
+    let mut octets = random.octets(header);
+    octets[0] = 0b1110_0000 | protocol << 2 | length_of_length as u8;
+    put_big_endian(&mut octets[header - LENGTH_FIELDS[length_of_length]..], total);
+    octets
+}
+
+/// The lengths of length whose headers can say this total and are not longer.
+fn lengths_of_length(total: usize) -> Vec<usize> {
+    let can_say = |&size: &usize| total >= HEADERS[size] && total < 1 << (8 * LENGTH_FIELDS[size]);
+    (1..4).filter(can_say).collect()
+}
+
+/// An encapsulation packet of this length in all, at least 2, with any header that can say it.
+fn encapsulation_packet(random: &mut Random, length: usize, idle: bool) -> Vec<u8> {
+    let protocol = protocol(random, idle);
+    let length_of_length = random.pick(&lengths_of_length(length));
+    let mut octets = encapsulation_header(random, protocol, length_of_length, length as u64);
+    octets.extend(random.octets(length - HEADERS[length_of_length]));
+    octets
+}
+
+/// A packet of this length in all, at least 2, of any family that has such a one.
+pub fn packet(random: &mut Random, length: usize, idle: bool) -> Vec<u8> {
+    if length as u64 >= SHORTEST_SPACE && random.one_in(2) {
+        space_packet(random, length, idle)
+    } else {
+        encapsulation_packet(random, length, idle)
+    }
+}
+
+/// A first octet that begins no packet: first bits of neither family, or a header of one octet that is not idle.
+pub fn unreadable_octet(random: &mut Random) -> u8 {
+    let bits = random.between(1, 6) as u8;
+    let of_neither = bits << 5 | random.octet() & 0x1F;
+    let protocol = protocol(random, false);
+    let one_octet = 0b1110_0000 | protocol << 2;
+    random.pick(&[of_neither, of_neither, one_octet, 0x20, 0xC0, 0xFC, 0xE4])
+}
+
+/// An encapsulation packet's header with a total at an edge, and some octets behind it, which may be fewer or more than it
+/// says.
+pub fn edge_packet(random: &mut Random, longest: usize) -> Vec<u8> {
+    let length_of_length = random.pick(&[1, 1, 2, 2, 3, 3, 3]);
+    let header = HEADERS[length_of_length] as u64;
+    let longest = longest as u64;
+    let below = random.below(header);
+    let high = random.below(1 << 32);
+    let total = random.pick(&[
+        0,
+        below,
+        header - 1,
+        header - 1,
+        header,
+        header,
+        header + 1,
+        longest - 1,
+        longest,
+        longest,
+        longest + 1,
+        longest + 1,
+        255,
+        256,
+        65_535,
+        65_536,
+        65_536 + longest,
+        (1 << 32) - 1,
+        (1 << 32) - 1,
+        high,
+    ]);
+    let idle = random.one_in(3);
+    let protocol = protocol(random, idle);
+    let mut octets = encapsulation_header(random, protocol, length_of_length, total);
+    let rest = total.saturating_sub(header);
+    let some = random.below(12);
+    let more = if rest <= 300 { random.pick(&[rest, rest, rest, some]) } else { some };
+    octets.extend(random.octets(more as usize));
+    octets
 }
 
 /// A length for a good packet of a lane, biased to the ends and to what fits a few zones.
 fn packet_length(random: &mut Random, longest: usize, zone: usize) -> usize {
-    let short = random.between(7, 30);
+    let tiny = random.between(2, 9);
+    let short = random.between(2, 30);
     let near_zone = random.between(1, 3) * zone as u64 + random.below(3);
-    let capped = random.between(7, longest.min(600) as u64);
-    let length = random.pick(&[7, 8, short, short, short, near_zone, capped, longest as u64]);
+    let near_field = random.between(254, 257);
+    let capped = random.between(2, longest.min(600) as u64);
+    let length = random.pick(&[
+        tiny,
+        tiny,
+        short,
+        short,
+        short,
+        short,
+        near_zone,
+        near_zone,
+        near_field,
+        capped,
+        capped,
+        longest as u64,
+        longest as u64,
+    ]);
     let affordable = if length > 700 && !random.one_in(12) { short } else { length };
-    (affordable as usize).clamp(7, longest)
+    (affordable as usize).clamp(2, longest)
 }
 
-/// A batch that keeps its lane's rule.
-pub fn good_batch(random: &mut Random, lane: &Lane, zone: usize) -> Vec<u8> {
+/// The units of a batch that keeps its lane's rule.
+pub fn good_units(random: &mut Random, lane: &Lane, zone: usize) -> Vec<Vec<u8>> {
     let longest = lane.longest as usize;
     match lane.kind {
         Kind::Packet => {
-            let packets = random.pick(&[1, 1, 2, 3, 4, 6]);
-            let mut batch = Vec::new();
-            for _ in 0..packets {
+            let many = random.between(7, 40);
+            let few = random.between(1, 9);
+            let number = random.pick(&[1, 1, 2, 3, 4, 6, if longest < 30 { many } else { few }]);
+            let mut units = Vec::new();
+            let mut octets = 0;
+            for _ in 0..number {
                 let length = packet_length(random, longest, zone);
-                if batch.len() + length <= LONGEST_BATCH {
-                    batch.extend(space_packet(random, length, false));
+                if octets + length <= LONGEST_BATCH {
+                    units.push(packet(random, length, false));
+                    octets += length;
                 }
             }
-            batch
+            units
         }
         Kind::Access => {
             let near_zone = random.between(1, 3) * zone as u64 + random.below(3) - 1;
             let capped = random.between(1, longest.min(600) as u64);
             let length = random.pick(&[1, 2, near_zone, near_zone, capped, capped, longest as u64]);
             let affordable = if length > 700 && !random.one_in(12) { capped } else { length };
-            random.octets((affordable as usize).clamp(1, longest))
+            vec![random.octets((affordable as usize).clamp(1, longest))]
         }
     }
+}
+
+/// A batch that keeps its lane's rule.
+pub fn good_batch(random: &mut Random, lane: &Lane, zone: usize) -> Vec<u8> {
+    good_units(random, lane, zone).concat()
 }
 
 /// A batch that breaks a rule (or, where the lane allows it, only nearly breaks one).
@@ -280,26 +408,34 @@ fn bad_batch(random: &mut Random, lane: &Lane, zone: usize) -> Vec<u8> {
         return random.octets(length);
     }
     let mut batch = if random.one_in(2) { good_batch(random, lane, zone) } else { Vec::new() };
-    match random.below(9) {
+    match random.below(12) {
         0 => batch.clear(),
-        1 => batch.extend(space_packet(random, longest.min(40), true)),
-        2 => batch.extend(space_packet(random, longest + 1, false)),
+        1 => batch.extend(packet(random, longest.min(40), true)),
+        2 => batch.extend(packet(random, longest + 1, false)),
         3 => {
-            let length = random.between(7, longest.min(40) as u64) as usize;
+            let length = random.between(2, longest.min(40) as u64) as usize;
             let cut = random.between(1, length as u64 - 1) as usize;
-            batch.extend(&space_packet(random, length, false)[..cut]);
+            batch.extend(&packet(random, length, false)[..cut]);
         }
         4 => batch.push(unreadable_octet(random)),
         5 => {
-            let packet = space_packet(random, 7, false);
+            let length = random.between(2, longest.min(9) as u64) as usize;
+            let packet = packet(random, length, false);
             batch.push(IDLE_OCTET);
             batch.extend(packet);
         }
         6 => batch.push(IDLE_OCTET),
         7 => {
-            let mut packet = space_packet(random, 9, false);
-            packet[0] = packet[0] & 0x1F | unreadable_octet(random) & 0xE0;
+            let mut packet = packet(random, 9, false);
+            packet[0] = unreadable_octet(random);
             batch.extend(packet);
+        }
+        // The total is at an edge, and fits the octets or does not.
+        8 | 9 => batch.extend(edge_packet(random, longest)),
+        // A Space Packet where the longest may be too short for one.
+        10 => {
+            let idle = random.one_in(4);
+            batch.extend(space_packet(random, 7, idle));
         }
         _ => {
             let extra = random.between(1, 6) as usize;
@@ -309,25 +445,66 @@ fn bad_batch(random: &mut Random, lane: &Lane, zone: usize) -> Vec<u8> {
     batch
 }
 
-/// Octets for a zone from a packet's start on: packets of every kind, cut where the room ends.
-fn packet_stream(random: &mut Random, longest: usize, zone: usize, room: usize) -> Vec<u8> {
-    let mut octets = Vec::new();
-    while octets.len() < room {
-        let length = packet_length(random, longest, zone);
-        match random.below(20) {
-            0..=9 => octets.extend(space_packet(random, length, false)),
-            10..=12 => octets.extend(space_packet(random, length, true)),
-            13..=16 => octets.extend(vec![IDLE_OCTET; 1 + length % 5]),
-            17 => octets.push(unreadable_octet(random)),
-            18 => {
-                let idle = random.one_in(3);
-                let too_long = longest + random.pick(&[1, 1, 2, 300]);
-                octets.extend(space_packet(random, too_long, idle));
-            }
-            _ => octets.extend(random.octets(length)),
+/// A packet of any kind: good, idle, too long, unreadable, with a total at an edge, whole before its end, or a Space Packet
+/// whichever the longest is.
+fn odd_packet(random: &mut Random, longest: usize, zone: usize) -> Vec<u8> {
+    let length = packet_length(random, longest, zone);
+    let mut octets = packet(random, length, false);
+    match random.below(16) {
+        0..=5 => {}
+        6..=7 => return packet(random, length, true),
+        8 => {
+            let idle = random.one_in(3);
+            return packet(random, longest + 1, idle);
+        }
+        9 => octets[0] = unreadable_octet(random),
+        10 => octets[0] = IDLE_OCTET,
+        11..=13 => return edge_packet(random, longest),
+        14 => return space_packet(random, length.max(7), false),
+        _ => {
+            let more = random.between(1, 9) as usize;
+            octets.extend(random.octets(more));
         }
     }
+    octets
+}
+
+/// What a stream of packets may have at one place.
+fn stream_part(random: &mut Random, longest: usize, zone: usize) -> Vec<u8> {
+    let length = packet_length(random, longest, zone);
+    match random.below(26) {
+        0..=12 => packet(random, length, false),
+        13..=15 => packet(random, length, true),
+        16..=19 => vec![IDLE_OCTET; 1 + length % 5],
+        20 => vec![unreadable_octet(random)],
+        21 => {
+            let idle = random.one_in(3);
+            let too_long = longest + random.pick(&[1, 1, 2, 300]);
+            packet(random, too_long, idle)
+        }
+        22..=23 => edge_packet(random, longest),
+        24 => space_packet(random, length.max(7), false),
+        _ => random.octets(length),
+    }
+}
+
+/// Octets for a zone from a packet's start on: packets of every kind, cut where the room ends. Often the last one has only
+/// a few octets there, so that its header is cut.
+fn packet_stream(random: &mut Random, longest: usize, zone: usize, room: usize) -> Vec<u8> {
+    let mut octets = Vec::new();
+    let mut last = 0;
+    while octets.len() < room {
+        last = octets.len();
+        octets.extend(stream_part(random, longest, zone));
+    }
     octets.truncate(room);
+    if random.one_in(3) {
+        let mut tail = stream_part(random, longest, zone);
+        tail.truncate((random.between(1, 9) as usize).min(room));
+        octets.truncate(last.min(room - tail.len()));
+        octets.resize(room - tail.len(), IDLE_OCTET);
+        octets.extend(tail);
+    }
     octets
 }
 
@@ -563,7 +740,7 @@ impl Script {
             Kind::Packet => (0, self.random.pick(&[0, NO_POINTER])),
             Kind::Access => (self.random.pick(&[1, 2]), self.random.pick(&[0, NO_POINTER])),
         };
-        let longest = (self.setting.lanes[lane].longest as usize).max(7);
+        let longest = (self.setting.lanes[lane].longest as usize).max(2);
         let octets = packet_stream(&mut self.random, longest, zone, zone);
         self.lane_frame(lane, count, rule, pointer, &octets)
     }
@@ -658,7 +835,8 @@ impl Script {
             42..=49 => self.bad_write(),
             50..=57 => self.damaged_read(),
             58..=67 => self.forged_field_read(),
-            68..=80 => self.forged_lane_read(),
+            68..=78 => self.forged_lane_read(),
+            79..=80 => self.split_read(),
             81..=84 => self.repeated_read(),
             85..=87 => self.odd_area_read(),
             88..=91 => self.writer_state(),
@@ -870,8 +1048,8 @@ impl Script {
         while batch.len() < wanted {
             let left = wanted - batch.len();
             // Leave room for a last packet, or none.
-            let length = if left <= longest { left } else { longest.min(left - 7) };
-            batch.extend(space_packet(&mut self.random, length.max(7), false));
+            let length = if left <= longest { left } else { longest.min(left - 2) };
+            batch.extend(packet(&mut self.random, length.max(2), false));
         }
         let frames = batch.len().div_ceil(self.zone_of(lane)) as u64;
         let (insert, ocf) = (self.insert_octets(), self.ocf_octets(lane));
@@ -1016,44 +1194,17 @@ impl Script {
     /// A packet of any kind, and where it is cut: anywhere, or after its last octet.
     fn cut_packet(&mut self, longest: usize, zone: usize) -> (Vec<u8>, usize) {
         let random = &mut self.random;
-        let length = packet_length(random, longest, zone);
-        let mut packet = match random.below(12) {
-            0..=5 => space_packet(random, length, false),
-            6..=7 => space_packet(random, length, true),
-            8 => {
-                let idle = random.one_in(3);
-                space_packet(random, longest + 1, idle)
-            }
-            9 => {
-                let mut packet = space_packet(random, length, false);
-                packet[0] = unreadable_octet(random);
-                packet
-            }
-            10 => {
-                let mut packet = space_packet(random, length, false);
-                packet[0] = IDLE_OCTET;
-                packet
-            }
-            _ => {
-                // Already whole before its end.
-                let mut packet = space_packet(random, length, false);
-                let more = random.between(1, 9) as usize;
-                packet.extend(random.octets(more));
-                packet
-            }
-        };
-        if packet.len() > 1500 && !random.one_in(4) {
-            let (number, shorter) = (random.between(7, 60), random.octets(2));
-            packet.truncate(number as usize);
-            packet[4] = shorter[0] & 0x0F;
-            packet[5] = shorter[1];
+        let mut octets = odd_packet(random, longest, zone);
+        if octets.len() > 1500 && !random.one_in(4) {
+            // What is there says that it is longer.
+            octets.truncate(random.between(7, 60) as usize);
         }
-        let last = packet.len() as u64;
+        let last = octets.len() as u64;
         let anywhere = random.between(1, last);
         let before_end = last - random.below(last.min(8));
-        let head = random.between(1, 6).min(last);
-        let cut = random.pick(&[head, head, anywhere, anywhere, before_end, last]);
-        (packet, cut as usize)
+        let head = random.between(1, 9).min(last);
+        let cut = random.pick(&[head, head, head, anywhere, anywhere, before_end, last]);
+        (octets, cut as usize)
     }
 
     // Reading
@@ -1122,9 +1273,18 @@ impl Script {
     fn odd_area_read(&mut self) {
         let frame = self.good_or_bad_frame();
         let units = self.random.pick(&[UNIT_AREA, UNIT_AREA - 1, UNIT_AREA + 1, 0]);
-        // The last one is what records of 16 octets wanted.
-        let records =
-            self.random.pick(&[RECORD_AREA, RECORD_AREA, RECORD_AREA, RECORD_AREA - 1, RECORD_AREA + RECORD, 0, 9_600]);
+        // The last two are what was asked for before there were encapsulation packets, and before records had 24 octets.
+        let records = self.random.pick(&[
+            RECORD_AREA,
+            RECORD_AREA,
+            RECORD_AREA,
+            RECORD_AREA,
+            RECORD_AREA - 1,
+            RECORD_AREA + RECORD,
+            0,
+            14_400,
+            9_600,
+        ]);
         let held = self.random.pick(&[HELD_AREA, HELD_AREA, HELD_AREA - 1, HELD_AREA + 1, 0]);
         if self.random.percent(60) {
             self.look_lines(&frame);
@@ -1289,6 +1449,48 @@ impl Script {
             rest = &rest[part..];
             count = (count + 1) % modulus;
             if self.random.one_in(3) || zone > 700 {
+                break;
+            }
+        }
+    }
+
+    /// A packet of any kind that begins with a few octets at the end of a zone and goes on in the zones after it, as a writer
+    /// would send it. Mostly nothing else is held.
+    fn split_read(&mut self) {
+        let packet_lanes: Vec<usize> =
+            (0..self.setting.lanes.len()).filter(|&lane| self.setting.lanes[lane].kind == Kind::Packet).collect();
+        if packet_lanes.is_empty() {
+            return;
+        }
+        let lane = self.random.pick(&packet_lanes);
+        let zone = self.zone_of(lane);
+        let longest = self.setting.lanes[lane].longest as usize;
+        let channel = self.setting.lanes[lane].channel;
+        let modulus = self.setting.channels[channel].modulus();
+        if self.random.percent(80) {
+            self.held_line(lane, &[]);
+        }
+        let octets = odd_packet(&mut self.random, longest, zone);
+        let first = (self.random.between(1, 9) as usize).min(zone).min(octets.len());
+        let mut rest = &octets[first..];
+        let mut count = self.aligned_count(channel);
+        let begin = zone - first;
+        let before = self.random.below(begin as u64 + 1) as usize;
+        let pointer = self.random.pick(&[begin, begin, before]);
+        let mut zone_octets = vec![IDLE_OCTET; begin];
+        zone_octets.extend(&octets[..first]);
+        let frame = self.lane_frame(lane, count, 0, pointer as u16, &zone_octets);
+        self.read_line(&frame);
+        for _ in 0..self.random.pick(&[1, 2, 4, 9]) {
+            count = (count + 1) % modulus;
+            let part = rest.len().min(zone);
+            let mut zone_octets = rest[..part].to_vec();
+            zone_octets.extend(packet_stream(&mut self.random, longest, zone, zone - part));
+            let pointer = if part < zone { part as u16 } else { NO_POINTER };
+            let frame = self.lane_frame(lane, count, 0, pointer, &zone_octets);
+            self.read_line(&frame);
+            rest = &rest[part..];
+            if rest.is_empty() || zone > 700 {
                 break;
             }
         }

@@ -1,5 +1,5 @@
 //! The reader (document 01, "Reading"; refusals 1 to 12), whole counts and spans in the records (document 02, A2), frames
-//! sent twice (A3), and the look before a read (A7).
+//! sent twice (A3), packets of two families (A5), and the look before a read (A7).
 
 use std::cmp::Ordering;
 
@@ -14,7 +14,7 @@ pub const HELD_AREA: usize = 65_536;
 /// A lane's part of the held area.
 pub const HELD_PART: usize = 8_192;
 pub const UNIT_AREA: usize = 12_288;
-pub const RECORD_AREA: usize = 14_400;
+pub const RECORD_AREA: usize = 49_152;
 pub const RECORD: usize = 24;
 
 /// Whether a count is expected, and which. The count is judged in any case: "each count is below 256^n".
@@ -398,6 +398,32 @@ fn judge_data_field(setting: &Setting, channel: &Channel, lane: &Lane, frame: &[
     }
 }
 
+/// What the octets from a packet's first one on come to, on a lane of this longest.
+enum Extent {
+    /// Unreadable, or too long.
+    Bad,
+    /// The header is not complete: the size is not known yet.
+    Open,
+    /// Within the longest; the octets at hand may be fewer or more.
+    Known { size: usize, idle: bool },
+}
+
+/// Where the size is not known, as many octets as the longest are too long already. A size is held against the longest
+/// before anything is reckoned with it: it may be any number of four octets.
+fn extent(octets: &[u8], longest: usize) -> Extent {
+    let (size, idle) = match measure(octets) {
+        Measure::Unreadable => return Extent::Bad,
+        Measure::Lacks(_) if octets.len() >= longest => return Extent::Bad,
+        Measure::Lacks(_) => return Extent::Open,
+        Measure::Idle { size } => (size, true),
+        Measure::Packet { size, .. } => (size, false),
+    };
+    if size > longest as u64 {
+        return Extent::Bad;
+    }
+    Extent::Known { size: size as usize, idle }
+}
+
 /// What becomes of a held packet when the lead follows it.
 enum Fate {
     Ends { idle: bool },
@@ -432,11 +458,10 @@ fn fate_of_held(joined: &[u8], pointer: Option<usize>, longest: usize) -> Fate {
         return Fate::Fails;
     }
     let longer_than_joined = if pointer.is_none() { Fate::GoesOn } else { Fate::Fails };
-    match measure(joined) {
-        Measure::Unreadable => Fate::Fails,
-        Measure::TooFew => longer_than_joined,
-        Measure::Long { length, .. } if length > longest => Fate::Fails,
-        Measure::Long { length, idle } => match length.cmp(&joined.len()) {
+    match extent(joined, longest) {
+        Extent::Bad => Fate::Fails,
+        Extent::Open => longer_than_joined,
+        Extent::Known { size, idle } => match size.cmp(&joined.len()) {
             Ordering::Less => Fate::Fails,
             Ordering::Equal => Fate::Ends { idle },
             Ordering::Greater => longer_than_joined,
@@ -448,30 +473,22 @@ fn fate_of_held(joined: &[u8], pointer: Option<usize>, longest: usize) -> Fate {
 fn walk_packets(octets: &[u8], longest: usize, harvest: &mut Harvest) {
     let mut rest = octets;
     while !rest.is_empty() {
-        match measure(rest) {
-            Measure::Unreadable => {
+        match extent(rest, longest) {
+            Extent::Bad => {
                 harvest.dropped += rest.len();
                 return;
             }
-            Measure::Long { length, .. } if length > longest => {
-                harvest.dropped += rest.len();
-                return;
-            }
-            Measure::TooFew => {
-                harvest.held = Carried::begun(rest);
-                return;
-            }
-            Measure::Long { length, .. } if length > rest.len() => {
-                harvest.held = Carried::begun(rest);
-                return;
-            }
-            Measure::Long { length, idle } => {
+            Extent::Known { size, idle } if size <= rest.len() => {
                 if idle {
-                    harvest.idle += length;
+                    harvest.idle += size;
                 } else {
-                    harvest.units.push(Carried::begun(&rest[..length]));
+                    harvest.units.push(Carried::begun(&rest[..size]));
                 }
-                rest = &rest[length..];
+                rest = &rest[size..];
+            }
+            Extent::Open | Extent::Known { .. } => {
+                harvest.held = Carried::begun(rest);
+                return;
             }
         }
     }

@@ -3,9 +3,12 @@
 use std::fs;
 use std::path::Path;
 
-use crate::frame::put_frame_check;
-use crate::random::{good_batch, high_count, space_packet, valid_setting, Random};
-use crate::setting::{Kind, Setting};
+use crate::frame::{put_big_endian, put_frame_check};
+use crate::packet::{HEADERS, IDLE_OCTET, LENGTH_FIELDS};
+use crate::random::{
+    edge_packet, good_batch, high_count, packet, space_packet, unreadable_octet, valid_setting, Random,
+};
+use crate::setting::{Channel, Kind, Setting};
 use crate::text::setting_to_lines;
 use crate::writer::{Lent, Writer};
 
@@ -129,7 +132,8 @@ fn spoil_lines(random: &mut Random, lines: &mut Vec<String>) {
     }
 }
 
-/// A lane's file for `pack`: good, and one in eight with something wrong near its end.
+/// A lane's file for `pack`, of both families of packets or of one unit: good, and one in six with something wrong near its
+/// end.
 fn lane_file(random: &mut Random, setting: &Setting, lane: usize) -> Vec<u8> {
     let zone = setting.zone_length(&setting.channels[setting.lanes[lane].channel]) as usize;
     let described = &setting.lanes[lane];
@@ -141,21 +145,35 @@ fn lane_file(random: &mut Random, setting: &Setting, lane: usize) -> Vec<u8> {
         if random.one_in(6) {
             // More than one batch has room for.
             while octets.len() < 40_000 {
-                octets.extend(space_packet(random, described.longest as usize, false));
+                octets.extend(packet(random, described.longest as usize, false));
             }
         }
     }
-    if random.one_in(8) {
-        match (described.kind, random.below(4)) {
-            (Kind::Access, 0) => octets.clear(),
-            (Kind::Access, _) => octets.resize(described.longest as usize + 1, 7),
-            (Kind::Packet, 0) => octets.push(0xE0),
-            (Kind::Packet, 1) => octets.truncate(octets.len() - 1),
-            (Kind::Packet, 2) => octets.extend(space_packet(random, 7, true)),
-            (Kind::Packet, _) => octets.extend(space_packet(random, described.longest as usize + 1, false)),
+    if random.one_in(6) {
+        match described.kind {
+            Kind::Packet => spoil_packets(random, described.longest as usize, &mut octets),
+            Kind::Access if random.one_in(4) => octets.clear(),
+            Kind::Access => octets.resize(described.longest as usize + 1, 7),
         }
     }
     octets
+}
+
+/// Something wrong at the end of a file of packets, or nearly so: the programs judge.
+fn spoil_packets(random: &mut Random, longest: usize, octets: &mut Vec<u8>) {
+    match random.below(7) {
+        0 => octets.push(IDLE_OCTET),
+        1 => octets.truncate(octets.len() - 1),
+        2 => octets.extend(packet(random, longest.min(40), true)),
+        3 => octets.extend(packet(random, longest + 1, false)),
+        4 => octets.push(unreadable_octet(random)),
+        5 => octets.extend(edge_packet(random, longest)),
+        // Too long a packet where the longest is below 7.
+        _ => octets.extend(space_packet(random, 7, false)),
+    }
+    if random.one_in(4) {
+        octets.extend(packet(random, longest.min(9), false));
+    }
 }
 
 /// Units of an access lane back to back and the list of their lengths: good, and one in eight with something wrong.
@@ -229,12 +247,39 @@ fn recording(random: &mut Random, setting: &Setting, insert: &[u8], ocf: &[u8]) 
         if writer.next[lane] != 0 {
             open[lane] = Some(batch);
         }
+        if setting.lanes[lane].kind == Kind::Packet && random.one_in(4) {
+            other_fill(random, setting, channel, &mut frame);
+        }
         add_frame(random, setting, &frame, &mut octets);
     }
     if random.one_in(4) {
         octets.truncate(octets.len() - octets.len().min(random.between(1, setting.frame_length - 1) as usize));
     }
     octets
+}
+
+/// Idle packets of other sizes in the place of the idle octets that end a zone: the last one ends with it, or goes on.
+fn other_fill(random: &mut Random, setting: &Setting, channel: &Channel, frame: &mut [u8]) {
+    let begin = setting.zone_place(channel);
+    let zone = &mut frame[begin..begin + setting.zone_length(channel)];
+    let fill = zone.iter().rev().take_while(|octet| **octet == IDLE_OCTET).count();
+    let first = zone.len() - fill;
+    let mut rest = &mut zone[first..];
+    while !rest.is_empty() {
+        let length_of_length = random.below(4) as usize;
+        let header = HEADERS[length_of_length];
+        if header > rest.len() {
+            break;
+        }
+        let some = header as u64 + random.below(20);
+        let all = rest.len() as u64;
+        let total = random.pick(&[some, some, all, all, all, all + 1]).min(255);
+        rest[0] = IDLE_OCTET | length_of_length as u8;
+        put_big_endian(&mut rest[header - LENGTH_FIELDS[length_of_length]..header], total);
+        let size = if length_of_length == 0 { 1 } else { total as usize };
+        rest = &mut rest[size.min(all as usize)..];
+    }
+    check_anew(setting, frame);
 }
 
 fn add_frame(random: &mut Random, setting: &Setting, frame: &[u8], octets: &mut Vec<u8>) {

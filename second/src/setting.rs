@@ -115,11 +115,11 @@ impl Setting {
                 return Some("a map is 0 to 15");
             }
             let (shortest_longest, upids) = match lane.kind {
-                Kind::Packet => (7, 0..=0),
+                Kind::Packet => (2, 0..=0),
                 Kind::Access => (1, 1..=30),
             };
             if !(shortest_longest..=8192).contains(&lane.longest) {
-                return Some("a longest unit is 7 (access 1) to 8192 octets");
+                return Some("a longest unit is 2 (access 1) to 8192 octets");
             }
             if !upids.contains(&lane.upid) {
                 return Some("a UPID is 0 for packets and 1 to 30 for access units");

@@ -1,9 +1,9 @@
-//! The writer (document 01, "Writing"; refusals 1, 2, 13 to 16).
+//! The writer (document 01, "Writing"; refusals 1, 2, 13 to 16), batches of two families of packets (document 02, A5).
 
 use crate::frame::{
     put_big_endian, put_frame_check, Header, NO_POINTER, RULE_ACCESS_CONTINUES, RULE_ACCESS_START, RULE_PACKETS,
 };
-use crate::packet::{measure, whole_space_packet, Measure, IDLE_OCTET};
+use crate::packet::{whole_packet, IDLE_OCTET};
 use crate::setting::{Kind, Lane, Setting};
 
 /// The most octets of a packet batch, and so the most frames of any batch.
@@ -132,25 +132,23 @@ fn batch_keeps_its_rule(lane: &Lane, batch: &[u8]) -> bool {
     }
 }
 
-/// Whole Space Packets back to back, none idle, none above the longest.
+/// Whole packets of either family back to back, none idle, none above the longest.
 fn all_packets_good(batch: &[u8], longest: u64) -> bool {
     let mut place = 0;
     while place < batch.len() {
-        let rest = &batch[place..];
-        let Some(length) = whole_space_packet(rest) else { return false };
-        if measure(rest) != (Measure::Long { length, idle: false }) || length as u64 > longest {
-            return false;
+        match whole_packet(&batch[place..]) {
+            Some(length) if length as u64 <= longest => place += length,
+            _ => return false,
         }
-        place += length;
     }
     true
 }
 
 /// Where packets of a good batch start.
-pub fn packet_starts(batch: &[u8]) -> Vec<usize> {
+fn packet_starts(batch: &[u8]) -> Vec<usize> {
     let mut starts = Vec::new();
     let mut place = 0;
-    while let Some(length) = whole_space_packet(&batch[place..]) {
+    while let Some(length) = whole_packet(&batch[place..]) {
         starts.push(place);
         place += length;
     }

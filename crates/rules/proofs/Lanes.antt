@@ -20,7 +20,7 @@ use Rattle.rules.specs.declared.Fate.the-variants.{Hand, Blank, Hold, Dr
 use Rattle.rules.specs.Tests.{_≤?_, _<?_, _=?_}
 use Rattle.rules.specs.Areas.{joined}
 use Rattle.rules.specs.Packets.{measure}
-use Rattle.rules.specs.Reading.{DataUnit, noUnit, carries, unitFrom, unitOf, octetsOf, Made, nothing, drops, fills, hands, idles, both, become, endFate, joinedFate, leadFate, lead, sizedNext, nextOf, front, walkUpTo, walk, packetLane, unitFate, followFate, portion, accessLane, laneStep}
+use Rattle.rules.specs.Reading.{DataUnit, noUnit, carries, unitFrom, unitOf, octetsOf, Made, nothing, drops, fills, hands, idles, both, become, endFate, joinedFate, leadFate, lead, sizedNext, tooLong, nextOf, front, walkUpTo, walk, packetLane, unitFate, followFate, portion, accessLane, laneStep}
 use Rattle.rules.proofs.Areas.{joined-append}
 use Rattle.rules.proofs.Measures.{measure-cases, measure-none}
 use Rattle.rules.specs.Valid.{least}
@@ -38,14 +38,22 @@ sized-cases P longest k n done whole keep lose = go (k ≤? longest) refl (k ≤
     go true e false f = let a : k ≤ longest = leb-true _ _ e in let b : n < k = leb-false _ _ f in keep (omega arith)
     go false e q f = lose
 
-pub next-cases : (P : Next → Type 0) (longest : ℕ) (xs : List ℕ) → ((n : ℕ) → 7 ≤ n → n ≤ length xs → n ≤ longest → P (Give n))
-    → ((n : ℕ) → 1 ≤ n → n ≤ length xs → n ≤ longest → P (Skip n)) → ((7 ≤ longest → length xs < longest) → P Keep) → P Lose
+-- One whose size is not known is held, or is too long.
+cut-cases : {X : Type 0} (P : X → Type 0) (longest n : ℕ) (held long : X) → (n < longest → P held) → P long → P (cond (tooLong longest n) long held)
+cut-cases P longest n held long keep lose = go (tooLong longest n) refl
+  where
+    go : (t : Bool) → tooLong longest n ≡ t → P (cond t long held)
+    go true e = lose
+    go false e = keep (leb-false _ _ e)
+
+pub next-cases : (P : Next → Type 0) (longest : ℕ) (xs : List ℕ) → ((n : ℕ) → 2 ≤ n → n ≤ length xs → n ≤ longest → P (Give n))
+    → ((n : ℕ) → 1 ≤ n → n ≤ length xs → n ≤ longest → P (Skip n)) → (length xs < longest → P Keep) → P Lose
     → P (nextOf longest (measure xs) (length xs))
 unfolding nextOf
 next-cases P longest xs give skip keep lose =
-    measure-cases (λ (m : Measure). P (nextOf longest m (length xs))) xs (λ h. keep (λ k. omega arith))
-    (λ n h. sized-cases P longest n (length xs) (Give n) (λ a b. give n h b a) (λ h. keep (λ k. h)) lose)
-    (λ n h. sized-cases P longest n (length xs) (Skip n) (λ a b. skip n h b a) (λ h. keep (λ k. h)) lose)
+    measure-cases (λ (m : Measure). P (nextOf longest m (length xs))) xs (λ k. cut-cases P longest (length xs) Keep Lose keep lose)
+    (λ f n h. sized-cases P longest n (length xs) (Give n) (λ a b. give n h b a) keep lose)
+    (λ n h. sized-cases P longest n (length xs) (Skip n) (λ a b. skip n h b a) keep lose)
     lose
 
 -- What becomes of n octets, held ones and a lead. They are held only where the packet may go on.
@@ -63,25 +71,25 @@ end-cases P longest on k n done whole hold drop = go (k ≤? longest) refl (k =?
     go false e q f o g r i = drop
 
 pub lead-cases : (P : Fate → Type 0) (longest : ℕ) (on : Bool) (held xs : List ℕ) → (length held + length xs ≤ longest → P Hand) → P Blank
-    → (on ≡ true → (7 ≤ longest → length held + length xs < longest) → P Hold) → P Drop
+    → (on ≡ true → length held + length xs < longest → P Hold) → P Drop
     → P (leadFate longest on (measure (held ++ xs)) (length held) (length xs))
 unfolding leadFate joinedFate
 lead-cases P longest on held xs hand blank hold drop = go (length held =? 0) (length xs =? 0)
   where
-    both-long : length (held ++ xs) ≡ length held + length xs
-    both-long = length-append held xs
+    n : ℕ
+    n = length held + length xs
 
-    lack : (o : Bool) → on ≡ o → length (held ++ xs) < 6 → P (cond o Hold Drop)
-    lack true g h = hold g (λ k. omega (arith, both-long))
-    lack false g h = drop
+    lack : (o : Bool) → on ≡ o → P (cond o (cond (tooLong longest n) Drop Hold) Drop)
+    lack true g = cut-cases P longest n Hold Drop (hold g) drop
+    lack false g = drop
 
-    go : (a b : Bool) → P (cond a Drop (cond b Drop (joinedFate longest on (measure (held ++ xs)) (length held + length xs))))
+    go : (a b : Bool) → P (cond a Drop (cond b Drop (joinedFate longest on (measure (held ++ xs)) n)))
     go true b = drop
     go false true = drop
     go false false =
-        measure-cases (λ (m : Measure). P (joinedFate longest on m (length held + length xs))) (held ++ xs) (lack on refl)
-        (λ n h. end-cases P longest on n (length held + length xs) Hand hand (λ g l. hold g (λ k. l)) drop)
-        (λ n h. end-cases P longest on n (length held + length xs) Blank (λ l. blank) (λ g l. hold g (λ k. l)) drop)
+        measure-cases (λ (m : Measure). P (joinedFate longest on m n)) (held ++ xs) (λ k. lack on refl)
+        (λ f k h. end-cases P longest on k n Hand hand hold drop)
+        (λ k h. end-cases P longest on k n Blank (λ l. blank) hold drop)
         drop
 
 -- What becomes of n octets of an access unit.
@@ -118,7 +126,11 @@ module _ (longest : ℕ) where
   none-left : (n : ℕ) (xs : List ℕ) → length xs ≤ 0 → walkUpTo longest n xs ≡ nothing
   unfolding walkUpTo nextOf carries
   none-left zero xs h = refl
-  none-left (suc n) [] h = rw measure-none
+  none-left (suc n) [] h = rw measure-none (by (tooLong longest 0))
+    where
+      by : (t : Bool) → front (cond t Lose Keep) [] (walkUpTo longest n) ≡ nothing
+      by true = refl
+      by false = refl
   none-left (suc n) (x ∷ xs) h = absurd (not-suc-le-zero h)
 
   enough : (n m : ℕ) (xs : List ℕ) → length xs ≤ n → length xs ≤ m → walkUpTo longest n xs ≡ walkUpTo longest m xs
@@ -234,27 +246,26 @@ lane-total Access longest rule held p z = access-total longest (rule =? 0b001) h
 abbrev few : ℕ → Made → Type 0
 few longest m = length (m .held .octets) < longest
 
-module _ (longest : ℕ) (seven : 7 ≤ longest) where
+module _ (longest : ℕ) (one : 1 ≤ longest) where
   upTo-below : (n : ℕ) (xs : List ℕ) → few longest (walkUpTo longest n xs)
   unfolding walkUpTo
   upTo-below zero xs = omega arith
   upTo-below (suc n) xs =
       next-cases (λ (s : Next). few longest (front s xs (walkUpTo longest n))) longest xs (λ k a b c. upTo-below n (drop k xs))
-      (λ k a b c. upTo-below n (drop k xs)) (λ h. h seven) (omega arith)
+      (λ k a b c. upTo-below n (drop k xs)) (λ h. h) (omega arith)
 
   lead-below : (on : Bool) (held : DataUnit) (xs : List ℕ) → few longest (lead longest on held xs)
   unfolding lead
   lead-below on held xs =
       let e = length-append (held .octets) xs in
       lead-cases (λ (f : Fate). few longest (become f (unitFrom held xs))) longest on (held .octets) xs (λ h. omega arith) (omega arith)
-      (λ g h. let l : length (held .octets) + length xs < longest = h seven in omega (arith, e)) (omega arith)
+      (λ g h. omega (arith, e)) (omega arith)
 
   packet-below : (held : DataUnit) (p : Place) (z : List ℕ) → few longest (packetLane longest held p z)
   unfolding packetLane walk both
   packet-below held (At p) z = upTo-below (length (drop p z)) (drop p z)
   packet-below held Nowhere z = lead-below true held z
 
-module _ (longest : ℕ) (one : 1 ≤ longest) where
   portion-below : (finished begins : Bool) (held : DataUnit) (xs : List ℕ) → few longest (portion longest finished begins held xs)
   unfolding portion both
   portion-below finished true held xs =
@@ -272,7 +283,7 @@ module _ (longest : ℕ) (one : 1 ≤ longest) where
 pub lane-below : (k : Kind) (longest rule : ℕ) (held : DataUnit) (p : Place) (z : List ℕ) → least k ≤ longest
     → few longest (laneStep k longest rule held p z)
 unfolding laneStep
-lane-below Packets longest rule held p z h = packet-below longest h held p z
+lane-below Packets longest rule held p z h = packet-below longest (omega arith) held p z
 lane-below Access longest rule held p z h = access-below longest h (rule =? 0b001) held p z
 
 -- ---- spans: a unit has an octet in each frame that carries it
@@ -365,7 +376,7 @@ lane-sound Access longest rule held (At p) z s =
     both-sound _ _ (bare-sound 0 _ 0) (portion-sound longest true (rule =? 0b001) held (take (p + 1) z) s)
 lane-sound Access longest rule held Nowhere z s = portion-sound longest false (rule =? 0b001) held z s
 
--- ---- few units: each from the pointer on has seven octets, and the lead ends one
+-- ---- few units: each from the pointer on has two octets, and the lead ends one
 
 become-few : (f : Fate) (u : DataUnit) → length ((become f u) .units) ≤ 1
 become-few Hand u = omega arith
@@ -373,11 +384,11 @@ become-few Blank u = omega arith
 become-few Hold u = omega arith
 become-few Drop u = omega arith
 
-upTo-few : (longest n : ℕ) (xs : List ℕ) → 7 * length ((walkUpTo longest n xs) .units) ≤ length xs
+upTo-few : (longest n : ℕ) (xs : List ℕ) → 2 * length ((walkUpTo longest n xs) .units) ≤ length xs
 unfolding walkUpTo
 upTo-few longest zero xs = omega arith
 upTo-few longest (suc n) xs =
-    next-cases (λ (s : Next). 7 * length ((front s xs (walkUpTo longest n)) .units) ≤ length xs) longest xs
+    next-cases (λ (s : Next). 2 * length ((front s xs (walkUpTo longest n)) .units) ≤ length xs) longest xs
     (λ k a b c. let q = upTo-few longest n (drop k xs) in let v = length-drop k xs in omega (arith, q, v))
     (λ k a b c. let q = upTo-few longest n (drop k xs) in let v = length-drop k xs in omega (arith, q, v)) (λ h. omega arith) (omega arith)
 
@@ -387,7 +398,7 @@ portion-few longest finished true held xs = become-few (unitFate longest finishe
 portion-few longest finished false held xs = become-few (followFate longest finished (length (held .octets)) (length xs)) (unitFrom held xs)
 
 pub lane-few : (k : Kind) (longest rule : ℕ) (held : DataUnit) (p : Place) (z : List ℕ)
-    → 7 * length ((laneStep k longest rule held p z) .units) ≤ 7 + length z
+    → 2 * length ((laneStep k longest rule held p z) .units) ≤ 2 + length z
 unfolding laneStep packetLane accessLane lead walk both
 lane-few Packets longest rule held (At p) z =
     let a = become-few (leadFate longest false (measure (held .octets ++ take p z)) (length (held .octets)) (length (take p z))) (unitFrom held (take p z)) in

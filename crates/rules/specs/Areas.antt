@@ -13,7 +13,7 @@ joined [] = []
 joined (x ∷ xs) = x ++ joined xs
 
 -- ---- sizes: "Areas lent: held octets, 65,536, lane k's from 8,192k; units, at least 12,288; records, at least 9,600": with A2 of document 02,
--- "record areas become at least 14,400 octets" and "the record becomes 24 octets". "A packet batch is 1 to 32,768 octets."
+-- "the record becomes 24 octets", and with A5 "the record area becomes 49,152 octets". "A packet batch is 1 to 32,768 octets."
 
 abbrev pub heldSize : ℕ
 heldSize = 65536
@@ -25,7 +25,7 @@ abbrev pub unitsSize : ℕ
 unitsSize = 12288
 
 abbrev pub recordsSize : ℕ
-recordsSize = 14400
+recordsSize = 49152
 
 abbrev pub recordSize : ℕ
 recordSize = 24

@@ -84,7 +84,7 @@ written w l batch insert ocf area (suc n) = record { sender = record { outcome =
 unfoldable pub write : Writer → ℕ → List ℕ → List ℕ → List ℕ → List ℕ → Sent
 write w l batch insert ocf area = written w l batch insert ocf area (given (writeRefusals w l batch insert ocf area))
 
--- ---- read: "Areas lent: held octets, 65,536, ...; units, at least 12,288; records, at least 9,600", and 14,400 with A2 of document 02.
+-- ---- read: "Areas lent: held octets, 65,536, ...; units, at least 12,288; records, at least 9,600", and 49,152 with A5 of document 02.
 
 -- What a read hands back, and the three areas after it.
 pub record Got : Type 0 where

@@ -220,7 +220,7 @@ keeping l held span = withSlot (freshReader (worked packetLane)) l (record { hel
 
 abbrev pub keptRefusal : ℕ → ℕ → ℕ → List ℕ
 keptRefusal l held span =
-    classRefusal ((read (keeping l held span) (take 31 frame₀) (replicate 65536 0) (replicate 12288 0) (replicate 14400 0)) .taken .answer .class)
+    classRefusal ((read (keeping l held span) (take 31 frame₀) (replicate 65536 0) (replicate 12288 0) (replicate 49152 0)) .taken .answer .class)
     ∷ classRefusal ((look (keeping l held span) (take 31 frame₀)) .class) ∷ []
 
 -- The worked setting with counts of seven octets: Z is 15.
@@ -374,9 +374,9 @@ wholes =
     ((1 ∷ 2 ∷ 13 ∷ 14 ∷ 15 ∷ 16 ∷ 0 ∷ []) ∷ [])
     -- A read's 1, then 2 and 3 for each area, then 3.
     ∷ case 5
-    ((readRefusal noReader 0 0 0 ∷ readRefusal (freshReader (worked packetLane)) 65535 12288 14400
-    ∷ readRefusal (freshReader (worked packetLane)) 65536 12287 14400 ∷ readRefusal (freshReader (worked packetLane)) 65536 12288 14399
-    ∷ readRefusal (freshReader (worked packetLane)) 65536 12288 14400 ∷ [])
+    ((readRefusal noReader 0 0 0 ∷ readRefusal (freshReader (worked packetLane)) 65535 12288 49152
+    ∷ readRefusal (freshReader (worked packetLane)) 65536 12287 49152 ∷ readRefusal (freshReader (worked packetLane)) 65536 12288 49151
+    ∷ readRefusal (freshReader (worked packetLane)) 65536 12288 49152 ∷ [])
     ∷ [])
     ((1 ∷ 2 ∷ 2 ∷ 2 ∷ 3 ∷ []) ∷ [])
     -- The areas after frame 0, and after a gap has dropped what was held: its octets stay where they were.
@@ -392,7 +392,7 @@ wholes =
     ∷ (104 ∷ 0 ∷ 1 ∷ 0 ∷ []) ∷ (104 ∷ 0 ∷ 1 ∷ 0 ∷ []) ∷ [])
     -- A bad frame with a short area: a look says what the frame is refused by, a read says 2. A state of zeros: both say 1.
     ∷ case 8
-    ((classRefusal ((look (freshReader (worked packetLane)) (take 31 frame₀)) .class) ∷ readRefusal (freshReader (worked packetLane)) 65535 12288 14400
-    ∷ classRefusal ((look noReader (take 31 frame₀)) .class) ∷ readRefusal noReader 65536 12288 14400 ∷ [])
+    ((classRefusal ((look (freshReader (worked packetLane)) (take 31 frame₀)) .class) ∷ readRefusal (freshReader (worked packetLane)) 65535 12288 49152
+    ∷ classRefusal ((look noReader (take 31 frame₀)) .class) ∷ readRefusal noReader 65536 12288 49152 ∷ [])
     ∷ [])
     ((3 ∷ 2 ∷ 1 ∷ 1 ∷ []) ∷ []) ∷ []

@@ -169,11 +169,16 @@ unfoldable pub endFate : ℕ → Bool → ℕ → ℕ → Fate → Fate
 endFate longest on size n done =
     cond (size ≤? longest) (cond (size =? n) done (cond on (cond (n <? size) Hold Drop) Drop)) Drop
 
+-- "A cut packet that already has at least as many octets as the lane's longest is too long" (document 02, A5): n octets, of a packet whose size they do
+-- not say.
+abbrev pub tooLong : ℕ → ℕ → Bool
+tooLong longest n = longest ≤? n
+
 -- "If it ... is unreadable, ... held octets and lead are dropped; a finished idle one counts as idle octets. The longest binds idle
 -- packets too."
 unfoldable pub joinedFate : ℕ → Bool → Measure → ℕ → Fate
-joinedFate longest on Lacks n = cond on Hold Drop
-joinedFate longest on (Packet size) n = endFate longest on size n Hand
+joinedFate longest on (Lacks k) n = cond on (cond (tooLong longest n) Drop Hold) Drop
+joinedFate longest on (Packet f size) n = endFate longest on size n Hand
 joinedFate longest on (Idle size) n = endFate longest on size n Blank
 joinedFate longest on Unreadable n = Drop
 
@@ -194,8 +199,8 @@ sizedNext longest size n done = cond (size ≤? longest) (cond (size ≤? n) don
 -- "Idle ones are left out, a packet cut by the zone's end is held (fewer than 6 octets of it too), an unreadable or too long one
 -- drops itself and the rest of the zone."
 unfoldable pub nextOf : ℕ → Measure → ℕ → Next
-nextOf longest Lacks n = Keep
-nextOf longest (Packet size) n = sizedNext longest size n (Give size)
+nextOf longest (Lacks k) n = cond (tooLong longest n) Lose Keep
+nextOf longest (Packet f size) n = sizedNext longest size n (Give size)
 nextOf longest (Idle size) n = sizedNext longest size n (Skip size)
 nextOf longest Unreadable n = Lose
 

@@ -134,9 +134,10 @@ channelsOk s =
     all (1 ≤? s .listed ∷ s .listed ≤? 8 ∷ every (s .listed) (λ (i : ℕ). channelOk s (channel s i))
     ∷ every (s .listed) (λ (i : ℕ). every i (λ (j : ℕ). channelsAgree (channel s j) (channel s i))) ∷ [])
 
--- "Packet lane: longest 7 to 8,192, UPID 0. Access lane: longest 1 to 8,192, UPID 1 to 30."
+-- "Packet lane: longest 7 to 8,192, UPID 0. Access lane: longest 1 to 8,192, UPID 1 to 30": with A5 of document 02, "a packet lane's longest
+-- from 2".
 unfoldable pub kindOk : Kind → ℕ → ℕ → Bool
-kindOk Packets longest upid = all (7 ≤? longest ∷ longest ≤? 8192 ∷ upid =? 0 ∷ [])
+kindOk Packets longest upid = all (2 ≤? longest ∷ longest ≤? 8192 ∷ upid =? 0 ∷ [])
 kindOk Access longest upid = all (1 ≤? longest ∷ longest ≤? 8192 ∷ 1 ≤? upid ∷ upid ≤? 30 ∷ [])
 
 -- "A lane is a listed channel, a map number 0 to 15, a kind, a longest unit and a protocol number (UPID)."

@@ -21,7 +21,7 @@ use Rattle.rules.specs.Refusals.{channelAt, laneAt, ruleFits}
 
 -- The least that a lane's longest unit may be.
 abbrev pub least : Kind → ℕ
-least Packets = 7
+least Packets = 2
 least Access = 1
 
 pub record GoodKind (k : Kind) (longest protocol : ℕ) : Type 0 where

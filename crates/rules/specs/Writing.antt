@@ -23,7 +23,7 @@ noneAbove n [] = true
 noneAbove n (u ∷ us) = length u ≤? n && noneAbove n us
 
 -- "A packet batch is 1 to 32,768 octets of whole Space Packets back to back, none idle, none above the lane's longest. An access
--- batch is one unit of 1 octet up to the lane's longest."
+-- batch is one unit of 1 octet up to the lane's longest." "Writer batches may mix both families, none idle" (document 02, A5).
 unfoldable pub batchOk : Kind → ℕ → List ℕ → Bool
 batchOk Packets longest b =
     all (1 ≤? length b ∷ length b ≤? batchSize ∷ length (joined (packets b)) =? length b ∷ noneAbove longest (packets b) ∷ [])

@@ -8,13 +8,13 @@ pub const PART_SIZE: usize = 8192;
 
 pub const UNITS_SIZE: usize = 12288;
 
-pub const RECORDS_SIZE: usize = 14400;
+pub const RECORDS_SIZE: usize = 49152;
 
 pub const RECORD_SIZE: usize = 24;
 
 pub const BATCH_SIZE: usize = 32768;
 
-// What a lane carries: Space Packets that span frames, or access units (MAPA_SDU). The first is what a state of zeros has.
+// What a lane carries: packets that span frames, or access units (MAPA_SDU). The first is what a state of zeros has.
 pub enum Kind {
     Packets,
     Access,
@@ -150,10 +150,17 @@ pub struct Passed {
     pub left: bool,
 }
 
-// What the octets from a packet's first on say of it.
+// The families of packets: Space Packets, and encapsulation packets (document 02, A5).
+pub enum Family {
+    Space,
+    Encapsulation,
+}
+
+// What the octets from a packet's first on say of it: how many octets its header still lacks; the family and size of one that is not idle; the
+// size of an idle one; or that it is unreadable.
 pub enum Measure {
-    Lacks,
-    Packet(usize),
+    Lacks(usize),
+    Packet(Family, usize),
     Idle(usize),
     Unreadable,
 }
