@@ -6,6 +6,7 @@ use std::io::{self, BufReader, BufWriter, Read, Write};
 use std::os::fd::AsFd;
 use std::os::unix::fs::MetadataExt;
 
+use crate::frame::big_endian;
 use crate::packet::{measure, whole_packet, Family, Measure};
 use crate::reader::{Answer, Areas, Class, Look, Reader, HELD_AREA, RECORD, RECORD_AREA, UNIT_AREA};
 use crate::setting::{Kind, Lane, Setting};
@@ -188,11 +189,22 @@ fn create(path: String) -> Result<BufWriter<File>, String> {
     File::create(&path).map(BufWriter::new).map_err(|error| format!("{path}: {error}"))
 }
 
-/// The family of a unit that a lane of this kind handed out; an access unit is of none.
-fn family_of(kind: Kind, unit: &[u8]) -> Option<Family> {
+/// The title of the table of units.
+pub const UNITS_TITLE: &str = "lane,offset,length,frame,count,apid,sequence,span,family";
+
+/// The line of a unit in the table: of a lane of this kind, from this octet of the lane's file on, finished by frame
+/// `number`. Only a Space Packet has an APID and a sequence count, and an access unit is of no family.
+pub fn unit_line(kind: Kind, offset: u64, number: u64, record: &[u8], unit: &[u8]) -> String {
+    let (lane, length) = (record[0], unit.len());
+    let (count, span) = (big_endian(&record[12..20]), big_endian(&record[20..24]));
+    let begin = format!("{lane},{offset},{length},{number},{count}");
     match (kind, measure(unit)) {
-        (Kind::Packet, Measure::Packet { family, .. }) => Some(family),
-        _ => None,
+        (Kind::Packet, Measure::Packet { family: Family::Space, .. }) => {
+            let (application, sequence) = (big_endian(&unit[..2]) % 2048, big_endian(&unit[2..4]) % 16384);
+            format!("{begin},{application},{sequence},{span},space")
+        }
+        (Kind::Packet, _) => format!("{begin},,,{span},encapsulation"),
+        (Kind::Access, _) => format!("{begin},,,{span},"),
     }
 }
 
@@ -206,29 +218,18 @@ struct UnitTable {
 impl UnitTable {
     fn new(path: String, lanes: usize) -> Result<UnitTable, String> {
         let mut file = create(path)?;
-        writeln!(file, "lane,offset,length,frame,count,apid,sequence,span,family").map_err(said)?;
+        writeln!(file, "{UNITS_TITLE}").map_err(said)?;
         Ok(UnitTable { file, written: vec![0; lanes] })
     }
 
     /// The units of frame `number`, which lane `lane` of this kind read.
     fn add(&mut self, number: u64, lane: usize, kind: Kind, records: &[u8], units: &[u8]) -> io::Result<()> {
-        let field = |octets: &[u8]| octets.iter().fold(0u64, |value, octet| value * 256 + u64::from(*octet));
         let mut rest = units;
         for record in records.chunks(RECORD) {
-            let (unit, later) = rest.split_at(field(&record[8..12]) as usize);
+            let (unit, later) = rest.split_at(big_endian(&record[8..12]) as usize);
             rest = later;
-            let length = unit.len() as u64;
-            write!(self.file, "{lane},{},{length},{number},{}", self.written[lane], field(&record[12..20]))?;
-            let span = field(&record[20..24]);
-            match family_of(kind, unit) {
-                Some(Family::Space) => {
-                    let (application, sequence) = (field(&unit[..2]) % 2048, field(&unit[2..4]) % 16384);
-                    writeln!(self.file, ",{application},{sequence},{span},space")?;
-                }
-                Some(Family::Encapsulation) => writeln!(self.file, ",,,{span},encapsulation")?,
-                None => writeln!(self.file, ",,,{span},")?,
-            }
-            self.written[lane] += length;
+            writeln!(self.file, "{}", unit_line(kind, self.written[lane], number, record, unit))?;
+            self.written[lane] += unit.len() as u64;
         }
         Ok(())
     }

@@ -132,8 +132,8 @@ fn spoil_lines(random: &mut Random, lines: &mut Vec<String>) {
     }
 }
 
-/// A lane's file for `pack`, of both families of packets or of one unit: good, and one in six with something wrong near its
-/// end.
+/// A lane's file for `pack`, of both families of packets or of one unit: good, and one in eight with something wrong near
+/// its end.
 fn lane_file(random: &mut Random, setting: &Setting, lane: usize) -> Vec<u8> {
     let zone = setting.zone_length(&setting.channels[setting.lanes[lane].channel]) as usize;
     let described = &setting.lanes[lane];
@@ -149,7 +149,7 @@ fn lane_file(random: &mut Random, setting: &Setting, lane: usize) -> Vec<u8> {
             }
         }
     }
-    if random.one_in(6) {
+    if random.one_in(8) {
         match described.kind {
             Kind::Packet => spoil_packets(random, described.longest as usize, &mut octets),
             Kind::Access if random.one_in(4) => octets.clear(),

@@ -1,9 +1,11 @@
 //! Document 01's worked frames (cases 1 to 11), looks at them (document 02, A7), frames sent twice (A3), whole counts and spans
-//! (A2), the published values of the frame check, and what must not change.
+//! (A2), encapsulation packets (A5), the published values of the frame check, and what must not change.
 
 use crate::calls;
 use crate::demand3;
 use crate::frame::frame_check;
+use crate::packet::{measure, Family, Measure};
+use crate::programs::{unit_line, UNITS_TITLE};
 use crate::random;
 use crate::reader::{
     Answer, Areas, Class, Expected, Look, Reader, HELD_AREA, HELD_PART, RECORD, RECORD_AREA, UNIT_AREA,
@@ -800,10 +802,10 @@ fn spans_past_the_numbered_lanes_are_nobodys() {
 }
 
 #[test]
-fn the_record_area_has_14_400_octets() {
+fn the_record_area_has_49_152_octets() {
     let frame = frames_of(&worked_setting(), &case_2_batch()).remove(0);
     let mut end = End::fresh(&worked_setting());
-    for (records, refused) in [(0, true), (9_600, true), (14_399, true), (14_400, false)] {
+    for (records, refused) in [(0, true), (9_600, true), (14_400, true), (49_151, true), (49_152, false)] {
         let answer = end.read_lent(&frame, [UNIT_AREA, records, HELD_AREA]);
         assert_eq!(answer.class == Class::Refused(2), refused, "{records} octets");
     }
@@ -1006,6 +1008,421 @@ fn a_span_of_as_many_frames_as_octets() {
         assert_eq!((units, end.reader.span[0], end.reader.held[0]), (number / 64, so_far, so_far as usize));
     }
     assert_eq!(end.records[..24], record(0, 64, 63, 64));
+}
+
+// Encapsulation packets (document 02, A5)
+
+/// What any octets say, by the bits of the first one. Of the headers all octets but the first are 0, save the last, which
+/// is `last`: a Space Packet's length and each total are that number then.
+fn first_octet_says(first: u8, at_hand: usize, last: u64) -> Measure {
+    let bits = format!("{first:08b}");
+    let (family, header) = match (&bits[..3], &bits[3..6], &bits[6..]) {
+        ("000", ..) => (Family::Space, 6),
+        ("111", "000", "00") => return Measure::Idle { size: 1 },
+        ("111", _, "00") => return Measure::Unreadable,
+        ("111", _, "01") => (Family::Encapsulation, 2),
+        ("111", _, "10") => (Family::Encapsulation, 4),
+        ("111", _, "11") => (Family::Encapsulation, 8),
+        _ => return Measure::Unreadable,
+    };
+    match (family, &bits[3..6]) {
+        _ if at_hand < header => Measure::Lacks(header - at_hand),
+        // Octet 1 is 0, so no Space Packet here is idle.
+        (Family::Space, _) => Measure::Packet { family, size: last + 7 },
+        _ if last < header as u64 => Measure::Unreadable,
+        (Family::Encapsulation, "000") => Measure::Idle { size: last },
+        (Family::Encapsulation, _) => Measure::Packet { family, size: last },
+    }
+}
+
+#[test]
+fn every_first_octet() {
+    assert_eq!(measure(&[]), Measure::Lacks(1));
+    for first in 0..=255 {
+        for at_hand in 1..=9 {
+            for last in [0, 1, 2, 3, 4, 5, 6, 7, 8, 9, 10, 64, 128, 255] {
+                let mut octets = vec![0; at_hand];
+                octets[0] = first;
+                let end = match first {
+                    0x00..=0x1F => 5,
+                    _ => [9, 1, 3, 7][usize::from(first % 4)],
+                };
+                if end < at_hand {
+                    octets[end] = last;
+                }
+                let wanted = first_octet_says(first, at_hand, u64::from(last));
+                assert_eq!(measure(&octets), wanted, "{first:02X}, {at_hand} octets, {last} in the header's last one");
+            }
+        }
+    }
+}
+
+#[test]
+fn every_octet_of_a_total() {
+    let said = |hex: &str| measure(&octets(hex));
+    let of_family = |size: u64| Measure::Packet { family: Family::Encapsulation, size };
+    assert_eq!(said("E5 FF"), of_family(255));
+    assert_eq!(said("E6 FF 01 02"), of_family(0x0102));
+    assert_eq!(said("E6 FF FF FF"), of_family(65_535));
+    assert_eq!(said("E7 FF FF FF 01 02 03 04"), of_family(0x0102_0304));
+    assert_eq!(said("E7 00 00 00 80 00 00 00"), of_family(1 << 31));
+    assert_eq!(said("E7 FF FF FF FF FF FF FF"), of_family((1 << 32) - 1));
+    assert_eq!(said("E3 FF FF FF FF FF FF FF"), Measure::Idle { size: (1 << 32) - 1 });
+    assert_eq!(said("E7 FF FF FF FF FF FF"), Measure::Lacks(1));
+    assert_eq!(said("07 FF 00 00 FF FF"), Measure::Idle { size: 65_542 });
+    assert_eq!(said("1F FF 00 00 00 00"), Measure::Idle { size: 7 });
+    assert_eq!(said("17 FE 00 00 00 00"), Measure::Packet { family: Family::Space, size: 7 });
+    // Octets past the header say nothing.
+    assert_eq!(said("E5 03 FF FF"), of_family(3));
+    assert_eq!(said("FF 00 00 00 00 00 00 08 FF"), of_family(8));
+}
+
+/// The worked setting with another longest.
+fn longest_setting(longest: u64) -> Setting {
+    let mut setting = worked_setting();
+    setting.lanes[0].longest = longest;
+    setting
+}
+
+/// An encapsulation packet's header: protocol 1 or the idle one, this length-of-length and total.
+fn header(idle: bool, length_of_length: u8, total: u64) -> Vec<u8> {
+    let first = if idle { 0xE0 } else { 0xE4 } + length_of_length;
+    let total = total.to_be_bytes();
+    match length_of_length {
+        0 => vec![first],
+        1 => vec![first, total[7]],
+        2 => [&[first, 0xAB], &total[6..]].concat(),
+        _ => [&[first, 0xAB, 0xCD, 0xEF], &total[4..]].concat(),
+    }
+}
+
+/// An encapsulation packet of so many octets in all, with zeros in its data field.
+fn capsule(idle: bool, length_of_length: u8, total: usize) -> Vec<u8> {
+    let mut octets = header(idle, length_of_length, total as u64);
+    octets.resize(total, 0);
+    octets
+}
+
+/// A lane of this longest that holds octets is given a frame: units, idle, dropped, held. What is left of the zone is
+/// idle octets.
+fn given(longest: u64, held: &[u8], pointer: u16, zone: &[u8]) -> (u64, u64, u64, usize) {
+    let mut end = End::fresh(&longest_setting(longest));
+    end.hold(0, held, held.len().min(1) as u64);
+    let mut zone = zone.to_vec();
+    assert!(zone.len() <= 21);
+    zone.resize(21, 0xE0);
+    let answer = end.reads(&lane_frame(0, pointer, &zone), 0);
+    let octets = answer.octets + answer.idle + answer.dropped + end.reader.held[0] as u64;
+    assert_eq!(octets, (held.len() + 21) as u64);
+    assert_eq!(end.reader.span[0] > 0, end.reader.held[0] > 0);
+    (answer.units, answer.idle, answer.dropped, end.reader.held[0])
+}
+
+/// The last octets of a zone whose others are idle octets, with the pointer to the first of them.
+fn at_end(longest: u64, octets: &[u8]) -> (u64, u64, u64, usize) {
+    let begin = 21 - octets.len();
+    let zone = [&vec![0xE0; begin][..], octets].concat();
+    let (units, idle, dropped, held) = given(longest, &[], begin as u16, &zone);
+    assert_eq!(dropped, begin as u64 + given(longest, &[], 0, &zone).2);
+    (units, idle, dropped - begin as u64, held)
+}
+
+#[test]
+fn idle_at_all_four_sizes() {
+    for length_of_length in 0..4 {
+        let header_size = header(true, length_of_length, 0).len();
+        for total in header_size..=20 {
+            if length_of_length == 0 && total > 1 {
+                continue;
+            }
+            let octets = capsule(true, length_of_length, total);
+            assert_eq!(given(20, &[], 0, &octets), (0, 21, 0, 0));
+            assert_eq!(at_end(20, &octets), (0, total as u64, 0, 0));
+            // Cut anywhere, it is held, and is idle where it ends.
+            for cut in 1..total {
+                assert_eq!(at_end(20, &octets[..cut]), (0, 0, 0, cut));
+                assert_eq!(given(20, &octets[..cut], (total - cut) as u16, &octets[cut..]), (0, 21 + cut as u64, 0, 0));
+            }
+            // The longest binds it too.
+            if total > 2 {
+                assert_eq!(at_end(total as u64 - 1, &octets), (0, 0, total as u64, 0));
+            }
+        }
+    }
+}
+
+#[test]
+fn totals_at_the_edges() {
+    for length_of_length in 1..4 {
+        let size = header(false, length_of_length, 0).len();
+        for idle in [false, true] {
+            let of = |total: u64| header(idle, length_of_length, total);
+            let whole = if idle { (0, size as u64, 0, 0) } else { (1, 0, 0, 0) };
+            assert_eq!(at_end(20, &of(size as u64)), whole);
+            for unreadable in [0, 1, size as u64 - 1] {
+                assert_eq!(at_end(20, &of(unreadable)), (0, 0, size as u64, 0));
+            }
+            // Of the longest, whole and cut; one more is too long, cut or not.
+            assert_eq!(at_end(20, &of(20)), (0, 0, 0, size));
+            assert_eq!(at_end(20, &of(21)), (0, 0, size as u64, 0));
+            assert_eq!(at_end(20, &capsule(idle, length_of_length, 21)), (0, 0, 21, 0));
+            let held = capsule(idle, length_of_length, 20);
+            assert_eq!(given(20, &held[..19], 1, &held[19..]).0, u64::from(!idle));
+        }
+    }
+    for high in [1 << 16, 65_536 + 8, 1 << 31, (1 << 32) - 1] {
+        assert_eq!(at_end(8_192, &header(false, 3, high)), (0, 0, 8, 0));
+        assert_eq!(at_end(8_192, &header(true, 3, high)), (0, 0, 8, 0));
+        // In the lead too, at once.
+        let octets = header(false, 3, high);
+        assert_eq!(given(8_192, &octets[..7], 0xFFFF, &octets[7..]), (0, 0, 28, 0));
+        assert_eq!(given(8_192, &octets[..7], 1, &octets[7..]), (0, 20, 8, 0));
+    }
+    assert_eq!(at_end(8_192, &header(false, 3, 8_192)), (0, 0, 0, 8));
+    assert_eq!(at_end(8_192, &header(false, 3, 8_193)), (0, 0, 8, 0));
+    assert_eq!(at_end(8_192, &header(false, 2, 65_535)), (0, 0, 4, 0));
+}
+
+#[test]
+fn every_header_cut_at_every_octet() {
+    for (packet, family) in [
+        (packet(20), Family::Space),
+        (capsule(false, 1, 20), Family::Encapsulation),
+        (capsule(false, 2, 20), Family::Encapsulation),
+        (capsule(false, 3, 20), Family::Encapsulation),
+    ] {
+        for cut in 1..20 {
+            let mut end = End::fresh(&worked_setting());
+            let zone = [&vec![0xE0; 21 - cut][..], &packet[..cut]].concat();
+            end.reads(&lane_frame(0, 0, &zone), 0);
+            assert_eq!((end.reader.held[0], end.reader.span[0]), (cut, 1));
+            let mut zone = packet[cut..].to_vec();
+            zone.resize(21, 0xE0);
+            assert_eq!(end.reads(&lane_frame(1, 20 - cut as u16, &zone), 0).units, 1);
+            assert_eq!(end.units[..20], packet);
+            assert_eq!(end.records[..24], record(0, 20, 1, 2));
+            assert_eq!(measure(&end.units[..20]), Measure::Packet { family, size: 20 });
+        }
+    }
+}
+
+#[test]
+fn a_header_not_complete_where_the_lead_ends() {
+    for octets in [packet(20), capsule(false, 1, 20), capsule(false, 2, 20), capsule(false, 3, 20)] {
+        let header = match measure(&octets[..1]) {
+            Measure::Lacks(more) => 1 + more,
+            other => panic!("{other:?}"),
+        };
+        // With a pointer it fails there, as one that is cut after its header does.
+        for joined in 2..20 {
+            for held in 1..joined {
+                let lead = &octets[held..joined];
+                let fails = (0, 21 - lead.len() as u64, joined as u64, 0);
+                assert_eq!(given(64, &octets[..held], lead.len() as u16, lead), fails, "{header} {joined} {held}");
+            }
+        }
+    }
+}
+
+#[test]
+fn small_longest_in_the_walk() {
+    // So many octets of a header that is not complete: held below the longest, dropped from there on.
+    for longest in 2..=9 {
+        for (first, header) in [(0x00, 6), (0xE5, 2), (0xE6, 4), (0xE7, 8), (0xE1, 2), (0xE2, 4), (0xE3, 8)] {
+            for at_hand in 1..header {
+                let mut octets = vec![0; at_hand];
+                octets[0] = first;
+                let wanted = if at_hand < longest { (0, 0, 0, at_hand) } else { (0, 0, at_hand as u64, 0) };
+                assert_eq!(at_end(longest as u64, &octets), wanted, "{first:02X}, {at_hand} of {header}, {longest}");
+            }
+        }
+    }
+    // A whole Space Packet is too long there; two octets are a packet.
+    assert_eq!(at_end(6, &packet(7)), (0, 0, 7, 0));
+    assert_eq!(at_end(7, &packet(7)), (1, 0, 0, 0));
+    assert_eq!(at_end(2, &[0xE5, 2, 0xFD, 2, 0xE1, 2, 0xE5]), (2, 2, 0, 1));
+    assert_eq!(at_end(2, &[0xE5, 2, 0xE5, 3, 0, 0xE5, 2]), (1, 0, 5, 0));
+}
+
+#[test]
+fn small_longest_in_the_lead() {
+    // Z = 1: each frame brings one octet, and no packet starts in it.
+    let mut setting = worked_setting();
+    setting.insert = 20;
+    for longest in 2..=9 {
+        setting.lanes[0].longest = longest;
+        for (first, header) in [(0x00, 6), (0xE5, 2), (0xE6, 4), (0xE7, 8), (0xE3, 8)] {
+            let mut end = End::fresh(&setting);
+            end.hold(0, &[first], 1);
+            for joined in 2..header {
+                let mut frame = lane_frame(0, 0xFFFF, &[]);
+                frame.splice(8..8, vec![0; 20]);
+                frame[7] = joined as u8;
+                frame.push(0);
+                let dropped = end.reads(&frame, 0).dropped;
+                if joined < longest {
+                    assert_eq!((dropped, end.reader.held[0], end.reader.span[0]), (0, joined as usize, joined));
+                } else {
+                    assert_eq!((dropped, end.reader.held[0], end.reader.span[0]), (joined, 0, 0));
+                    break;
+                }
+            }
+        }
+    }
+}
+
+#[test]
+fn unreadable_first_octets_in_a_zone() {
+    for first in 0..=255_u8 {
+        let wanted = match (first >> 5, first & 3) {
+            (0, _) => (0, 0, 0, 1),
+            (7, 0) if first == 0xE0 => (0, 1, 0, 0),
+            (7, 1..=3) => (0, 0, 0, 1),
+            _ => (0, 0, 1, 0),
+        };
+        assert_eq!(at_end(64, &[first]), wanted, "{first:02X}");
+        // Held, it begins no packet either, and one octet E0 has ended before the lead does.
+        if wanted != (0, 0, 0, 1) {
+            assert_eq!(given(64, &[first], 0xFFFF, &[0; 21]), (0, 0, 22, 0), "{first:02X}");
+            assert_eq!(given(64, &[first], 5, &[0; 5]), (0, 16, 6, 0), "{first:02X}");
+        }
+    }
+}
+
+#[test]
+fn a_mixture_of_both_families_is_written_and_read() {
+    // 10 + 4 + 18 + 2 + 8 + 30 = 72 octets: zones of 21.
+    let units = [
+        case_2_batch()[..10].to_vec(),
+        capsule(false, 2, 4),
+        case_2_batch()[10..].to_vec(),
+        capsule(false, 1, 2),
+        capsule(false, 3, 8),
+        capsule(false, 3, 30),
+    ];
+    let frames = frames_of(&worked_setting(), &units.concat());
+    let pointers: Vec<u16> = frames.iter().map(|frame| u16::from(frame[9]) << 8 | u16::from(frame[10])).collect();
+    // They start at 0, 10, 14, 32, 34 and 42, and the fill at 72.
+    assert_eq!(pointers, [0, 11, 0, 9]);
+    assert_eq!(frames[3][11 + 9..], [0xE0; 12]);
+    let mut end = End::fresh(&worked_setting());
+    let mut out = Vec::new();
+    for frame in &frames {
+        let answer = end.read(frame);
+        assert_eq!((answer.class, answer.dropped), (Class::Read, 0));
+        let mut rest = &end.units[..answer.octets as usize];
+        for record in end.records[..answer.units as usize * RECORD].chunks(RECORD) {
+            let (unit, later) = rest.split_at(usize::from(record[11]));
+            out.push(unit.to_vec());
+            rest = later;
+        }
+    }
+    assert_eq!(out, units);
+}
+
+#[test]
+fn batches_that_break_the_rule() {
+    let refused = |longest: u64, batch: &[u8]| {
+        let mut writer = Writer::fresh(&longest_setting(longest)).unwrap();
+        let lent = Lent { lane: 0, batch, insert: &[], ocf: &[] };
+        let written = writer.write(&lent, &mut [0; 32]);
+        assert!(written == Ok(()) || (written == Err(14) && writer == Writer::fresh(&writer.setting).unwrap()));
+        written.is_err()
+    };
+    let good = [packet(7), capsule(false, 1, 2)].concat();
+    assert!(!refused(64, &good));
+    let idle_space = octets("07 FF 00 00 00 00 00");
+    let bad = [
+        vec![0xE0],
+        capsule(true, 1, 2),
+        capsule(true, 2, 4),
+        capsule(true, 3, 8),
+        idle_space,
+        vec![0xE4],
+        vec![0xFC],
+        vec![0x20],
+        header(false, 1, 1),
+        header(false, 2, 3),
+        header(false, 3, 7),
+        header(false, 3, 0),
+        header(false, 3, (1 << 32) - 1),
+        capsule(false, 1, 65),
+        packet(65),
+    ];
+    for octets in bad {
+        assert!(refused(64, &octets), "{octets:?}");
+        assert!(refused(64, &[&octets[..], &good].concat()), "{octets:?}");
+        assert!(refused(64, &[&good[..], &octets].concat()), "{octets:?}");
+    }
+    for (length_of_length, total) in [(1, 20), (2, 20), (3, 20), (1, 2), (2, 4), (3, 8)] {
+        let whole = capsule(false, length_of_length, total);
+        assert!(!refused(total as u64, &whole));
+        assert!(total == 2 || refused(total as u64 - 1, &whole));
+        for cut in 1..total {
+            assert!(refused(64, &whole[..cut]));
+            assert!(refused(64, &[&good[..], &whole[..cut]].concat()));
+        }
+    }
+    // A lane of longest 2 to 6 has no Space Packets.
+    assert!(!refused(2, &capsule(false, 1, 2)));
+    assert!(refused(6, &packet(7)));
+    // 32,768 octets and two more.
+    let many = capsule(false, 1, 2).repeat(16_384);
+    assert!(!refused(2, &many));
+    assert!(refused(2, &[many, capsule(false, 1, 2)].concat()));
+}
+
+#[test]
+fn a_packet_lanes_longest_is_2_to_8_192() {
+    for (longest, valid) in [(0, false), (1, false), (2, true), (6, true), (7, true), (8_192, true), (8_193, false)] {
+        let setting = longest_setting(longest);
+        assert_eq!(setting.valid(), valid);
+        assert_eq!(Reader::fresh(&setting).err(), if valid { None } else { Some(1) });
+        assert_eq!(Writer::fresh(&setting).err(), if valid { None } else { Some(1) });
+    }
+    assert!(access_setting(1).valid());
+    // A lane of longest 2 may hold one octet, and no more.
+    let frame = lane_frame(0, 0, &[0xE0; 21]);
+    for (held, class) in [(1, Class::Read), (2, Class::Refused(1))] {
+        let mut end = End::fresh(&longest_setting(2));
+        end.hold(0, &vec![0xE5; held], 1);
+        assert_eq!(end.read(&frame).class, class);
+    }
+}
+
+#[test]
+fn the_most_units_of_one_frame() {
+    // Z = 4,085: an octet of the lead ends a packet of two, and 2,042 follow.
+    let mut setting = worked_setting();
+    setting.frame_length = 4_096;
+    setting.lanes[0].longest = 2;
+    let mut end = End::fresh(&setting);
+    end.hold(0, &[0xE5], 1);
+    let zone = [&[2][..], &[0xE5, 2].repeat(2_042)].concat();
+    let frame = [&octets("C0 02 A0 6A 0F FF 01 00 00 00 01")[..], &zone].concat();
+    assert_eq!(frame.len(), 4_096);
+    let answer = end.reads(&frame, 0);
+    assert_eq!((answer.units, answer.octets, answer.dropped, answer.idle), (2_043, 4_086, 0, 0));
+    assert_eq!(end.records[2_042 * RECORD..][..24], record(4_084, 2, 0, 1));
+    assert!(2_043 * RECORD <= 49_152);
+}
+
+#[test]
+fn the_table_of_units_says_the_family() {
+    assert_eq!(UNITS_TITLE, "lane,offset,length,frame,count,apid,sequence,span,family");
+    let line = |kind, offset, number, unit: &[u8], count, span| {
+        unit_line(kind, offset, number, &record(0, unit.len() as u32, count, span), unit)
+    };
+    let space = &case_2_batch()[..10];
+    assert_eq!(line(Kind::Packet, 0, 0, space, 0, 1), "0,0,10,0,0,1,0,1,space");
+    assert_eq!(line(Kind::Packet, 10, 0, &capsule(false, 2, 4), 0, 1), "0,10,4,0,0,,,1,encapsulation");
+    assert_eq!(line(Kind::Packet, 14, 9, &capsule(false, 1, 2), 1 << 33, 2), "0,14,2,9,8589934592,,,2,encapsulation");
+    assert_eq!(line(Kind::Packet, 16, 9, &octets("1F FE FF FF 00 00 00"), 8, 3), "0,16,7,9,8,2046,16383,3,space");
+    // An access unit may look like a packet, and is none.
+    for unit in [&[0x77; 21][..], space, &capsule(false, 2, 4)] {
+        let length = unit.len();
+        assert_eq!(line(Kind::Access, 0, 2, unit, 0, 1), format!("0,0,{length},2,0,,,1,"));
+    }
 }
 
 #[test]
@@ -1223,10 +1640,10 @@ fn a_script_as_requests() {
     assert_eq!(after("held 1 0102 2\n"), [octets.clone(), laid(2, 2)].concat());
     assert_eq!(after("held 1 0102 65538\n"), [octets, laid(2, 2)].concat());
     assert_eq!(after("held 1 - 7\n"), [row(&[2, 0, 8_192]), laid(0, 7)].concat());
-    assert_eq!(after("read 0A 1\n"), [row(&[1, 1, 1, 14_400, 65_536]), vec![10]].concat());
+    assert_eq!(after("read 0A 1\n"), [row(&[1, 1, 1, 49_152, 65_536]), vec![10]].concat());
     assert_eq!(after("look 0A0B\n"), [row(&[9, 2]), vec![10, 11]].concat());
     assert_eq!(after("look -\n"), row(&[9, 0]));
-    assert_eq!(after("keep 32\n"), row(&[0, 0, 12_288, 14_400, 65_536, 32]));
+    assert_eq!(after("keep 32\n"), row(&[0, 0, 12_288, 49_152, 65_536, 32]));
     let write = [row(&[7, 274, 3, 1, 0, 40]), vec![0xAA], vec![0; 271], vec![1, 2]].concat();
     assert_eq!(after("write 3 0102 AA - 40\n"), write);
     assert_eq!(after("begin\n").len(), 2 * (64 + 17 * 64 + 56 + 8 * 32 + 8 * 40));
@@ -1250,7 +1667,7 @@ fn answers_as_text() {
     desk[..8].copy_from_slice(&1_u64.to_be_bytes());
     let mut taken = desk.clone();
     taken[..16].copy_from_slice(&[0, 0, 0, 0, 0, 0, 0, 3, 0, 0, 0, 0, 0, 0, 0, 1]);
-    taken.extend(vec![0x55; 65_552 + 12_304 + 14_432]);
+    taken.extend(vec![0x55; 65_552 + 12_304 + 49_184]);
     let answers = [desk.clone(), desk.clone(), desk, taken].concat();
     assert_eq!(text(script, &answers).unwrap(), printed(script));
     for place in
@@ -1267,7 +1684,7 @@ fn answers_to_reads_as_text() {
     let text = |row_0: [u64; 8]| {
         let mut answer: Vec<u8> = row_0.iter().flat_map(|number| number.to_be_bytes()).collect();
         answer.resize(2_240, 0);
-        answer.extend(vec![0x55; 4_200 + 65_552 + 12_304 + 14_432]);
+        answer.extend(vec![0x55; 4_200 + 65_552 + 12_304 + 49_184]);
         let mut out = Vec::new();
         stream::answers("read 00\n".as_bytes(), &answer[..], &mut out)?;
         let text = String::from_utf8(out).unwrap();

@@ -271,7 +271,7 @@ module _ (s : Setting) (es : Expects) (hs : List Slot) (h : List ℕ) (a : Lent)
         fits =
             subst (λ (o : Got). o .taken .answer .octets ≤ unitsSize)
             (read-is new ∙ ap (λ (m : Made). laidOut g i v m h (a .units) (a .records)) made-is)
-            (read-fits (reader s es hs) f h (a .units) (a .records) .octets)
+            (read-fits (reader s es hs) f h (a .units) (a .records) .room)
 
         sound : MadeSound (made b k)
         sound = subst MadeSound made-is (made-sound (reader s es hs) f h i gr ih v full (channelOf s i))

@@ -256,10 +256,10 @@ module _ (r : Reader) (f h : List ℕ) (l : ℕ) (g : GoodReader r) (lh : l < r 
   unfolding madeBy
   made-below c = lane-below _ _ _ _ _ _ (lane-kind .enough)
 
-  -- Its units and their records fit.
+  -- Its units are few, and have few octets.
   pub record Fits (m : Made) : Type 0 where
-    pub octets : length (joined (octetsOf (m .units))) ≤ unitsSize
-    pub records : recordSize * length (m .units) ≤ recordsSize
+    pub octets : length (joined (octetsOf (m .units))) ≤ 12276
+    pub units : length (m .units) ≤ 2043
 
   few-held : length (take (heldBy (after .state) l) (part l h)) ≤ 8191
   few-held =
@@ -291,16 +291,16 @@ module _ (r : Reader) (f h : List ℕ) (l : ℕ) (g : GoodReader r) (lh : l < r 
     kept-good c = record { below = made-below c; within = made-sound c .held .within; some = made-sound c .held .some }
 
   module _ (whole : length f ≡ r .setting .length) where
-    small-zone : (c : Channel) → length (zoneIn (after .state .setting) c f) ≤ 4086
+    small-zone : (c : Channel) → 1 ≤ c .octets → length (zoneIn (after .state .setting) c f) ≤ 4085
     unfolding zoneIn
-    small-zone c =
+    small-zone c one =
         let a = length-take (zoneFor (after .state .setting) c (length f)) (drop (zoneAt (after .state .setting) c) f) in
         let b = ap (λ (s : Setting). s .length) same-setting in
         omega (arith, a, b, good-gapped .setting .high)
 
-    pub made-fits : (c : Channel) → Fits (madeBy after l c f h)
+    pub made-fits : (c : Channel) → 1 ≤ c .octets → Fits (madeBy after l c f h)
     unfolding madeBy total
-    made-fits c =
+    made-fits c one =
         let kind = (lane (after .state .setting) l) .kind in
         let longest = (lane (after .state .setting) l) .longest in
         let held = holding (after .state) l h in
@@ -308,8 +308,8 @@ module _ (r : Reader) (f h : List ℕ) (l : ℕ) (g : GoodReader r) (lh : l < r 
         let zone = zoneIn (after .state .setting) c f in
         let t = lane-total kind longest (ruleIn (after .state .setting) c f) held place zone in
         let n = lane-few kind longest (ruleIn (after .state .setting) c f) held place zone in
-        let z = small-zone c in
-        record { octets = omega (arith, t, few-held, z); records = omega (arith, n, z) }
+        let z = small-zone c one in
+        record { octets = omega (arith, t, few-held, z); units = omega (arith, n, z) }
 
 -- ---- areas that are not too short
 
@@ -366,21 +366,28 @@ read-held r f h u c full = go (verdict r f h u c) (verdict-facts r f h u c)
         length-laid h (partSize * l) _ (omega (arith, few, most, same, o .judged .numbered, o .good .setting .numbered)) ∙ full
     go (Verdict.Repeat k) o = unfold onVerdict in full
 
--- Units and records of any frame fit 12,288 and 14,400 octets.
+-- Units and records of any frame fit 12,288 and 49,152 octets: a lane holds 8,191 octets at most and a zone has 4,085, in which one packet ends and 2,042 of
+-- two octets stand.
 pub record Small (a : Answer) : Type 0 where
-  pub octets : a .octets ≤ unitsSize
+  pub octets : a .octets ≤ 12276
+  pub units : a .units ≤ 2043
+  pub room : a .octets ≤ unitsSize
   pub records : recordSize * a .units ≤ recordsSize
+
+pub small : (a : Answer) → a .octets ≤ 12276 → a .units ≤ 2043 → Small a
+small a o n = record { octets = o; units = n; room = omega arith; records = omega arith }
 
 pub read-fits : (r : Reader) (f h u c : List ℕ) → Small ((read r f h u c) .taken .answer)
 unfolding read
 read-fits r f h u c = go (verdict r f h u c) (verdict-facts r f h u c)
   where
     go : (v : Verdict) → Ruled r f h u c v → Small ((onVerdict v r f h u c) .taken .answer)
-    go (Verdict.Refused n) o = unfold onVerdict in record { octets = omega arith; records = omega arith }
-    go Verdict.Idle o = unfold onVerdict in record { octets = omega arith; records = omega arith }
-    go (Verdict.Counted k) o = unfold onVerdict in record { octets = omega arith; records = omega arith }
+    go (Verdict.Refused n) o = unfold onVerdict in small _ (omega arith) (omega arith)
+    go Verdict.Idle o = unfold onVerdict in small _ (omega arith) (omega arith)
+    go (Verdict.Counted k) o = unfold onVerdict in small _ (omega arith) (omega arith)
     go (Verdict.Read l) o =
         unfold onVerdict readOn laidOut in
-        let m = made-fits r f h l (o .good) (o .judged .numbered) (countIn (channelOf (r .setting) l) f) (o .judged .whole) (channelOf (r .setting) l) in
-        record { octets = m .octets; records = m .records }
-    go (Verdict.Repeat k) o = unfold onVerdict in record { octets = omega arith; records = omega arith }
+        let m = made-fits r f h l (o .good) (o .judged .numbered) (countIn (channelOf (r .setting) l) f) (o .judged .whole) (channelOf (r .setting) l)
+        (good-channelOf (o .good .setting) l (o .judged .numbered) .one) in
+        small _ (m .octets) (m .units)
+    go (Verdict.Repeat k) o = unfold onVerdict in small _ (omega arith) (omega arith)

@@ -22,7 +22,7 @@ use Rattle.rules.specs.Refusals.{refusals, judged, judge}
 use Rattle.rules.specs.Calls.{Got, areasShort, laidOut, readOn, again, onVerdict, verdict, read, lookRefusals, looked, missingAt, onLook, look}
 use Rattle.rules.specs.Passes.{whose, whoseOf, leftOut, passBy, pass, PassGives, Step, answers, ofTakes, onlyTaken}
 use Rattle.rules.proofs.Tests.{getD-alike}
-use Rattle.rules.proofs.Calls.{verdict-cond, read-valid, Small, read-fits}
+use Rattle.rules.proofs.Calls.{verdict-cond, read-valid, Small, small, read-fits}
 use Rattle.rules.proofs.Promises.{look-once}
 
 -- ---- what a look finds
@@ -147,7 +147,7 @@ unfolding pass
 pass-fits w r f h u c = go (leftOut w (r .setting) (look r f))
   where
     go : (b : Bool) → Small ((passBy b r f h u c) .taken .answer)
-    go true = unfold passBy in record { octets = omega arith; records = omega arith }
+    go true = unfold passBy in small _ (omega arith) (omega arith)
     go false = unfold passBy in read-fits r f h u c
 
 -- Outcomes allowed for one input are equal.
