@@ -5,6 +5,7 @@ pub mod Octets
 pub mod Counts
 pub mod Valid
 pub mod Measures
+pub mod Printed
 pub mod Lanes
 pub mod Judged
 pub mod States

@@ -1,5 +1,5 @@
--- Tables that compute: cases 1 to 10, the listing, the errors that look right, frames sent twice, whole counts and spans, and edges of lanes, frames
--- and calls. Both columns of each come to the same.
+-- Tables that compute: cases 1 to 10, the listing, the errors that look right, frames sent twice, whole counts and spans, both families of packets, and edges
+-- of lanes, frames and calls. Both columns of each come to the same.
 use mathlib.Core.Path.{_≡_, refl}
 use Prim.Native.Nat.{ℕ, zero}
 use mathlib.Core.List.{[], _∷_, _++_, map}
@@ -16,10 +16,11 @@ use Rattle.rules.specs.Calls
 use Rattle.rules.specs.Listing
 use Rattle.rules.specs.Worked
 use Rattle.rules.specs.Errors
+use Rattle.rules.specs.Families
 
 -- To unfold this is to unfold every rule.
 unfoldable pub rules : ℕ
-unfolding Tests.all Tests.every Tests.first Tests.given Octets.be Octets.num Octets.widths Octets.packed Octets.bits Octets.checkBit Octets.checkBits Octets.checkFrom Octets.checkOf Areas.laid Areas.joined Settings.zone Settings.rangesOk Settings.channelOk Settings.channelsAgree Settings.channelsOk Settings.kindOk Settings.laneOk Settings.lanesDiffer Settings.lanesOk Settings.settingOk Settings.freshReader Settings.freshWriter Settings.slotOk Settings.readerOk Settings.writerOk Settings.noSetting Settings.noReader Settings.noWriter Frames.header Frames.primary Frames.dataHeader Frames.body Frames.checked Frames.countIn Frames.ruleIn Frames.upidIn Frames.pointerIn Frames.zoneIn Frames.checkHolds Frames.pointsTo Packets.sized Packets.spacePacket Packets.totalIn Packets.totalled Packets.alone Packets.encapsulated Packets.headed Packets.measured Packets.measure Packets.packetsUpTo Packets.packets Writing.noneAbove Writing.batchOk Writing.frames Writing.zoneOf Writing.ruleOf Writing.startFrom Writing.offsetOf Writing.inside Writing.pointerOf Writing.frameOf Writing.numberAfter Writing.countAfter Writing.writerAfter Reading.missing Reading.expected Reading.lastTaken Reading.repeats Reading.emptied Reading.lost Reading.gapBy Reading.gap Reading.carries Reading.both Reading.endFate Reading.cutFate Reading.joinedFate Reading.leadFate Reading.lead Reading.sizedNext Reading.cutNext Reading.nextOf Reading.walkUpTo Reading.walk Reading.packetLane Reading.unitFate Reading.followFate Reading.portion Reading.accessLane Reading.laneStep Reading.recordOf Reading.recordsFrom Reading.infoOf Refusals.channelAt Refusals.laneAt Refusals.ruleFits Refusals.dataWrong Refusals.refusalsAt Refusals.refusals Refusals.onChannel Refusals.passed Refusals.judged Refusals.judge Calls.refusalOf Calls.classRefusal Calls.setUpReader Calls.setUpWriter Calls.writeRefusals Calls.written Calls.write Calls.areasShort Calls.laidOut Calls.madeBy Calls.readOn Calls.repeatsAt Calls.again Calls.onVerdict Calls.readRefusals Calls.verdict Calls.read Calls.lookRefusals Calls.looked Calls.missingAt Calls.onLook Calls.look Listing.text Listing.digits Listing.decimal Listing.word Listing.amount Listing.line Listing.lines Listing.listing Worked.worked Worked.sentBy Worked.sends Worked.readBy Worked.reads Worked.each Worked.dataHeaders Worked.packetOf Worked.cases Errors.paired Errors.sealed Errors.packetFrame Errors.accessFrame Errors.forged Errors.shown Errors.refused Errors.errors Errors.edges Errors.copies Errors.wide Errors.spans Errors.laden Errors.ladenWriter Errors.counting Errors.ladenSends Errors.wholes
+unfolding Tests.all Tests.every Tests.first Tests.given Octets.be Octets.num Octets.widths Octets.packed Octets.bits Octets.checkBit Octets.checkBits Octets.checkFrom Octets.checkOf Areas.laid Areas.joined Settings.zone Settings.rangesOk Settings.channelOk Settings.channelsAgree Settings.channelsOk Settings.kindOk Settings.laneOk Settings.lanesDiffer Settings.lanesOk Settings.settingOk Settings.freshReader Settings.freshWriter Settings.slotOk Settings.readerOk Settings.writerOk Settings.noSetting Settings.noReader Settings.noWriter Frames.header Frames.primary Frames.dataHeader Frames.body Frames.checked Frames.countIn Frames.ruleIn Frames.upidIn Frames.pointerIn Frames.zoneIn Frames.checkHolds Frames.pointsTo Packets.sized Packets.spacePacket Packets.totalIn Packets.totalled Packets.alone Packets.encapsulated Packets.headed Packets.measured Packets.measure Packets.packetsUpTo Packets.packets Writing.noneAbove Writing.batchOk Writing.frames Writing.zoneOf Writing.ruleOf Writing.startFrom Writing.offsetOf Writing.inside Writing.pointerOf Writing.frameOf Writing.numberAfter Writing.countAfter Writing.writerAfter Reading.missing Reading.expected Reading.lastTaken Reading.repeats Reading.emptied Reading.lost Reading.gapBy Reading.gap Reading.carries Reading.both Reading.endFate Reading.cutFate Reading.joinedFate Reading.leadFate Reading.lead Reading.sizedNext Reading.cutNext Reading.nextOf Reading.walkUpTo Reading.walk Reading.packetLane Reading.unitFate Reading.followFate Reading.portion Reading.accessLane Reading.laneStep Reading.recordOf Reading.recordsFrom Reading.infoOf Refusals.channelAt Refusals.laneAt Refusals.ruleFits Refusals.dataWrong Refusals.refusalsAt Refusals.refusals Refusals.onChannel Refusals.passed Refusals.judged Refusals.judge Calls.refusalOf Calls.classRefusal Calls.setUpReader Calls.setUpWriter Calls.writeRefusals Calls.written Calls.write Calls.areasShort Calls.laidOut Calls.madeBy Calls.readOn Calls.repeatsAt Calls.again Calls.onVerdict Calls.readRefusals Calls.verdict Calls.read Calls.lookRefusals Calls.looked Calls.missingAt Calls.onLook Calls.look Listing.text Listing.digits Listing.decimal Listing.word Listing.amount Listing.line Listing.lines Listing.listing Worked.worked Worked.sentBy Worked.sends Worked.readBy Worked.reads Worked.each Worked.dataHeaders Worked.packetOf Worked.cases Errors.paired Errors.sealed Errors.packetFrame Errors.accessFrame Errors.forged Errors.shown Errors.refused Errors.errors Errors.edges Errors.copies Errors.wide Errors.spans Errors.laden Errors.ladenWriter Errors.counting Errors.ladenSends Errors.wholes Families.families
 rules = zero
 
 -- "Cases 1 to 10 are the marked set."
@@ -52,6 +53,10 @@ copies-hold = refl
 pub spans-hold : map (λ (c : Worked.Case). c .got) Errors.spans ≡ map (λ (c : Worked.Case). c .want) Errors.spans
 unfolding rules
 spans-hold = refl
+
+pub families-hold : map (λ (c : Worked.Case). c .got) Families.families ≡ map (λ (c : Worked.Case). c .want) Families.families
+unfolding rules
+families-hold = refl
 
 pub wholes-hold : map (λ (c : Worked.Case). c .got) Errors.wholes ≡ map (λ (c : Worked.Case). c .want) Errors.wholes
 unfolding rules

@@ -17,4 +17,5 @@ pub mod Passes
 pub mod Worked
 pub mod Listing
 pub mod Errors
+pub mod Families
 pub mod RuledOut
