@@ -16,6 +16,7 @@ use Rattle.rules.specs.declared.Kind.{Kind}
 use Rattle.rules.specs.declared.Kind.the-variants.{Packets, Access}
 use Rattle.rules.specs.declared.Place.{Place}
 use Rattle.rules.specs.declared.Place.the-variants.{At, Nowhere}
+use Rattle.rules.specs.declared.Family.{Family}
 use Rattle.rules.specs.declared.Measure.{Measure}
 use Rattle.rules.specs.declared.Measure.the-variants.{Lacks, Packet, Idle, Unreadable}
 use Rattle.rules.specs.Tests.{_≤?_, _=?_, all}
@@ -30,11 +31,11 @@ use Rattle.rules.proofs.Measures.{measure-cases, measure-none, packet-long}
 
 -- To show something of the step that takes one packet, show it where there is none to take, and where there is a whole one.
 whole-cases : (P : ((List ℕ → List (List ℕ)) → List (List ℕ)) → Type 0) (xs : List ℕ) → P (λ rest. [])
-    → ((n : ℕ) → 7 ≤ n → n ≤ length xs → P (λ rest. take n xs ∷ rest (drop n xs))) → P (λ rest. whole (measure xs) xs rest)
+    → ((n : ℕ) → 2 ≤ n → n ≤ length xs → P (λ rest. take n xs ∷ rest (drop n xs))) → P (λ rest. whole (measure xs) xs rest)
 whole-cases P xs none one =
-    measure-cases (λ (m : Measure). P (λ rest. whole m xs rest)) xs (λ l. none) (λ n h. go n h (n ≤? length xs) refl) (λ n h. none) none
+    measure-cases (λ (m : Measure). P (λ rest. whole m xs rest)) xs (λ k. none) (λ f n h. go n h (n ≤? length xs) refl) (λ n h. none) none
   where
-    go : (n : ℕ) → 7 ≤ n → (t : Bool) → n ≤? length xs ≡ t → P (λ rest. cond t (take n xs ∷ rest (drop n xs)) [])
+    go : (n : ℕ) → 2 ≤ n → (t : Bool) → n ≤? length xs ≡ t → P (λ rest. cond t (take n xs ∷ rest (drop n xs)) [])
     go n h true e = one n h (leb-true _ _ e)
     go n h false e = none
 
@@ -78,17 +79,17 @@ module _ (b : List ℕ) (i : ℕ) (m : Measure) (is : m ≡ measure (take (lengt
   none-here o = here ∙ go m o
     where
       go : (m : Measure) → OneOf (0 ∷ 2 ∷ 3 ∷ []) (tagOf measure-type.the-type m) → whole m (drop i b) packets ≡ []
-      go Lacks o = refl
-      go (Packet n) o =
+      go (Lacks k) o = refl
+      go (Packet f n) o =
           absurd
           (⊎-elim (λ (e : _≡_ {A = ℕ} 1 0). omega arith)
           (⊎-elim (λ (e : _≡_ {A = ℕ} 1 2). omega arith) (λ (e : _≡_ {A = ℕ} 1 3). omega arith)) o)
       go (Idle n) o = refl
       go Unreadable o = refl
 
-  module _ (n : ℕ) (e : m ≡ Packet n) where
-    pub long-here : 7 ≤ n
-    long-here = packet-long (take (length b - i) (drop i b)) n (sym is ∙ e)
+  module _ (f : Family) (n : ℕ) (e : m ≡ Packet f n) where
+    pub long-here : 2 ≤ n
+    long-here = packet-long (take (length b - i) (drop i b)) f n (sym is ∙ e)
 
     -- A packet that is cut.
     pub cut-here : length b - i < n → packets (drop i b) ≡ []

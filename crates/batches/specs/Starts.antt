@@ -13,7 +13,7 @@ use Rattle.rules.specs.Areas.{joined}
 use Rattle.rules.specs.Packets.{packets}
 use Rattle.rules.specs.Writing.{noneAbove, batchOk, startFrom}
 
--- These octets are whole Space Packets back to back, none idle, none above the longest.
+-- These octets are whole packets of both families back to back, none idle, none above the longest.
 abbrev pub stand : ℕ → List ℕ → Bool
 stand longest xs = all (length (joined (packets xs)) =? length xs ∷ noneAbove longest (packets xs) ∷ [])
 

@@ -18,7 +18,7 @@ fn packets_to(longest: usize, batch: &[u8], from: usize, to: usize) -> Place
     let mut i = from;
     while i < to {
         let m = packets::measure_at(&batch[i..]);
-        let Measure::Packet(n) = m else {
+        let Measure::Packet(_, n) = m else {
             return Place::Nowhere;
         };
         if batch.len() - i < n {
@@ -52,7 +52,7 @@ fn if_any(i: usize, p: Place) -> Place
     }
 }
 
-// Where the first packet from octet `from` on starts, if the octets are whole Space Packets back to back, none idle, none above the
+// Where the first packet from octet `from` on starts, if the octets are whole packets of both families back to back, none idle, none above the
 // longest. Each packet is looked at once: those before that octet, then those from it on.
 fn back_to_back(longest: usize, batch: &[u8], from: usize) -> Place
     ensures { λ r. ⌜ Stands longest (now (batch .entry)) from r ⌝ }

@@ -131,6 +131,16 @@ pub measure-none : measure [] ≡ Lacks 1
 unfolding measure
 measure-none = refl
 
+pub measure-empty : (xs : List ℕ) → length xs ≡ 0 → measure xs ≡ Lacks 1
+measure-empty [] e = measure-none
+measure-empty (a ∷ xs) e = absurd (omega arith)
+
+-- By the first octet, where there is one.
+pub measure-first : (xs : List ℕ) → 0 < length xs → measure xs ≡ measured (getD xs 0 0) xs
+unfolding measure
+measure-first [] h = absurd (not-suc-le-zero h)
+measure-first (a ∷ xs) h = refl
+
 pub measure-cases : (P : Measure → Type 0) (xs : List ℕ) → ((k : ℕ) → P (Lacks k)) → ((f : Family) (n : ℕ) → 2 ≤ n → P (Packet f n))
     → ((n : ℕ) → 1 ≤ n → P (Idle n)) → P Unreadable → P (measure xs)
 unfolding measure

@@ -48,7 +48,7 @@ returns-2 c =
     let told = c .before .before in
     let top = told .before .before .before .before .before in
     let a = top .before .before in
-    let cut = cut-here (a .args .batch .now) (top .loop .i) _ (told .before .before .measure-at .ensures) _ (told .m .given .1) (c .if1 .taken) in
+    let cut = cut-here (a .args .batch .now) (top .loop .i) _ (told .before .before .measure-at .ensures) _ _ (told .m .given .1) (c .if1 .taken) in
     passed-none (top .loop .inv) (omega (arith, told .before .before .before .before .loop-test .taken, a .pre .1)) cut
 
 returns-3 : tie.Need-returns-3 Inv-loop μ-loop
@@ -56,7 +56,7 @@ returns-3 c =
     let told = c .before .before .before in
     let top = told .before .before .before .before .before in
     let b = top .before .before .args .batch .now in
-    let more = more-here b (top .loop .i) _ (told .before .before .measure-at .ensures) _ (told .m .given .1) (c .before .if1 .left) in
+    let more = more-here b (top .loop .i) _ (told .before .before .measure-at .ensures) _ _ (told .m .given .1) (c .before .if1 .left) in
     passed-above (top .loop .inv) _ (c .before .if1 .left) more (c .if2 .taken)
 
 add-i : tie.Need-add-i Inv-loop μ-loop
@@ -66,7 +66,7 @@ loop-less : tie.Need-loop-less Inv-loop μ-loop
 loop-less c =
     let told = c .before .before .before in
     let top = told .before .before .before .before .before in
-    let long = long-here (top .before .before .args .batch .now) (top .loop .i) _ (told .before .before .measure-at .ensures) _ (told .m .given .1) in
+    let long = long-here (top .before .before .args .batch .now) (top .loop .i) _ (told .before .before .measure-at .ensures) _ _ (told .m .given .1) in
     omega arith
 
 loop-again : tie.Need-loop-again Inv-loop μ-loop
@@ -74,7 +74,7 @@ loop-again c =
     let told = c .before .before .before in
     let top = told .before .before .before .before .before in
     let b = top .before .before .args .batch .now in
-    let more = more-here b (top .loop .i) _ (told .before .before .measure-at .ensures) _ (told .m .given .1) (c .before .if1 .left) in
+    let more = more-here b (top .loop .i) _ (told .before .before .measure-at .ensures) _ _ (told .m .given .1) (c .before .if1 .left) in
     passed-more (top .loop .inv) _ (c .before .if1 .left) more (told .before .before .before .before .loop-test .taken) (c .if2 .left)
 
 returns-4 : tie.Need-returns-4 Inv-loop μ-loop
