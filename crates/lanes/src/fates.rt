@@ -2,13 +2,13 @@
 // each function is total, and gives what one definition of the rules gives.
 ghost use mathlib.Core.Path.{_≡_};
 ghost use Prim.Native.Nat.{_+_};
-ghost use Rattle.rules.specs.Reading.{endFate, joinedFate, leadFate, sizedNext, nextOf, unitFate, followFate};
+ghost use Rattle.rules.specs.Reading.{endFate, cutFate, joinedFate, leadFate, sizedNext, cutNext, unitFate, followFate};
 use rules::Fate;
 use rules::Measure;
 use rules::Next;
 
 // What becomes of a packet of `size` octets at the front of n: `done` where it is whole.
-fn sized_next(longest: usize, size: usize, n: usize, done: Next) -> Next
+pub fn sized_next(longest: usize, size: usize, n: usize, done: Next) -> Next
     ensures { λ r. ⌜ r ≡ sizedNext longest size n done ⌝ }
 {
     if longest < size {
@@ -20,16 +20,14 @@ fn sized_next(longest: usize, size: usize, n: usize, done: Next) -> Next
     done
 }
 
-// What becomes of the packet at the front of n octets.
-pub fn next_of(longest: usize, m: Measure, n: usize) -> Next
-    ensures { λ r. ⌜ r ≡ nextOf longest m n ⌝ }
+// What becomes of a packet at the front of n octets that do not say its size.
+pub fn cut_next(longest: usize, n: usize) -> Next
+    ensures { λ r. ⌜ r ≡ cutNext longest n ⌝ }
 {
-    match m {
-        Measure::Lacks => Next::Keep,
-        Measure::Packet(size) => sized_next(longest, size, n, Next::Give(size)),
-        Measure::Idle(size) => sized_next(longest, size, n, Next::Skip(size)),
-        Measure::Unreadable => Next::Lose,
+    if longest <= n {
+        return Next::Lose;
     }
+    Next::Keep
 }
 
 // What becomes of a packet of `size` octets of which h are held and n follow: `done` where it ends with them. It may go on where `on`.
@@ -53,18 +51,28 @@ fn end_fate(longest: usize, on: bool, size: usize, h: usize, n: usize, done: Fat
     Fate::Drop
 }
 
+// What becomes of a packet of which h octets are held and n follow, and these do not say its size.
+fn cut_fate(longest: usize, on: bool, h: usize, n: usize) -> Fate
+    ensures { λ r. ⌜ r ≡ cutFate longest on (h + n) ⌝ }
+{
+    if longest <= h {
+        return Fate::Drop;
+    }
+    if on {
+        if n < longest - h {
+            return Fate::Hold;
+        }
+    }
+    Fate::Drop
+}
+
 // What becomes of h held octets and a lead of n that follows them, measured together.
 fn joined_fate(longest: usize, on: bool, m: Measure, h: usize, n: usize) -> Fate
     ensures { λ r. ⌜ r ≡ joinedFate longest on m (h + n) ⌝ }
 {
     match m {
-        Measure::Lacks => {
-            if on {
-                return Fate::Hold;
-            }
-            Fate::Drop
-        }
-        Measure::Packet(size) => end_fate(longest, on, size, h, n, Fate::Hand),
+        Measure::Lacks(_) => cut_fate(longest, on, h, n),
+        Measure::Packet(_, size) => end_fate(longest, on, size, h, n, Fate::Hand),
         Measure::Idle(size) => end_fate(longest, on, size, h, n, Fate::Blank),
         Measure::Unreadable => Fate::Drop,
     }

@@ -1,14 +1,13 @@
 // What a lane makes of a zone and of the octets it holds, laid into lent areas.
 ghost use mathlib.Core.Path.{_≡_};
 ghost use mathlib.Core.List.{List, _++_};
-ghost use Prim.Native.Nat.{ℕ, _+_, _≤_};
-ghost use lib.ListN.{length, getD};
+ghost use Prim.Native.Nat.{ℕ, min};
+ghost use lib.ListN.{length};
 ghost use Rattle.rules.specs.Packets.{measure};
 ghost use Rattle.rules.specs.Reading.{heldIn, leadFate, packetLane, accessLane, laneStep};
 ghost use Rattle.rules.specs.Valid.{Inside};
 ghost use Rattle.lanes.specs.Hands.{Kept};
 ghost use Rattle.lanes.specs.Steps.{Lent, portionOpening, Opens, Stepped};
-ghost use Rattle.rules.specs.Areas.{unitsSize};
 
 mod fates;
 pub mod units;
@@ -23,30 +22,30 @@ use units::Stand;
 use units::Tally;
 use units::Terms;
 
-// Octet i of two parts that follow each other, or 0 past their end.
-fn octet_of(first: &[u8], second: &[u8], i: usize) -> u8
-    ensures { λ r. ⌜ r ≡ getD (now (first .entry) ++ now (second .entry)) i 0 ⌝ }
+// As many as n, and at most `most`.
+fn at_most(n: usize, most: usize) -> usize
+    ensures { λ r. ⌜ r ≡ min most n ⌝ }
 {
-    if i < first.len() {
-        return first[i];
+    if n < most {
+        return n;
     }
-    let j = i - first.len();
-    if j < second.len() {
-        return second[j];
-    }
-    0
+    most
 }
 
-// Measures the packet that begins with the first of two parts that follow each other.
+// Measures the packet that begins with the first of two parts that follow each other. No header has more than eight octets, so the first eight say all.
 fn measure_of(first: &[u8], second: &[u8]) -> Measure
-    requires { ⌜ length (now first) + length (now second) ≤ unitsSize ⌝ }
     ensures { λ r. ⌜ r ≡ measure (now (first .entry) ++ now (second .entry)) ⌝ }
 {
-    let a = octet_of(first, second, 0);
-    let b = octet_of(first, second, 1);
-    let d = octet_of(first, second, 4);
-    let e = octet_of(first, second, 5);
-    packets::measured_of(first.len() + second.len(), a, b, d, e)
+    let h = first.len();
+    if 8 <= h {
+        return packets::measure_at(first);
+    }
+    let more = at_most(second.len(), 8 - h);
+    let end = h + more;
+    let mut front = [0u8; 8];
+    octets::lay(&mut front, 0, first);
+    octets::lay(&mut front, h, &second[..more]);
+    packets::measure_at(&front[..end])
 }
 
 // How a lane begins its step: some octets are only counted, as fill or as dropped. `slot` is what it goes on with, all that it holds or nothing: that and
@@ -62,7 +61,6 @@ struct Opening {
 
 // What becomes of a lead after the held octets: the packet must end with it, or may go `on`.
 fn lead_of(longest: usize, on: bool, held: &[u8], next: &[u8]) -> Fate
-    requires { ⌜ length (now held) + length (now next) ≤ unitsSize ⌝ }
     ensures { λ r. ⌜ r ≡ leadFate longest on (measure (now (held .entry) ++ now (next .entry))) (length (now (held .entry))) (length (now (next .entry))) ⌝ }
 {
     let m = measure_of(held, next);
@@ -71,7 +69,7 @@ fn lead_of(longest: usize, on: bool, held: &[u8], next: &[u8]) -> Fate
 
 // A packet lane's opening: the lead, which is the octets before the pointer, or all of the zone.
 fn packet_opening(longest: usize, place: Place, slot: Slot, held: &[u8], zone: &[u8]) -> Opening
-    requires { ⌜ Kept slot (now held) × Inside (length (now zone)) place × (length (now held) + length (now zone) ≤ unitsSize) ⌝ }
+    requires { ⌜ Kept slot (now held) × Inside (length (now zone)) place ⌝ }
     ensures { λ r. ⌜ Opens longest (packetLane longest (record { octets = now (held .entry); span = slot .span }) place (now (zone .entry))) r (now (held .entry)) (now (zone .entry)) ⌝ }
 {
     match place {
@@ -152,7 +150,7 @@ fn access_opening(longest: usize, place: Place, begins: bool, slot: Slot, n: usi
 
 // A lane's opening, by its kind.
 fn opening_of(terms: Terms, slot: Slot, place: Place, rule: u8, held: &[u8], zone: &[u8]) -> Opening
-    requires { ⌜ Kept slot (now held) × Inside (length (now zone)) place × (length (now held) + length (now zone) ≤ unitsSize) ⌝ }
+    requires { ⌜ Kept slot (now held) × Inside (length (now zone)) place ⌝ }
     ensures { λ r. ⌜ Opens (terms .longest) (laneStep (terms .kind) (terms .longest) rule (record { octets = now (held .entry); span = slot .span }) place (now (zone .entry))) r (now (held .entry)) (now (zone .entry)) ⌝ }
 {
     let kind = terms.kind;

@@ -12,6 +12,7 @@ use crate::units;
 use crate::units::Stand;
 use crate::units::Tally;
 use crate::units::Terms;
+use rules::Measure;
 use rules::Next;
 use rules::Slot;
 
@@ -32,8 +33,18 @@ pub struct Walked {
 fn next_at(longest: usize, octets: &[u8]) -> Next
     ensures { λ r. ⌜ r ≡ nextOf longest (measure (now (octets .entry))) (length (now (octets .entry))) ⌝ }
 {
+    let n = octets.len();
     let m = packets::measure_at(octets);
-    fates::next_of(longest, m, octets.len())
+    let Measure::Packet(_, size) = m else {
+        let Measure::Idle(size) = m else {
+            let Measure::Lacks(_) = m else {
+                return Next::Lose;
+            };
+            return fates::cut_next(longest, n);
+        };
+        return fates::sized_next(longest, size, n, Next::Skip(size));
+    };
+    fates::sized_next(longest, size, n, Next::Give(size))
 }
 
 // Where the run of E0 octets from octet `from` on ends. Each of them is an idle packet, so a walk that has just left one out leaves out

@@ -12,7 +12,7 @@ use lib.Seq.{length-take-le, take-nil, take-at, drop-at, take-add, take-append-l
 use borrow.Author.Tests.{le-leb, lt-leb, lt-ltb, le-ltb, eq-eqb, ne-eqb}
 use Rattle.rules.specs.declared.Place.{Place}
 use Rattle.rules.specs.declared.Place.the-variants.{At, Nowhere}
-use Rattle.rules.specs.declared.Measure.the-variants.{Lacks, Packet}
+use Rattle.rules.specs.declared.Measure.the-variants.{Packet}
 use Rattle.rules.specs.declared.Next.{Next}
 use Rattle.rules.specs.declared.Next.the-variants.{Give, Skip, Keep}
 use Rattle.rules.specs.declared.Fate.{Fate}
@@ -21,9 +21,9 @@ use Rattle.rules.specs.Tests.{_≤?_}
 use Rattle.rules.specs.Areas.{joined}
 use Rattle.rules.specs.Packets.{measure}
 use Rattle.rules.specs.Writing.{startFrom, inside}
-use Rattle.rules.specs.Reading.{DataUnit, noUnit, carries, unitFrom, unitOf, hands, both, endFate, joinedFate, leadFate, lead, sizedNext, nextOf, front, walk, packetLane}
+use Rattle.rules.specs.Reading.{DataUnit, noUnit, carries, unitFrom, unitOf, hands, both, endFate, cutFate, joinedFate, leadFate, lead, sizedNext, cutNext, nextOf, front, walkUpTo, walk, packetLane}
 use Rattle.rules.proofs.Tests.{split}
-use Rattle.rules.proofs.Measures.{measure-none, measure-fill}
+use Rattle.rules.proofs.Measures.{Lacking, measure-fill}
 use Rattle.rules.proofs.Lanes.{walk-front}
 use Rattle.link.specs.Due.{ending}
 use Rattle.link.proofs.Whole.{Whole, Wholes}
@@ -55,14 +55,14 @@ module _ (longest : ℕ) (u : List ℕ) (w : Whole longest u) where
       ∙ ap₂ (λ (p q : List ℕ). yield (hands (unitOf p) (walk longest q))) (take-append-seam u ys) (drop-append-seam u ys)
 
   next-part : (m : ℕ) → m < length u → nextOf longest (measure (take m u)) (length (take m u)) ≡ Keep
-  unfolding nextOf sizedNext
+  unfolding nextOf sizedNext cutNext
   next-part m h =
       let l : length (take m u) < length u = omega (arith, length-take m u) in
       by (w .part m h) l
     where
-      by : (measure (take m u) ≡ Lacks) ⊎ (measure (take m u) ≡ Packet (length u)) → length (take m u) < length u
+      by : Lacking (measure (take m u)) ⊎ (measure (take m u) ≡ Packet (w .family) (length u)) → length (take m u) < length u
           → nextOf longest (measure (take m u)) (length (take m u)) ≡ Keep
-      by (inl e) l = rw e
+      by (inl e) l = rw (e .is, lt-leb longest (length (take m u)) (omega (arith, w .fits)))
       by (inr e) l = rw (e, le-leb _ _ (w .fits), lt-leb _ _ l)
 
   -- One that is cut is held.
@@ -72,15 +72,15 @@ module _ (longest : ℕ) (u : List ℕ) (w : Whole longest u) where
   fate-ends : (on : Bool) → joinedFate longest on (measure u) (length u) ≡ Hand
   unfolding joinedFate endFate
   fate-ends on =
-      let e : measure u ≡ Packet (length u) = ap measure (sym (append-nil u)) ∙ w .self [] in
+      let e : measure u ≡ Packet (w .family) (length u) = ap measure (sym (append-nil u)) ∙ w .self [] in
       rw (e, le-leb _ _ (w .fits), eq-eqb (length u) (length u) refl)
 
   fate-goes : (m : ℕ) → m < length u → joinedFate longest true (measure (take m u)) m ≡ Hold
-  unfolding joinedFate endFate
+  unfolding joinedFate endFate cutFate
   fate-goes m h = by (w .part m h)
     where
-      by : (measure (take m u) ≡ Lacks) ⊎ (measure (take m u) ≡ Packet (length u)) → joinedFate longest true (measure (take m u)) m ≡ Hold
-      by (inl e) = rw e
+      by : Lacking (measure (take m u)) ⊎ (measure (take m u) ≡ Packet (w .family) (length u)) → joinedFate longest true (measure (take m u)) m ≡ Hold
+      by (inl e) = rw (e .is, lt-leb longest m (omega (arith, w .fits)))
       by (inr e) = rw (e, le-leb _ _ (w .fits), ne-eqb (length u) m (λ q. omega arith), lt-ltb _ _ h)
 
 -- ---- held octets and lead
@@ -132,7 +132,7 @@ module _ (longest z : ℕ) (zp : 0 < z) (j : ℕ) (carried : ℕ → ℕ) (start
 
   -- "The rest of the last zone is E0 octets": each is an idle packet.
   walk-fill : (n : ℕ) → 1 ≤ longest → yield (walk longest (filler n)) ≡ yields [] noUnit
-  walk-fill zero h = ap yield (walk-front longest []) ∙ rw measure-none (unfold nextOf carries in refl)
+  walk-fill zero h = unfold walk walkUpTo in refl
   walk-fill (suc n) h =
       ap yield (walk-front longest (filler (suc n)) ∙ ap (λ (s : Next). front s (filler (suc n)) (walk longest)) (fill-next n h))
       ∙ walk-fill n h

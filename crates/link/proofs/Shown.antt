@@ -9,7 +9,7 @@ use Rattle.link.specs.Link.{octetsIn, handedOut}
 use Rattle.link.specs.Due.{due}
 use Rattle.link.specs.Demand.{framesOf, readsOf, Run, Exact}
 use Rattle.link.specs.Corollaries.{earlier}
-use Rattle.link.specs.Examples.{packet, a₀, b₀, d₀, v₂, held, calls, unharmed}
+use Rattle.link.specs.Examples.{packet, slim, a₀, b₀, d₀, v₂, held, calls, unharmed}
 use Rattle.link.proofs.Computes.{tests, all, Orderly, ordered-is}
 use Rattle.link.proofs.Premises.{meets, near}
 use Rattle.link.proofs.Theorem.{demand}
@@ -33,7 +33,7 @@ meets-unharmed = record { writer = refl; reader = refl; calls = ordered-is _ _ u
 -- Two packets of one lane, two of the next, and a unit.
 pub unharmed-out :
     (octetsIn (handedOut 0 (readsOf paired held unharmed)) ≡ a₀ ∷ b₀ ∷ [])
-    × (octetsIn (handedOut 1 (readsOf paired held unharmed)) ≡ packet 10 0xF1 ∷ packet 11 0xF2 ∷ [])
+    × (octetsIn (handedOut 1 (readsOf paired held unharmed)) ≡ packet 10 0xF1 ∷ slim 11 0xF2 ∷ [])
     × (octetsIn (handedOut 2 (readsOf paired held unharmed)) ≡ v₂ ∷ [])
 unfolding all
 unharmed-out = (
@@ -48,7 +48,7 @@ unharmed-out = (
 pub later-out :
     (octetsIn (handedOut 0 (readsOf paired held calls)) ≡ octetsIn (due 0 [] (earlier paired (take 47 calls) (drop 47 calls))) ++ (d₀ ∷ []))
     × (octetsIn (handedOut 1 (readsOf paired held calls))
-    ≡ octetsIn (due 1 [] (earlier paired (take 47 calls) (drop 47 calls))) ++ (packet 10 0xF1 ∷ packet 11 0xF2 ∷ []))
+    ≡ octetsIn (due 1 [] (earlier paired (take 47 calls) (drop 47 calls))) ++ (packet 10 0xF1 ∷ slim 11 0xF2 ∷ []))
 unfolding all
 later-out = (
   no-more-gone paired held (take 47 calls) (drop 47 calls) meets near 0 refl refl,
@@ -58,6 +58,6 @@ later-out = (
 -- With the 48th a frame is written whose copies come later: it counts as kept among the earlier ones, and would be gone without the later events.
 pub late-kept :
     octetsIn (due 1 [] (earlier paired (take 48 calls) (drop 48 calls)))
-    ≡ octetsIn (due 1 [] (framesOf paired (take 48 calls))) ++ (packet 10 0xF1 ∷ packet 11 0xF2 ∷ [])
+    ≡ octetsIn (due 1 [] (framesOf paired (take 48 calls))) ++ (packet 10 0xF1 ∷ slim 11 0xF2 ∷ [])
 unfolding all
 late-kept = refl

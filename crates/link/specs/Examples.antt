@@ -17,13 +17,20 @@ use Rattle.rules.specs.Areas.{heldSize, recordsSize, unitsSize}
 unfoldable pub packet : ℕ → ℕ → List ℕ
 packet n x = 0x00 ∷ 0x01 ∷ 0xC0 ∷ 0x00 ∷ 0x00 ∷ (n - 7) ∷ replicate (n - 6) x
 
+-- Encapsulation packets of n octets, of which all after the header are x: with a header of eight octets, and with one of two.
+unfoldable pub wide : ℕ → ℕ → List ℕ
+wide n x = 0xE7 ∷ 0x00 ∷ 0x00 ∷ 0x00 ∷ 0x00 ∷ 0x00 ∷ 0x00 ∷ n ∷ replicate (n - 8) x
+
+unfoldable pub slim : ℕ → ℕ → List ℕ
+slim n x = 0xE5 ∷ n ∷ replicate (n - 2) x
+
 -- Areas full of x.
 unfoldable pub full : ℕ → Lent
 full x = record { units = replicate unitsSize x; records = replicate recordsSize x }
 
 -- Areas longer than asked for.
 unfoldable pub roomy : Lent
-roomy = record { units = replicate 12300 0x33; records = replicate 14450 0x33 }
+roomy = record { units = replicate 12300 0x33; records = replicate 49200 0x33 }
 
 unfoldable pub call : ℕ → List ℕ → Call
 call l b = record { lane = l; batch = b; insert = []; ocf = []; area = replicate 40 0x55 }
@@ -69,13 +76,13 @@ d₀ = packet 63 0xD0
 abbrev pub c₁ : List ℕ
 c₁ = packet 10 0xC1
 
--- Two frames: three octets of the second packet's header are in the first.
+-- Two frames, and both families: three octets of the second packet's header are in the first.
 abbrev pub e₁ : List ℕ
-e₁ = packet 18 0xE1 ++ packet 10 0xE2 ++ packet 14 0xE3
+e₁ = packet 18 0xE1 ++ wide 10 0xE2 ++ packet 14 0xE3
 
--- One frame with two packets.
+-- One frame with two packets, one of each family.
 abbrev pub f₁ : List ℕ
-f₁ = packet 10 0xF1 ++ packet 11 0xF2
+f₁ = packet 10 0xF1 ++ slim 11 0xF2
 
 abbrev pub u₂ : List ℕ
 u₂ = replicate 30 0x12
@@ -158,8 +165,8 @@ told u = u .count ∷ u .span ∷ u .octets
 unfoldable pub wanted : List (List (List ℕ))
 wanted =
     ((8 ∷ 3 ∷ d₀) ∷ (18 ∷ 3 ∷ d₀) ∷ [])
-    ∷ ((3 ∷ 1 ∷ c₁) ∷ (7 ∷ 1 ∷ c₁) ∷ (9 ∷ 1 ∷ packet 18 0xE1) ∷ (10 ∷ 2 ∷ packet 10 0xE2) ∷ (10 ∷ 1 ∷ packet 14 0xE3) ∷ (13 ∷ 1 ∷ packet 14 0xE3)
-    ∷ (15 ∷ 1 ∷ packet 10 0xF1) ∷ (15 ∷ 1 ∷ packet 11 0xF2) ∷ [])
+    ∷ ((3 ∷ 1 ∷ c₁) ∷ (7 ∷ 1 ∷ c₁) ∷ (9 ∷ 1 ∷ packet 18 0xE1) ∷ (10 ∷ 2 ∷ wide 10 0xE2) ∷ (10 ∷ 1 ∷ packet 14 0xE3) ∷ (13 ∷ 1 ∷ packet 14 0xE3)
+    ∷ (15 ∷ 1 ∷ packet 10 0xF1) ∷ (15 ∷ 1 ∷ slim 11 0xF2) ∷ [])
     ∷ ((1 ∷ 2 ∷ u₂) ∷ (4 ∷ 1 ∷ w₂) ∷ (6 ∷ 2 ∷ v₂) ∷ []) ∷ [] ∷ []
 
 -- ---- a run of `paired` in which nothing is gone, though copies are, and every batch is finished

@@ -20,7 +20,7 @@ use Rattle.rules.specs.declared.Fate.the-variants.{Hand, Blank, Hold, Dr
 use Rattle.rules.specs.Tests.{_≤?_, _<?_, _=?_}
 use Rattle.rules.specs.Areas.{joined}
 use Rattle.rules.specs.Packets.{measure}
-use Rattle.rules.specs.Reading.{DataUnit, noUnit, carries, unitFrom, unitOf, octetsOf, Made, nothing, drops, fills, hands, idles, both, become, endFate, joinedFate, leadFate, lead, sizedNext, tooLong, nextOf, front, walkUpTo, walk, packetLane, unitFate, followFate, portion, accessLane, laneStep}
+use Rattle.rules.specs.Reading.{DataUnit, noUnit, carries, unitFrom, unitOf, octetsOf, Made, nothing, drops, fills, hands, idles, both, become, endFate, tooLong, cutFate, joinedFate, leadFate, lead, sizedNext, cutNext, nextOf, front, walkUpTo, walk, packetLane, unitFate, followFate, portion, accessLane, laneStep}
 use Rattle.rules.proofs.Areas.{joined-append}
 use Rattle.rules.proofs.Measures.{measure-cases, measure-none}
 use Rattle.rules.specs.Valid.{least}
@@ -49,7 +49,7 @@ cut-cases P longest n held long keep lose = go (tooLong longest n) refl
 pub next-cases : (P : Next → Type 0) (longest : ℕ) (xs : List ℕ) → ((n : ℕ) → 2 ≤ n → n ≤ length xs → n ≤ longest → P (Give n))
     → ((n : ℕ) → 1 ≤ n → n ≤ length xs → n ≤ longest → P (Skip n)) → (length xs < longest → P Keep) → P Lose
     → P (nextOf longest (measure xs) (length xs))
-unfolding nextOf
+unfolding nextOf cutNext
 next-cases P longest xs give skip keep lose =
     measure-cases (λ (m : Measure). P (nextOf longest m (length xs))) xs (λ k. cut-cases P longest (length xs) Keep Lose keep lose)
     (λ f n h. sized-cases P longest n (length xs) (Give n) (λ a b. give n h b a) keep lose)
@@ -73,7 +73,7 @@ end-cases P longest on k n done whole hold drop = go (k ≤? longest) refl (k =?
 pub lead-cases : (P : Fate → Type 0) (longest : ℕ) (on : Bool) (held xs : List ℕ) → (length held + length xs ≤ longest → P Hand) → P Blank
     → (on ≡ true → length held + length xs < longest → P Hold) → P Drop
     → P (leadFate longest on (measure (held ++ xs)) (length held) (length xs))
-unfolding leadFate joinedFate
+unfolding leadFate joinedFate cutFate
 lead-cases P longest on held xs hand blank hold drop = go (length held =? 0) (length xs =? 0)
   where
     n : ℕ
@@ -124,7 +124,7 @@ module _ (longest : ℕ) where
       (λ n a b c. ap (idles n) (h (drop n xs) (rw length-drop (omega arith)))) (λ k. refl) refl
 
   none-left : (n : ℕ) (xs : List ℕ) → length xs ≤ 0 → walkUpTo longest n xs ≡ nothing
-  unfolding walkUpTo nextOf carries
+  unfolding walkUpTo nextOf cutNext carries
   none-left zero xs h = refl
   none-left (suc n) [] h = rw measure-none (by (tooLong longest 0))
     where

@@ -174,10 +174,13 @@ endFate longest on size n done =
 abbrev pub tooLong : ℕ → ℕ → Bool
 tooLong longest n = longest ≤? n
 
+unfoldable pub cutFate : ℕ → Bool → ℕ → Fate
+cutFate longest on n = cond on (cond (tooLong longest n) Drop Hold) Drop
+
 -- "If it ... is unreadable, ... held octets and lead are dropped; a finished idle one counts as idle octets. The longest binds idle
 -- packets too."
 unfoldable pub joinedFate : ℕ → Bool → Measure → ℕ → Fate
-joinedFate longest on (Lacks k) n = cond on (cond (tooLong longest n) Drop Hold) Drop
+joinedFate longest on (Lacks k) n = cutFate longest on n
 joinedFate longest on (Packet f size) n = endFate longest on size n Hand
 joinedFate longest on (Idle size) n = endFate longest on size n Blank
 joinedFate longest on Unreadable n = Drop
@@ -196,10 +199,14 @@ lead longest on held xs =
 unfoldable pub sizedNext : ℕ → ℕ → ℕ → Next → Next
 sizedNext longest size n done = cond (size ≤? longest) (cond (size ≤? n) done Keep) Lose
 
+-- One whose size n octets do not say: too long, or cut by the zone's end.
+unfoldable pub cutNext : ℕ → ℕ → Next
+cutNext longest n = cond (tooLong longest n) Lose Keep
+
 -- "Idle ones are left out, a packet cut by the zone's end is held (fewer than 6 octets of it too), an unreadable or too long one
 -- drops itself and the rest of the zone."
 unfoldable pub nextOf : ℕ → Measure → ℕ → Next
-nextOf longest (Lacks k) n = cond (tooLong longest n) Lose Keep
+nextOf longest (Lacks k) n = cutNext longest n
 nextOf longest (Packet f size) n = sizedNext longest size n (Give size)
 nextOf longest (Idle size) n = sizedNext longest size n (Skip size)
 nextOf longest Unreadable n = Lose

@@ -23,7 +23,7 @@ opening-of-requires c κs =
     let c₆ = c .before .before .before .before .before .before in
     let ready = lent-ready (c₆ .args .rule) (c₆ .pre) in
     let n = held-length ready in
-    (record { long = n; within = ready .within }, c₆ .pre .inside, omega (arith, n, ready .inside, ready .few))
+    (record { long = n; within = ready .within }, c₆ .pre .inside)
 
 slice-aggregate-settle : tie.Need-slice-aggregate-settle
 slice-aggregate-settle c = sym (length-take-le _ _ (c .before .before .before .before .opening-of .ensures .inside))

@@ -1,49 +1,92 @@
--- The rule measures by four octets and how many there are: those of both parts together.
-use mathlib.Core.Path.{_∙_}
-use lib.ListN.{length-append}
+-- The first part has eight octets, which say all; or both have their first eight laid side by side.
+use mathlib.Core.Path.{sym, ap, _∙_}
+use native.Mathlib.Omega.{arith}
+use lib.ListN.{length}
 use borrow.Author.Needs.{needs}
-use Rattle.rules.proofs.Measures.{measure-by}
+use Rattle.rules.proofs.Measures.{measure-eight}
+use Rattle.lanes.proofs.Fronts.{more-length, front-length, first-laid, front-laid, front-is}
 use Rattle.lanes.proofs.measure_of.Statement.{statement}
 use Rattle.lanes.proofs.measure_of.Tie as tie
 
-octet-of-requires : tie.Need-octet-of-requires
-octet-of-requires c κs = search needs
-
-octet-of-requires-2 : tie.Need-octet-of-requires-2
-octet-of-requires-2 c κs = search needs
-
-octet-of-requires-3 : tie.Need-octet-of-requires-3
-octet-of-requires-3 c κs = search needs
-
-octet-of-requires-4 : tie.Need-octet-of-requires-4
-octet-of-requires-4 c κs = search needs
-
-add-measured-of : tie.Need-add-measured-of
-add-measured-of c = search needs
-
-measured-of-requires : tie.Need-measured-of-requires
-measured-of-requires c κs = search needs
+measure-at-requires : tie.Need-measure-at-requires
+measure-at-requires c κs = search needs
 
 returns : tie.Need-returns
 returns c =
-    c .measured-of .ensures
-    ∙ rw (
-      measure-by,
-      c .before .before .before .before .octet-of .ensures,
-      c .before .before .before .octet-of2 .ensures,
-      c .before .before .octet-of3 .ensures,
-      c .before .octet-of4 .ensures,
-      length-append,
-    )
+    let a = c .before .before .before .before .args in
+    c .measure-at .ensures ∙ sym (measure-eight (a .first .now) (a .second .now) (c .before .if1 .taken))
+
+sub-at-most : tie.Need-sub-at-most
+sub-at-most c = search needs
+
+at-most-requires : tie.Need-at-most-requires
+at-most-requires c κs = search needs
+
+add-end : tie.Need-add-end
+add-end c = search needs
+
+slice-aggregate-lay : tie.Need-slice-aggregate-lay
+slice-aggregate-lay c = search needs
+
+lay-requires : tie.Need-lay-requires
+lay-requires c κs = search needs
+
+slice-aggregate-lay-2 : tie.Need-slice-aggregate-lay-2
+slice-aggregate-lay-2 c = search needs
+
+slice-aggregate-lay-3 : tie.Need-slice-aggregate-lay-3
+slice-aggregate-lay-3 c =
+    let c₅ = c .before .before .before .before .before in
+    let a = c₅ .before .before .before .before .args in
+    more-length (a .first .now) (a .second .now) (c₅ .at-most .ensures) (c₅ .before .if1 .left)
+
+lay-requires-2 : tie.Need-lay-requires-2
+lay-requires-2 c κs =
+    let c₅ = c .before .before .before .before .before in
+    let a = c₅ .before .before .before .before .args in
+    let m = more-length (a .first .now) (a .second .now) (c₅ .at-most .ensures) (c₅ .before .if1 .left) in
+    let l = first-laid (a .first .now) (a .second .now) (c₅ .at-most .ensures) (c₅ .before .if1 .left) (c .before .before .before .lay .ensures) in
+    omega (arith, m, l, c₅ .at-most .ensures)
+
+array-share-prefix-front : tie.Need-array-share-prefix-front
+array-share-prefix-front c = search needs
+
+slice-aggregate-measure-at : tie.Need-slice-aggregate-measure-at
+slice-aggregate-measure-at c =
+    let c₈ = c .before .before .before .before .before .before .before .before in
+    let a = c₈ .before .before .before .before .args in
+    sym
+    (ap length
+    (front-laid (a .first .now) (a .second .now) (c₈ .at-most .ensures) (c₈ .before .if1 .left)
+    (c .before .before .before .before .before .before .lay .ensures) (c .before .before .lay2 .ensures))
+    ∙ front-length (a .first .now) (a .second .now) (c₈ .at-most .ensures) (c₈ .before .if1 .left))
+
+measure-at-requires-2 : tie.Need-measure-at-requires-2
+measure-at-requires-2 c κs = search needs
+
+returns-2 : tie.Need-returns-2
+returns-2 c =
+    let c₈ = c .before .before .before .before .before .before .before .before in
+    let a = c₈ .before .before .before .before .before .args in
+    c .measure-at2 .ensures
+    ∙ front-is (a .first .now) (a .second .now) (c₈ .before .at-most .ensures) (c₈ .before .before .if1 .left)
+    (c .before .before .before .before .before .before .before .lay .ensures) (c .before .before .before .lay2 .ensures)
 
 pub measure-of-spec : {M : Type 1} → statement M
 measure-of-spec =
     tie.close
     (tie.spec
-    octet-of-requires
-    octet-of-requires-2
-    octet-of-requires-3
-    octet-of-requires-4
-    add-measured-of
-    measured-of-requires
-    returns)
+    measure-at-requires
+    returns
+    sub-at-most
+    at-most-requires
+    add-end
+    slice-aggregate-lay
+    lay-requires
+    slice-aggregate-lay-2
+    slice-aggregate-lay-3
+    lay-requires-2
+    array-share-prefix-front
+    slice-aggregate-measure-at
+    measure-at-requires-2
+    returns-2)

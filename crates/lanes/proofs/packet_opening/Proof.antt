@@ -17,12 +17,7 @@ slice-aggregate-lead-of c =
     let q = rw (c .before .before .place .given .1) at (c .before .before .before .before .before .before .pre .1) in sym (length-take-le _ _ (omega arith))
 
 lead-of-requires : tie.Need-lead-of-requires
-lead-of-requires c κs =
-    let c₆ = c .before .before .before .before .before .before in
-    let p = c .before .before .place .given .0 .0 in
-    let q : p < length (c₆ .args .zone .now) = rw (c .before .before .place .given .1) at (c₆ .pre .1) in
-    let n : length (take p (c₆ .args .zone .now)) ≡ p = length-take-le p (c₆ .args .zone .now) (omega arith) in
-    omega (arith, c₆ .pre .2)
+lead-of-requires c κs = search needs
 
 enum-told : tie.Need-enum-told
 enum-told c = search needs
