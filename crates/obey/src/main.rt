@@ -151,7 +151,7 @@ fn obey_all() {
     let mut desk = [0u8; 6440];
     let mut held = [0x55u8; 65552];
     let mut units = [0x55u8; 12304];
-    let mut records = [0x55u8; 14432];
+    let mut records = [0x55u8; 49184];
     let mut k: u64 = 0;
     while k < 18446744073709551615 {
         let came = next(&mut q);

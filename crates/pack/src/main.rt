@@ -74,7 +74,11 @@ fn say_octet(path: &[u8], at: u64, what: &[u8]) {
 fn say_wrong(path: &[u8], at: u64, w: Wrong) {
     match w {
         Wrong::Nothing => {}
-        Wrong::NoPacket => say_octet(path, at, b"not a Space Packet"),
+        Wrong::NoPacket => say_octet(
+            path,
+            at,
+            b"neither a Space Packet nor an encapsulation packet",
+        ),
         Wrong::Idle => say_octet(path, at, b"an idle packet"),
         Wrong::Long(n) => say_long(path, at, n as u64),
         Wrong::Cut => say_octet(path, at, b"a packet that the file's end cuts"),
@@ -1047,7 +1051,7 @@ fn print_help() {
 fn begin(start: Start, q: Asked, n: usize) {
     match start {
         Start::Help => print_help(),
-        Start::Version => print_text(b"pack 0.2 (Khachmuren, CCSDS 732.1-B-3)\n"),
+        Start::Version => print_text(b"pack 0.3 (Khachmuren, CCSDS 732.1-B-3)\n"),
         Start::Unknown(i) => say_unknown(i),
         Start::Usage => say_usage(),
         Start::Work => with_words(q, n),

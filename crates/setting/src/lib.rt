@@ -201,7 +201,7 @@ fn kind_ok(k: Kind, longest: usize, upid: u8) -> bool
     }
     match k {
         Kind::Packets => {
-            if longest < 7 {
+            if longest < 2 {
                 return false;
             }
             return upid == 0;

@@ -122,7 +122,7 @@ abbrev pub longestEnd : ℕ → List Item
 longestEnd low = word "longest" want.Longest ∷ from low 8192 LONGEST ∷ end say.Lane ∷ []
 
 unfoldable pub packetsEnd : List Item
-packetsEnd = one "packets" want.Carries UPID ∷ longestEnd 7
+packetsEnd = one "packets" want.Carries UPID ∷ longestEnd 2
 
 unfoldable pub accessEnd : List Item
 accessEnd = word "access" want.Carries ∷ from 1 30 UPID ∷ longestEnd 1

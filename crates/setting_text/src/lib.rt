@@ -570,7 +570,7 @@ fn hear_packets(line: &[u8], t: Trace) -> Trace
     ensures { λ r. ⌜ seen (now (line .entry)) r ≡ follow (words (now (line .entry))) packetsEnd (seen (now (line .entry)) t) ⌝ }
 {
     let t = hear_word(line, t, b"packets", Ask::Word(Wanted::Carries), UPID);
-    hear_longest(line, t, 7)
+    hear_longest(line, t, 2)
 }
 
 // The table: the rest of an access lane.

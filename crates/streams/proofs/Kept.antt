@@ -4,11 +4,12 @@ use Prim.Native.Nat.{ℕ, zero, suc, _+_, _-_, _≤_, _<_}
 use native.Mathlib.Nat.{le-refl, sub-zero}
 use native.Mathlib.Omega.{arith}
 use mathlib.Core.Bool.{Bool, true, false, cond, _&&_}
-use mathlib.Core.List.{List, [], _∷_, _++_}
+use mathlib.Core.List.{List, [], _∷_, _++_, append-nil}
 use lib.ListN.{length, take, drop, length-append, length-drop}
 use lib.Seq.{length-take-le, take-add, take-at, drop-at, drop-drop}
 use borrow.Author.Tests.{leb-true, le-leb, eq-eqb}
 use Rattle.rules.specs.declared.Kind.the-variants.{Packets}
+use Rattle.rules.specs.declared.Family.{Family}
 use Rattle.rules.specs.declared.Measure.{Measure}
 use Rattle.rules.specs.declared.Measure.the-variants.{Lacks, Packet, Idle, Unreadable}
 use Rattle.rules.specs.Tests.{_≤?_, all}
@@ -16,7 +17,7 @@ use Rattle.rules.specs.Areas.{joined, batchSize}
 use Rattle.rules.specs.Packets.{measure, whole, packetsUpTo, packets}
 use Rattle.rules.specs.Writing.{noneAbove, batchOk}
 use Rattle.rules.proofs.Tests.{split, and-left, and-right}
-use Rattle.rules.proofs.Measures.{measure-take, packet-long}
+use Rattle.rules.proofs.Measures.{begins, packet-long, packet-front}
 use Rattle.batches.proofs.Batches.{packets-front}
 use Rattle.streams.specs.FileBatches.{fitting, gathered}
 
@@ -24,8 +25,8 @@ use Rattle.streams.specs.FileBatches.{fitting, gathered}
 
 -- What fits of the packets, by what stands at the front.
 abbrev pub step : ℕ → ℕ → List ℕ → Measure → List (List ℕ)
-step longest room xs Lacks = []
-step longest room xs (Packet n) =
+step longest room xs (Lacks k) = []
+step longest room xs (Packet f n) =
     cond (n ≤? length xs) (cond (n ≤? longest && n ≤? room) (take n xs ∷ fitting longest (room - n) (packets (drop n xs))) []) []
 step longest room xs (Idle n) = []
 step longest room xs Unreadable = []
@@ -41,8 +42,8 @@ fitting-front longest room xs = ap (fitting longest room) (packets-front xs) ∙
     by n false e = refl
 
     go : (m : Measure) → fitting longest room (whole m xs packets) ≡ step longest room xs m
-    go Lacks = refl
-    go (Packet n) = by n (n ≤? length xs) refl
+    go (Lacks k) = refl
+    go (Packet f n) = by n (n ≤? length xs) refl
     go (Idle n) = refl
     go Unreadable = refl
 
@@ -61,14 +62,14 @@ none-fits : (longest room : ℕ) (xs : List ℕ) → fitting longest room (packe
 unfolding joined noneAbove packets packetsUpTo
 none-fits longest room xs e = record { packs = refl; inside = omega arith; small = omega arith; short = refl; full = rw (sub-zero room) e }
 
-module _ (longest room : ℕ) (xs : List ℕ) (n : ℕ) (is : measure xs ≡ Packet n) (within : n ≤ length xs) where
+module _ (longest room : ℕ) (xs : List ℕ) (f : Family) (n : ℕ) (is : measure xs ≡ Packet f n) (within : n ≤ length xs) where
   cut : (g : ℕ) → n + g ≤ length xs → packets (take (n + g) xs) ≡ take n xs ∷ packets (take g (drop n xs))
   cut g h =
-      let long : 7 ≤ n = packet-long xs n is in
+      let b = begins xs f n is in
       let l : length (take n xs) ≡ n = length-take-le n xs within in
       let m : length (take (n + g) xs) ≡ n + g = length-take-le (n + g) xs h in
       packets-front (take (n + g) xs)
-      ∙ ap (λ (k : Measure). whole k (take (n + g) xs) packets) (measure-take (n + g) xs (omega arith) ∙ is)
+      ∙ ap (λ (k : Measure). whole k (take (n + g) xs) packets) (ap measure (sym (append-nil (take (n + g) xs))) ∙ packet-front xs f n is (n + g) (omega (arith, b .header)) h [])
       ∙ rw (m, le-leb n (n + g) (omega arith), take-add n g xs, take-at (take n xs) (take g (drop n xs)) n l, drop-at (take n xs) (take g (drop n xs)) n l)
 
   one-fits : n ≤ longest → n ≤ room → (us : List (List ℕ)) → Fitted longest (room - n) (drop n xs) us → Fitted longest room xs (take n xs ∷ us)
@@ -88,28 +89,28 @@ module _ (longest room : ℕ) (xs : List ℕ) (n : ℕ) (is : measure xs ≡ Pac
 
 -- By what stands at the front, with what is so of shorter octets.
 fitted-front : (longest room : ℕ) (xs : List ℕ)
-    → ((n : ℕ) → 7 ≤ n → n ≤ length xs → Fitted longest (room - n) (drop n xs) (fitting longest (room - n) (packets (drop n xs))))
+    → ((n : ℕ) → 2 ≤ n → n ≤ length xs → Fitted longest (room - n) (drop n xs) (fitting longest (room - n) (packets (drop n xs))))
     → Fitted longest room xs (fitting longest room (packets xs))
 fitted-front longest room xs rest = rw (fitting-front longest room xs) (go (measure xs) refl)
   where
     none : (m : Measure) → measure xs ≡ m → step longest room xs m ≡ [] → Fitted longest room xs []
     none m e s = none-fits longest room xs (fitting-front longest room xs ∙ ap (step longest room xs) e ∙ s)
 
-    fit : (n : ℕ) → measure xs ≡ Packet n → n ≤ length xs → (t : Bool) → n ≤? longest && n ≤? room ≡ t
+    fit : (f : Family) (n : ℕ) → measure xs ≡ Packet f n → n ≤ length xs → (t : Bool) → n ≤? longest && n ≤? room ≡ t
         → Fitted longest room xs (cond t (take n xs ∷ fitting longest (room - n) (packets (drop n xs))) [])
-    fit n e w true f =
-        one-fits longest room xs n e w (leb-true _ _ (and-left _ _ f)) (leb-true _ _ (and-right (n ≤? longest) _ f)) _
-        (rest n (packet-long xs n e) w)
-    fit n e w false f = none (Packet n) e (rw (le-leb n (length xs) w, f))
+    fit f n e w true q =
+        one-fits longest room xs f n e w (leb-true _ _ (and-left _ _ q)) (leb-true _ _ (and-right (n ≤? longest) _ q)) _
+        (rest n (packet-long xs f n e) w)
+    fit f n e w false q = none (Packet f n) e (rw (le-leb n (length xs) w, q))
 
-    by : (n : ℕ) → measure xs ≡ Packet n → (t : Bool) → n ≤? length xs ≡ t
+    by : (f : Family) (n : ℕ) → measure xs ≡ Packet f n → (t : Bool) → n ≤? length xs ≡ t
         → Fitted longest room xs (cond t (cond (n ≤? longest && n ≤? room) (take n xs ∷ fitting longest (room - n) (packets (drop n xs))) []) [])
-    by n e true f = fit n e (leb-true _ _ f) (n ≤? longest && n ≤? room) refl
-    by n e false f = none (Packet n) e (rw f)
+    by f n e true q = fit f n e (leb-true _ _ q) (n ≤? longest && n ≤? room) refl
+    by f n e false q = none (Packet f n) e (rw q)
 
     go : (m : Measure) → measure xs ≡ m → Fitted longest room xs (step longest room xs m)
-    go Lacks e = none Lacks e refl
-    go (Packet n) e = by n e (n ≤? length xs) refl
+    go (Lacks k) e = none (Lacks k) e refl
+    go (Packet f n) e = by f n e (n ≤? length xs) refl
     go (Idle n) e = none (Idle n) e refl
     go Unreadable e = none Unreadable e refl
 
@@ -145,16 +146,16 @@ module _ (longest : ℕ) (xs : List ℕ) where
       )
 
   -- The octets left begin with no packet that would still fit.
-  pub gathered-full : (n : ℕ) → measure (drop (gathered longest xs) xs) ≡ Packet n → n ≤ length (drop (gathered longest xs) xs) → n ≤ longest
+  pub gathered-full : (f : Family) (n : ℕ) → measure (drop (gathered longest xs) xs) ≡ Packet f n → n ≤ length (drop (gathered longest xs) xs) → n ≤ longest
       → batchSize < gathered longest xs + n
   unfolding gathered
-  gathered-full n e w h =
-      let f = fitted longest batchSize xs in
+  gathered-full f n e w h =
+      let fit = fitted longest batchSize xs in
       let g = length (joined (fitting longest batchSize (packets xs))) in
       split n (batchSize - g)
       (λ r.
       let z : take n (drop g xs) ∷ fitting longest (batchSize - g - n) (packets (drop n (drop g xs))) ≡ [] =
       sym (fitting-front longest (batchSize - g) (drop g xs) ∙ rw (e, le-leb n (length (drop g xs)) w, le-leb n longest h, le-leb n (batchSize - g) r))
-      ∙ f .full in
+      ∙ fit .full in
       let o : _≡_ {A = ℕ} 0 1 = cc in omega arith)
-      (λ r. omega (arith, f .small))
+      (λ r. omega (arith, fit .small))

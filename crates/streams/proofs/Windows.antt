@@ -10,6 +10,7 @@ use mathlib.Core.List.{List, [], _∷_}
 use lib.ListN.{length, take, drop, length-append, length-drop}
 use lib.Seq.{length-take-le, take-all, take-take, take-add, drop-at}
 use borrow.Author.Tests.{leb-true, ltb-false, le-leb, lt-leb, lt-ltb, le-ltb, ne-eqb}
+use Rattle.rules.specs.declared.Family.{Family}
 use Rattle.rules.specs.declared.Measure.{Measure}
 use Rattle.rules.specs.declared.Measure.the-variants.{Lacks, Packet, Idle, Unreadable}
 use Rattle.rules.specs.Tests.{_≤?_, _<?_, _=?_}
@@ -35,29 +36,29 @@ whole-within n w xs h =
     split (length xs) w (λ k. rw (take-all w xs k))
     (λ k. let l : length (take w xs) ≡ w = length-take-le w xs (omega arith) in rw (l, le-leb n w h, le-leb n (length xs) (omega arith)))
 
-module _ (longest room w : ℕ) (xs : List ℕ) (big : room + 6 ≤ w)
-    (rest : (n : ℕ) → 7 ≤ n → n ≤ length xs → n ≤ room
+module _ (longest room w : ℕ) (xs : List ℕ) (big : room + 8 ≤ w)
+    (rest : (n : ℕ) → 2 ≤ n → n ≤ length xs → n ≤ room
     → fitting longest (room - n) (packets (take (w - n) (drop n xs))) ≡ fitting longest (room - n) (packets (drop n xs))) where
   step-same : (m : Measure) → measure xs ≡ m → step longest room (take w xs) m ≡ step longest room xs m
-  step-same Lacks e = refl
-  step-same (Packet n) e = split n room small large
+  step-same (Lacks k) e = refl
+  step-same (Packet f n) e = split n room small large
     where
       inner : (t : Bool) → n ≤? length xs ≡ t → n ≤ room
           → cond t (cond (n ≤? longest && n ≤? room) (take n (take w xs) ∷ fitting longest (room - n) (packets (drop n (take w xs)))) []) []
           ≡ cond t (cond (n ≤? longest && n ≤? room) (take n xs ∷ fitting longest (room - n) (packets (drop n xs))) []) []
-      inner true f h =
-          let k : n ≤ length xs = leb-true _ _ f in
-          rw (take-take n w xs (omega arith), drop-take n w xs (omega arith) k, rest n (packet-long xs n e) k h)
-      inner false f h = refl
+      inner true q h =
+          let k : n ≤ length xs = leb-true _ _ q in
+          rw (take-take n w xs (omega arith), drop-take n w xs (omega arith) k, rest n (packet-long xs f n e) k h)
+      inner false q h = refl
 
-      small : n ≤ room → step longest room (take w xs) (Packet n) ≡ step longest room xs (Packet n)
+      small : n ≤ room → step longest room (take w xs) (Packet f n) ≡ step longest room xs (Packet f n)
       small h = rw (whole-within n w xs (omega arith)) (inner (n ≤? length xs) refl h)
 
       nil : (t : Bool) → _≡_ {A = List (List ℕ)} (cond t [] []) []
       nil true = refl
       nil false = refl
 
-      large : room < n → step longest room (take w xs) (Packet n) ≡ step longest room xs (Packet n)
+      large : room < n → step longest room (take w xs) (Packet f n) ≡ step longest room xs (Packet f n)
       large h = rw (lt-leb n room h, and-false (n ≤? longest), nil (n ≤? length (take w xs)), nil (n ≤? length xs))
   step-same (Idle n) e = refl
   step-same Unreadable e = refl
@@ -67,14 +68,14 @@ module _ (longest room w : ℕ) (xs : List ℕ) (big : room + 6 ≤ w)
       fitting-front longest room (take w xs) ∙ ap (step longest room (take w xs)) (measure-take w xs (omega arith))
       ∙ step-same (measure xs) refl ∙ sym (fitting-front longest room xs)
 
-same-up-to : (k longest room w : ℕ) (xs : List ℕ) → length xs ≤ k → room + 6 ≤ w
+same-up-to : (k longest room w : ℕ) (xs : List ℕ) → length xs ≤ k → room + 8 ≤ w
     → fitting longest room (packets (take w xs)) ≡ fitting longest room (packets xs)
 same-up-to zero longest room w xs h big = same-front longest room w xs big (λ n s k r. absurd (omega arith))
 same-up-to (suc k) longest room w xs h big =
     same-front longest room w xs big
     (λ n s l r. same-up-to k longest (room - n) (w - n) (drop n xs) (rw (length-drop n xs) (omega arith)) (omega arith))
 
-pub gathered-window : (longest w : ℕ) (xs : List ℕ) → 32774 ≤ w → gathered longest (take w xs) ≡ gathered longest xs
+pub gathered-window : (longest w : ℕ) (xs : List ℕ) → 32776 ≤ w → gathered longest (take w xs) ≡ gathered longest xs
 unfolding gathered
 gathered-window longest w xs h = ap (λ (us : List (List ℕ)). length (joined us)) (same-up-to (length xs) longest batchSize w xs (le-refl _) (omega arith))
 
@@ -85,9 +86,9 @@ short-within n w xs h =
     split (length xs) w (λ k. rw (take-all w xs k))
     (λ k. let l : length (take w xs) ≡ w = length-take-le w xs (omega arith) in rw (l, le-ltb w n h, le-ltb (length xs) n (omega arith)))
 
-pub wrong-window : (longest w : ℕ) (xs : List ℕ) → longest ≤ w → 6 ≤ w → wrongAt longest (take w xs) ≡ wrongAt longest xs
+pub wrong-window : (longest w : ℕ) (xs : List ℕ) → longest ≤ w → 8 ≤ w → wrongAt longest (take w xs) ≡ wrongAt longest xs
 unfolding wrongAt wrongOf
-wrong-window longest w xs h six = ap (λ (m : Measure). wrongOf longest m (length (take w xs))) (measure-take w xs six) ∙ go (measure xs)
+wrong-window longest w xs h eight = ap (λ (m : Measure). wrongOf longest m (length (take w xs))) (measure-take w xs eight) ∙ go (measure xs)
   where
     cut : (n : ℕ) (t : Bool) → longest <? n ≡ t
         → cond t (wrong.Long n) (cond (length (take w xs) <? n) wrong.Cut wrong.Nothing) ≡ cond t (wrong.Long n) (cond (length xs <? n) wrong.Cut wrong.Nothing)
@@ -101,8 +102,8 @@ wrong-window longest w xs h six = ap (λ (m : Measure). wrongOf longest m (lengt
         (l, ne-eqb w 0 (λ q. omega arith), ne-eqb (length xs) 0 (λ q. omega arith)))
 
     go : (m : Measure) → wrongOf longest m (length (take w xs)) ≡ wrongOf longest m (length xs)
-    go Lacks = none
-    go (Packet n) = cut n (longest <? n) refl
+    go (Lacks k) = none
+    go (Packet f n) = cut n (longest <? n) refl
     go (Idle n) = refl
     go Unreadable = refl
 
@@ -115,21 +116,21 @@ batch-or-wrong longest xs h some = go (measure xs) refl
     Either : Measure → Type 0
     Either m = (length (joined (fitting longest batchSize (packets xs))) ≡ 0 → ⊥) ⊎ (wrongOf longest m (length xs) ≡ wrong.Nothing → ⊥)
 
-    batch : (n : ℕ) → measure xs ≡ Packet n → n ≤ longest → n ≤ length xs → length (joined (fitting longest batchSize (packets xs))) ≡ 0 → ⊥
-    batch n e k l z =
-        let f : fitting longest batchSize (packets xs) ≡ take n xs ∷ fitting longest (batchSize - n) (packets (drop n xs)) =
+    batch : (f : Family) (n : ℕ) → measure xs ≡ Packet f n → n ≤ longest → n ≤ length xs → length (joined (fitting longest batchSize (packets xs))) ≡ 0 → ⊥
+    batch f n e k l z =
+        let r : fitting longest batchSize (packets xs) ≡ take n xs ∷ fitting longest (batchSize - n) (packets (drop n xs)) =
         fitting-front longest batchSize xs ∙ rw (e, le-leb n (length xs) l, le-leb n longest k, le-leb n batchSize (omega arith)) in
         let s = length-append (take n xs) (joined (fitting longest (batchSize - n) (packets (drop n xs)))) in
         let t = length-take-le n xs l in
-        let p = packet-long xs n e in
-        let q = ap (λ (us : List (List ℕ)). length (joined us)) f in
+        let p = packet-long xs f n e in
+        let q = ap (λ (us : List (List ℕ)). length (joined us)) r in
         omega (arith, s, t, p, q, z)
 
     go : (m : Measure) → measure xs ≡ m → Either m
-    go Lacks e = inr (rw (ne-eqb (length xs) 0 (λ q. omega arith)) (λ q. let z : _≡_ {A = ℕ} 0 1 = cc in omega arith))
-    go (Packet n) e =
+    go (Lacks k) e = inr (rw (ne-eqb (length xs) 0 (λ q. omega arith)) (λ q. let z : _≡_ {A = ℕ} 0 1 = cc in omega arith))
+    go (Packet f n) e =
         split n longest
-        (λ k. split n (length xs) (λ l. inl (batch n e k l))
+        (λ k. split n (length xs) (λ l. inl (batch f n e k l))
         (λ l. inr (rw (le-ltb longest n k, lt-ltb (length xs) n l) (λ q. let z : _≡_ {A = ℕ} 0 1 = cc in omega arith))))
         (λ k. inr (rw (lt-ltb longest n k) (λ q. let z : _≡_ {A = ℕ} 0 1 = cc in omega arith)))
     go (Idle n) e = inr (λ q. let z : _≡_ {A = ℕ} 0 1 = cc in omega arith)

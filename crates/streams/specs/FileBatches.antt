@@ -15,15 +15,15 @@ unfoldable pub fitting : ℕ → ℕ → List (List ℕ) → List (List ℕ)
 fitting longest room [] = []
 fitting longest room (p ∷ ps) = cond (length p ≤? longest && length p ≤? room) (p ∷ fitting longest (room - length p) ps) []
 
--- "A packet batch is 1 to 32,768 octets of whole Space Packets back to back, none idle, none above the lane's longest": how many octets
--- from the first on are such a batch, with as many packets as fit. 0 where there is none.
+-- "A packet batch is 1 to 32,768 octets of whole Space Packets back to back, none idle, none above the lane's longest"; with A5 of document 02 it
+-- "may mix both families, none idle": how many octets from the first on are such a batch, with as many packets as fit. 0 where there is none.
 unfoldable pub gathered : ℕ → List ℕ → ℕ
 gathered longest xs = length (joined (fitting longest batchSize (packets xs)))
 
 -- What is wrong with a packet of which n octets are there, up to the file's end. One that is too long is so whether or not it is cut.
 unfoldable pub wrongOf : ℕ → Measure → ℕ → Wrong
-wrongOf longest Measure.Lacks n = cond (n =? 0) Nothing Cut
-wrongOf longest (Measure.Packet size) n = cond (longest <? size) (Long size) (cond (n <? size) Cut Nothing)
+wrongOf longest (Measure.Lacks k) n = cond (n =? 0) Nothing Cut
+wrongOf longest (Measure.Packet f size) n = cond (longest <? size) (Long size) (cond (n <? size) Cut Nothing)
 wrongOf longest (Measure.Idle size) n = Idle
 wrongOf longest Measure.Unreadable n = NoPacket
 

@@ -6,7 +6,7 @@ ghost use Rattle.rules.specs.Areas.{laid};
 ghost use Rattle.streams.specs.FileBatches.{gathered, wrongOf, wrongAt};
 use rules::Measure;
 
-// What is wrong with a packet of a file: nothing; it is no Space Packet; it is idle; it is longer than the lane's longest, and how long;
+// What is wrong with a packet of a file: nothing; it is a packet of neither family; it is idle; it is longer than the lane's longest, and how long;
 // the file ends before it does.
 pub enum Wrong {
     Nothing,
@@ -24,7 +24,7 @@ pub fn gather(s: &[u8], longest: usize) -> usize
     let mut i: usize = 0;
     while i < s.len() {
         let m = packets::measure_at(&s[i..]);
-        let Measure::Packet(n) = m else {
+        let Measure::Packet(_, n) = m else {
             return i;
         };
         if s.len() - i < n {
@@ -46,13 +46,13 @@ fn wrong_of(longest: usize, m: Measure, n: usize) -> Wrong
     ensures { λ r. ⌜ r ≡ wrongOf longest m n ⌝ }
 {
     match m {
-        Measure::Lacks => {
+        Measure::Lacks(_) => {
             if n == 0 {
                 return Wrong::Nothing;
             }
             Wrong::Cut
         }
-        Measure::Packet(size) => {
+        Measure::Packet(_, size) => {
             if longest < size {
                 return Wrong::Long(size);
             }

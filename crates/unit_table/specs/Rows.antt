@@ -1,24 +1,31 @@
 -- The table of units, as docs/PROGRAMS.md has it.
 use Prim.Native.Nat.{ℕ, _+_, _*_}
-use mathlib.Core.Bool.{Bool, true, false, cond}
+use mathlib.Core.Bool.{Bool, true, false}
 use mathlib.Core.List.{List, _++_}
 use lib.ListN.{getD, take, drop}
 use Rattle.rules.specs.declared.Kind.{Kind}
 use Rattle.rules.specs.declared.Kind.the-variants.{Packets, Access}
+use Rattle.rules.specs.declared.Family.{Family}
+use Rattle.rules.specs.declared.Family.the-variants.{Space, Encapsulation}
+use Rattle.rules.specs.declared.Measure.{Measure}
+use Rattle.rules.specs.declared.Measure.the-variants.{Lacks, Packet, Idle, Unreadable}
 use Rattle.rules.specs.declared.Setting.{Setting}
 use Rattle.rules.specs.declared.Verdict.{Verdict}
 use Rattle.rules.specs.Areas.{recordSize}
 use Rattle.rules.specs.Octets.{num, bits}
+use Rattle.rules.specs.Packets.{measure}
 use Rattle.rules.specs.Settings.{lane}
 use Rattle.rules.specs.Listing.{text, decimal}
 use Rattle.unpack_text.specs.declared.Tally.{Tally}
 use Rattle.unpack_text.specs.Totals.{add, noLaneTally}
 use Rattle.unpack_text.specs.Lines.{firsts}
 use Rattle.unit_table.specs.declared.Origin.{Origin}
+use Rattle.unit_table.specs.declared.Sort.{Sort}
+use Rattle.unit_table.specs.declared.Sort.the-variants as sort
 use Rattle.unit_table.specs.declared.Row.{Row}
 
 unfoldable pub tableTitle : List ℕ
-tableTitle = text "lane,offset,length,frame,count,apid,sequence,span\n"
+tableTitle = text "lane,offset,length,frame,count,apid,sequence,span,family\n"
 
 -- ---- where a read's units come from
 
@@ -49,6 +56,18 @@ apid xs = bits 4 5 11 xs
 unfoldable pub sequence : List ℕ → ℕ
 sequence xs = bits 4 18 14 xs
 
+unfoldable pub sortIn : Family → Sort
+sortIn Space = sort.Space
+sortIn Encapsulation = sort.Encapsulation
+
+-- The family is what the measure says of a packet lane's unit.
+unfoldable pub sortOf : Bool → Measure → Sort
+sortOf false m = sort.Nothing
+sortOf true (Lacks k) = sort.Nothing
+sortOf true (Packet f n) = sortIn f
+sortOf true (Idle n) = sort.Nothing
+sortOf true Unreadable = sort.Nothing
+
 -- Unit i of a read, by its record (lane 1, virtual channel 1, map 1, service 1, start 4, length 4, count 8, span 4) and the unit octets.
 unfoldable pub rowOf : Origin → List ℕ → List ℕ → ℕ → Row
 rowOf g units records i =
@@ -61,7 +80,7 @@ rowOf g units records i =
       apid = apid (drop (numberAt records (recordSize * i + 4) 4) units);
       sequence = sequence (drop (numberAt records (recordSize * i + 4) 4) units);
       span = numberAt records (recordSize * i + 20) 4;
-      packets = g .packets;
+      sort = sortOf (g .packets) (measure (drop (numberAt records (recordSize * i + 4) 4) units));
     }
 
 -- "Lane; the octet of the lane's file at which the unit begins; how many octets it has; ..."
@@ -72,16 +91,24 @@ placeText r = decimal (r .lane) ++ (text "," ++ decimal (r .offset)) ++ (text ",
 unfoldable pub frameText : Row → List ℕ
 frameText r = text "," ++ decimal (r .frame) ++ (text "," ++ decimal (r .count))
 
--- "... of a packet lane's unit its APID and its sequence count; of an access lane's unit two empty fields; ..."
-unfoldable pub packetText : Row → List ℕ
-packetText r = cond (r .packets) (text "," ++ decimal (r .apid) ++ (text "," ++ decimal (r .sequence))) (text ",,")
+-- "... of a Space Packet its APID and its sequence count, of any other unit two empty fields; ..."
+unfoldable pub packetText : Sort → Row → List ℕ
+packetText sort.Space r = text "," ++ decimal (r .apid) ++ (text "," ++ decimal (r .sequence))
+packetText sort.Encapsulation r = text ",,"
+packetText sort.Nothing r = text ",,"
 
--- "... the record's span."
+-- "... the record's span; ..."
 unfoldable pub spanText : Row → List ℕ
 spanText r = text "," ++ decimal (r .span)
 
+-- "... and the family of a packet, `space` or `encapsulation`; of an access unit an empty field."
+unfoldable pub familyText : Sort → List ℕ
+familyText sort.Space = text ",space"
+familyText sort.Encapsulation = text ",encapsulation"
+familyText sort.Nothing = text ","
+
 unfoldable pub rowText : Row → List ℕ
-rowText r = placeText r ++ frameText r ++ packetText r ++ spanText r ++ text "\n"
+rowText r = placeText r ++ frameText r ++ packetText (r .sort) r ++ spanText r ++ familyText (r .sort) ++ text "\n"
 
 -- The lines of a read that gave n units.
 unfoldable pub rowsText : Origin → ℕ → List ℕ → List ℕ → List ℕ

@@ -1,13 +1,16 @@
 // The table of units that unpack writes where it is asked for: a line for each unit, of its record, its octets, and where the frame's units come from.
 ghost use mathlib.Core.Path.{_≡_};
-ghost use Prim.Native.Nat.{_+_, _≤_, _<_};
-ghost use lib.ListN.{length, getD};
+ghost use Prim.Native.Nat.{_+_, _*_, _≤_, _<_};
+ghost use lib.ListN.{length, getD, drop};
 ghost use Rattle.rules.specs.Settings.{noLane};
+ghost use Rattle.rules.specs.Packets.{measure};
 ghost use Rattle.unpack_text.specs.Totals.{noLaneTally};
 ghost use Rattle.unpack_text.specs.Lines.{Wrote};
-ghost use Rattle.unit_table.specs.Rows.{tableTitle, isPackets, originOf, numberAt, rowOf, rowText, rowsText};
+ghost use Rattle.unit_table.specs.Rows.{tableTitle, isPackets, originOf, numberAt, sortIn, sortOf, rowOf, rowText, rowsText};
+use rules::Family;
 use rules::Kind;
 use rules::Lane;
+use rules::Measure;
 use rules::Setting;
 use rules::Verdict;
 use unpack_text::LaneTally;
@@ -20,6 +23,13 @@ pub struct Origin {
     pub packets: bool,
 }
 
+// What a line says of a unit's family: which it is of a packet, and nothing of an access unit.
+pub enum Sort {
+    Space,
+    Encapsulation,
+    Nothing,
+}
+
 // What a line says of a unit.
 pub struct Row {
     pub offset: u64,
@@ -30,7 +40,7 @@ pub struct Row {
     pub apid: u64,
     pub sequence: u64,
     pub span: u64,
-    pub packets: bool,
+    pub sort: Sort,
 }
 
 // ---- where units come from
@@ -108,9 +118,45 @@ fn number_at(octets: &[u8], at: usize, n: usize) -> u64
     octets::exact(&octets[at..end])
 }
 
+// What is said of a packet of this family.
+fn sort_in(f: Family) -> Sort
+    ensures { λ r. ⌜ r ≡ sortIn f ⌝ }
+{
+    match f {
+        Family::Space => Sort::Space,
+        Family::Encapsulation => Sort::Encapsulation,
+    }
+}
+
+// What is said of a unit, of a packet lane or not, by what measures it.
+fn sort_of(packets: bool, m: Measure) -> Sort
+    ensures { λ r. ⌜ r ≡ sortOf packets m ⌝ }
+{
+    if packets {
+        match m {
+            Measure::Lacks(_) => return Sort::Nothing,
+            Measure::Packet(f, _) => return sort_in(f),
+            Measure::Idle(_) => return Sort::Nothing,
+            Measure::Unreadable => return Sort::Nothing,
+        }
+    }
+    Sort::Nothing
+}
+
+// What measures the unit that begins with octet `at`; past the end there is none.
+fn measure_from(units: &[u8], at: usize) -> Measure
+    ensures { λ r. ⌜ r ≡ measure (drop at (now (units .entry))) ⌝ }
+{
+    let size = units.len();
+    if size < at {
+        return Measure::Lacks(1);
+    }
+    packets::measure_at(&units[at..])
+}
+
 // What the line of unit i says.
 fn row_of(g: Origin, units: &[u8], records: &[u8], i: usize) -> Row
-    requires { ⌜ i < 600 ⌝ }
+    requires { ⌜ i < 2048 ⌝ }
     ensures { λ r. ⌜ r ≡ rowOf g (now (units .entry)) (now (records .entry)) i ⌝ }
 {
     let at = rules::RECORD_SIZE * i;
@@ -121,6 +167,7 @@ fn row_of(g: Origin, units: &[u8], records: &[u8], i: usize) -> Row
     let span = number_at(records, at + 20, 4);
     let front = number_at(units, start as usize, 4);
     let offset = unpack_text::add(g.base, start);
+    let sort = sort_of(g.packets, measure_from(units, start as usize));
     Row {
         offset: offset,
         frame: g.frame,
@@ -130,50 +177,58 @@ fn row_of(g: Origin, units: &[u8], records: &[u8], i: usize) -> Row
         apid: front / 65536 % 2048,
         sequence: front % 16384,
         span: span,
-        packets: g.packets,
+        sort: sort,
     }
 }
 
-// Puts the line of a unit; what a packet says of itself is not said of an access unit.
+// Puts the line of a unit. What a Space Packet says of itself is not said of another unit, and its family is said of a packet alone.
 fn put_row(area: &mut [u8], from: usize, r: Row) -> usize
-    requires { ⌜ from + 168 ≤ length (now area) ⌝ }
-    ensures { λ e. ⌜ Wrote 168 (rowText r) (now (area .entry)) from (now (area .exit)) e ⌝ }
+    requires { ⌜ from + 174 ≤ length (now area) ⌝ }
+    ensures { λ e. ⌜ Wrote 174 (rowText r) (now (area .entry)) from (now (area .exit)) e ⌝ }
 {
-    if r.packets {
-        let values = [
-            r.lane,
-            r.offset,
-            r.length,
-            r.frame,
-            r.count,
-            r.apid,
-            r.sequence,
-            r.span,
-        ];
-        return listing_text::put_filled(area, from, b"#,#,#,#,#,#,#,#\n", &values);
-    }
     let values = [r.lane, r.offset, r.length, r.frame, r.count, r.span];
-    listing_text::put_filled(area, from, b"#,#,#,#,#,,,#\n", &values)
+    let sort = r.sort;
+    match sort {
+        Sort::Space => {
+            let all = [
+                r.lane,
+                r.offset,
+                r.length,
+                r.frame,
+                r.count,
+                r.apid,
+                r.sequence,
+                r.span,
+            ];
+            return listing_text::put_filled(area, from, b"#,#,#,#,#,#,#,#,space\n", &all);
+        }
+        Sort::Encapsulation => {
+            return listing_text::put_filled(area, from, b"#,#,#,#,#,,,#,encapsulation\n", &values);
+        }
+        Sort::Nothing => {
+            return listing_text::put_filled(area, from, b"#,#,#,#,#,,,#,\n", &values);
+        }
+    }
 }
 
 // ---- the table
 
 // Puts the title.
 pub fn put_title(area: &mut [u8], from: usize) -> usize
-    requires { ⌜ from + 50 ≤ length (now area) ⌝ }
-    ensures { λ r. ⌜ Wrote 50 tableTitle (now (area .entry)) from (now (area .exit)) r ⌝ }
+    requires { ⌜ from + 57 ≤ length (now area) ⌝ }
+    ensures { λ r. ⌜ Wrote 57 tableTitle (now (area .entry)) from (now (area .exit)) r ⌝ }
 {
     listing_text::put_text(
         area,
         from,
-        b"lane,offset,length,frame,count,apid,sequence,span\n",
+        b"lane,offset,length,frame,count,apid,sequence,span,family\n",
     )
 }
 
-// Puts the lines of a read that gave n units.
+// Puts the lines of a read that gave n units; a read gives at most 2,043.
 pub fn put_rows(area: &mut [u8], g: Origin, n: usize, units: &[u8], records: &[u8]) -> usize
-    requires { ⌜ (n ≤ 600) × (100800 ≤ length (now area)) ⌝ }
-    ensures { λ r. ⌜ Wrote 100800 (rowsText g n (now (units .entry)) (now (records .entry))) (now (area .entry)) 0 (now (area .exit)) r ⌝ }
+    requires { ⌜ (n ≤ 2048) × (174 * n ≤ length (now area)) ⌝ }
+    ensures { λ r. ⌜ Wrote (174 * n) (rowsText g n (now (units .entry)) (now (records .entry))) (now (area .entry)) 0 (now (area .exit)) r ⌝ }
 {
     let mut at: usize = 0;
     let mut i: usize = 0;

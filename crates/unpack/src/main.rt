@@ -578,7 +578,7 @@ fn begin(start: Start, q: Asked) {
             say_printed(printed);
         }
         Start::Version => {
-            let printed = each_frame::print(b"unpack 0.5 (Khachmuren, CCSDS 732.1-B-3)\n");
+            let printed = each_frame::print(b"unpack 0.6 (Khachmuren, CCSDS 732.1-B-3)\n");
             say_printed(printed);
         }
         Start::Unknown(i) => say_unknown(i),

@@ -10,7 +10,7 @@ use Rattle.obey.proofs.obey_all.Tie as tie
 -- The areas keep their lengths.
 abbrev Kept : List ℕ → List ℕ → List ℕ → List ℕ → List ℕ → Type 0
 Kept q desk held units records =
-    (length q ≡ 65536) × (length desk ≡ 6440) × (length held ≡ 65552) × (length units ≡ 12304) × (length records ≡ 14432)
+    (length q ≡ 65536) × (length desk ≡ 6440) × (length held ≡ 65552) × (length units ≡ 12304) × (length records ≡ 49184)
 
 abbrev Inv-loop : tie.InvT-loop
 Inv-loop q₀ desk₀ held₀ units₀ records₀ k₀ q desk held units records k = Kept q desk held units records
@@ -24,7 +24,7 @@ loop-holds c = (
   length-replicate 6440 zero,
   length-replicate {A = ℕ} 65552 0x55,
   length-replicate {A = ℕ} 12304 0x55,
-  length-replicate {A = ℕ} 14432 0x55,
+  length-replicate {A = ℕ} 49184 0x55,
 )
 
 slice-aggregate-next : tie.Need-slice-aggregate-next Inv-loop μ-loop

@@ -1,4 +1,4 @@
--- The lines of the units passed stand one after another, and each has at most 168 octets.
+-- The lines of the units passed stand one after another, and each has at most 174 octets.
 use Prim.Native.Nat.{ℕ, _-_, _*_, _+_, _≤_}
 use mathlib.Core.Path.{_≡_, refl}
 use native.Mathlib.Omega.{arith}
@@ -12,7 +12,7 @@ use Rattle.unit_table.proofs.put_rows.Statement.{statement}
 use Rattle.unit_table.proofs.put_rows.Tie as tie
 
 abbrev Inv-loop : tie.InvT-loop
-Inv-loop area₀ g n units records at₀ i₀ area at i = (i ≤ n) × (length area ≡ length area₀) × Wrote (168 * i) (firsts (λ (j : ℕ). rowText
+Inv-loop area₀ g n units records at₀ i₀ area at i = (i ≤ n) × (length area ≡ length area₀) × Wrote (174 * i) (firsts (λ (j : ℕ). rowText
     (rowOf g units records j)) i) area₀ 0 area at
 
 abbrev μ-loop : tie.MeasureT-loop
@@ -46,7 +46,7 @@ loop-again c =
     let w = wrote-row (c .before .before .before .before .row-of .ensures) (c .before .before .put-row .ensures) in (
       search needs,
       search needs,
-      wrote-next _ (l .i) (168 * (l .i + 1)) (l .inv .2) w
+      wrote-next _ (l .i) (174 * (l .i + 1)) (l .inv .2) w
           (omega (arith, c₈ .before .before .pre .0, c₈ .before .before .pre .1)) (omega arith),
     )
 
@@ -55,7 +55,7 @@ same-length c = c .before .loop .inv .1
 
 returns : tie.Need-returns Inv-loop μ-loop
 unfolding rowsText
-returns c = wrote-all _ 100800 (c .before .loop .inv .2) (omega arith) (omega (arith, c .before .before .before .before .before .pre .0))
+returns c = wrote-all _ _ (c .before .loop .inv .2) (omega arith) (omega arith)
 
 pub put-rows-spec : {M : Type 1} → statement M
 put-rows-spec =

@@ -1,4 +1,4 @@
--- The record's numbers, and the unit's front.
+-- The record's numbers, the unit's front, and what measures it.
 use native.Mathlib.Nat.{div-one}
 use Rattle.rules.specs.Octets.{bits}
 use Rattle.unit_table.specs.Rows.{rowOf, numberAt, apid, sequence}
@@ -42,16 +42,24 @@ number-at-requires-6 c κs = search needs
 add-requires : tie.Need-add-requires
 add-requires c κs = search needs
 
+measure-from-requires : tie.Need-measure-from-requires
+measure-from-requires c κs = search needs
+
+sort-of-requires : tie.Need-sort-of-requires
+sort-of-requires c κs = search needs
+
 returns : tie.Need-returns
 unfolding rowOf apid sequence bits numberAt
 returns c = rw (
-  c .add .ensures,
-  c .before .number-at6 .ensures,
-  c .before .before .number-at5 .ensures,
-  c .before .before .before .number-at4 .ensures,
-  c .before .before .before .before .number-at3 .ensures,
-  c .before .before .before .before .before .number-at2 .ensures,
-  c .before .before .before .before .before .before .number-at .ensures,
+  c .sort-of .ensures,
+  c .before .measure-from .ensures,
+  c .before .before .add .ensures,
+  c .before .before .before .number-at6 .ensures,
+  c .before .before .before .before .number-at5 .ensures,
+  c .before .before .before .before .before .number-at4 .ensures,
+  c .before .before .before .before .before .before .number-at3 .ensures,
+  c .before .before .before .before .before .before .before .number-at2 .ensures,
+  c .before .before .before .before .before .before .before .before .number-at .ensures,
   div-one,
 )
 
@@ -71,4 +79,6 @@ row-of-spec =
     number-at-requires-5
     number-at-requires-6
     add-requires
+    measure-from-requires
+    sort-of-requires
     returns)

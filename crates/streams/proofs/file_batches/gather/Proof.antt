@@ -50,7 +50,7 @@ returns-2 c =
     let told = c .before .before in
     let top = told .before .before .before .before .before in
     let a = top .before .before .args in
-    let cut = cut-here (a .s .now) (top .loop .i) _ (told .before .before .measure-at .ensures) _ (told .m .given .1) (c .if1 .taken) in
+    let cut = cut-here (a .s .now) (top .loop .i) _ (told .before .before .measure-at .ensures) _ _ (told .m .given .1) (c .if1 .taken) in
     (sym (top .loop .inv .2 ∙ no-packet (a .longest) (a .s .now) (top .loop .i) cut), search needs)
 
 returns-3 : tie.Need-returns-3 Inv-loop μ-loop
@@ -58,7 +58,7 @@ returns-3 c =
     let told = c .before .before .before in
     let top = told .before .before .before .before .before in
     let a = top .before .before .args in
-    let whole = more-here (a .s .now) (top .loop .i) _ (told .before .before .measure-at .ensures) _ (told .m .given .1) (c .before .if1 .left) in
+    let whole = more-here (a .s .now) (top .loop .i) _ (told .before .before .measure-at .ensures) _ _ (told .m .given .1) (c .before .if1 .left) in
     (sym (top .loop .inv .2 ∙ too-long (a .longest) (a .s .now) (top .loop .i) _ (c .before .if1 .left) whole (c .if2 .taken)), search needs)
 
 sub-if3 : tie.Need-sub-if3 Inv-loop μ-loop
@@ -69,7 +69,7 @@ returns-4 c =
     let told = c .before .before .before .before in
     let top = told .before .before .before .before .before in
     let a = top .before .before .args in
-    let whole = more-here (a .s .now) (top .loop .i) _ (told .before .before .measure-at .ensures) _ (told .m .given .1) (c .before .before .if1 .left) in
+    let whole = more-here (a .s .now) (top .loop .i) _ (told .before .before .measure-at .ensures) _ _ (told .m .given .1) (c .before .before .if1 .left) in
     (sym (top .loop .inv .2 ∙ no-room (a .longest) (a .s .now) (top .loop .i) _ (c .before .before .if1 .left) whole (c .if3 .taken)), search needs)
 
 add-i : tie.Need-add-i Inv-loop μ-loop
@@ -79,7 +79,7 @@ loop-less : tie.Need-loop-less Inv-loop μ-loop
 loop-less c =
     let told = c .before .before .before .before in
     let top = told .before .before .before .before .before in
-    let long = long-here (top .before .before .args .s .now) (top .loop .i) _ (told .before .before .measure-at .ensures) _ (told .m .given .1) in
+    let long = long-here (top .before .before .args .s .now) (top .loop .i) _ (told .before .before .measure-at .ensures) _ _ (told .m .given .1) in
     omega arith
 
 loop-again : tie.Need-loop-again Inv-loop μ-loop
@@ -87,7 +87,7 @@ loop-again c =
     let told = c .before .before .before .before in
     let top = told .before .before .before .before .before in
     let a = top .before .before .args in
-    let whole = more-here (a .s .now) (top .loop .i) _ (told .before .before .measure-at .ensures) _ (told .m .given .1) (c .before .before .if1 .left) in (
+    let whole = more-here (a .s .now) (top .loop .i) _ (told .before .before .measure-at .ensures) _ _ (told .m .given .1) (c .before .before .if1 .left) in (
       search needs,
       search needs,
       top .loop .inv .2 ∙ one-more (a .longest) (a .s .now) (top .loop .i) _ (c .before .before .if1 .left) whole
