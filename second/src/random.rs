@@ -308,6 +308,8 @@ pub fn edge_packet(random: &mut Random, longest: usize) -> Vec<u8> {
     let longest = longest as u64;
     let below = random.below(header);
     let high = random.below(1 << 32);
+    // A total whose low octets alone would fit.
+    let low_fits = random.pick(&[header, longest]) + random.pick(&[1 << 8, 1 << 16, 1 << 24, 1 << 31]);
     let total = random.pick(&[
         0,
         below,
@@ -325,7 +327,8 @@ pub fn edge_packet(random: &mut Random, longest: usize) -> Vec<u8> {
         256,
         65_535,
         65_536,
-        65_536 + longest,
+        low_fits,
+        low_fits,
         (1 << 32) - 1,
         (1 << 32) - 1,
         high,

@@ -1170,7 +1170,7 @@ fn totals_at_the_edges() {
             assert_eq!(given(20, &held[..19], 1, &held[19..]).0, u64::from(!idle));
         }
     }
-    for high in [1 << 16, 65_536 + 8, 1 << 31, (1 << 32) - 1] {
+    for high in [1 << 16, (1 << 16) + 8, (1 << 24) + 8, 1 << 31, (1 << 31) + 8, (1 << 32) - 1] {
         assert_eq!(at_end(8_192, &header(false, 3, high)), (0, 0, 8, 0));
         assert_eq!(at_end(8_192, &header(true, 3, high)), (0, 0, 8, 0));
         // In the lead too, at once.
@@ -1237,6 +1237,10 @@ fn small_longest_in_the_walk() {
             }
         }
     }
+    // Six octets of a Space Packet say its size, and five do not.
+    assert_eq!(at_end(64, &packet(65)[..5]), (0, 0, 0, 5));
+    assert_eq!(at_end(64, &packet(65)[..6]), (0, 0, 6, 0));
+    assert_eq!(at_end(64, &packet(64)[..6]), (0, 0, 0, 6));
     // A whole Space Packet is too long there; two octets are a packet.
     assert_eq!(at_end(6, &packet(7)), (0, 0, 7, 0));
     assert_eq!(at_end(7, &packet(7)), (1, 0, 0, 0));
