@@ -149,7 +149,7 @@ impl Setting {
             })
             && lanes.iter().enumerate().all(|(i, l)| {
                 let (least, upid) = match l.kind {
-                    Kind::Packets => (7, l.upid == 0),
+                    Kind::Packets => (2, l.upid == 0),
                     Kind::Access => (1, (1..=30).contains(&l.upid)),
                 };
                 usize::from(l.channel) < channels.len()
@@ -196,15 +196,27 @@ enum Measure {
 
 #[inline(always)]
 fn measure(octets: &[u8]) -> Measure {
-    if octets[0] == 0xE0 {
-        return Measure::Long { length: 1, idle: true };
-    }
     if octets[0] >> 5 != 0 {
-        return Measure::Unreadable;
+        return if octets[0] >> 5 == 0b111 { encapsulated(octets) } else { Measure::Unreadable };
     }
     let Some(head) = octets.first_chunk::<6>() else { return Measure::TooFew };
     let length = 7 + usize::from(u16::from_be_bytes([head[4], head[5]]));
     Measure::Long { length, idle: u16::from_be_bytes([head[0], head[1]]) & 0x07FF == 0x07FF }
+}
+
+/// The same of an encapsulation packet: header and length of each length-of-length. A header of one octet is the whole packet where it is idle.
+fn encapsulated(octets: &[u8]) -> Measure {
+    let (header, length) = [(1, 0), (2, 1), (4, 2), (8, 4)][usize::from(octets[0] & 0b11)];
+    let Some(head) = octets.get(..header) else { return Measure::TooFew };
+    let idle = octets[0] >> 2 & 0b111 == 0;
+    let total = match length {
+        0 => usize::from(idle),
+        _ => head[header - length..].iter().fold(0, |total, &octet| total << 8 | usize::from(octet)),
+    };
+    if total < header {
+        return Measure::Unreadable;
+    }
+    Measure::Long { length: total, idle }
 }
 
 /// How many octets E0 these begin with.
@@ -218,7 +230,7 @@ fn idle_run(octets: &[u8]) -> usize {
 const HELD: usize = 65_536;
 const PART: usize = 8_192;
 const UNITS: usize = 12_288;
-const RECORDS: usize = 14_400;
+const RECORDS: usize = 49_152;
 const RECORD: usize = 24;
 
 struct Reader {
@@ -436,7 +448,7 @@ impl Reader {
         while at < zone.len() {
             let rest = &zone[at..];
             if rest[0] == 0xE0 {
-                // The longest is at least 7, so that a run of these is idle octets whatever else the setting says.
+                // The longest is at least 2, so that a run of these is idle octets whatever else the setting says.
                 let run = idle_run(rest);
                 answer.idle += run;
                 at += run;
@@ -456,6 +468,10 @@ impl Reader {
                     return;
                 }
                 Measure::Unreadable => {
+                    answer.dropped += rest.len();
+                    return;
+                }
+                Measure::TooFew if rest.len() >= longest => {
                     answer.dropped += rest.len();
                     return;
                 }
@@ -483,12 +499,12 @@ impl Reader {
         let begin = lane * PART;
         let held = before.octets;
         let all = held + lead.len();
-        let measured = if held >= 6 {
+        let measured = if held >= 8 {
             measure(&areas.held[begin..begin + held])
         } else {
             // The packet's first octets, as many as its measure asks for.
-            let mut head = [0; 6];
-            let known = all.min(6);
+            let mut head = [0; 8];
+            let known = all.min(8);
             head[..held].copy_from_slice(&areas.held[begin..begin + held]);
             head[held..known].copy_from_slice(&lead[..known - held]);
             measure(&head[..known])
@@ -505,7 +521,7 @@ impl Reader {
                     hand_out(answer, areas, common, Some(begin..begin + held), lead, before.span + 1);
                 }
             }
-            Measure::TooFew => self.goes_on(lane, before, lead, pointer, areas, answer),
+            Measure::TooFew if all < longest => self.goes_on(lane, before, lead, pointer, areas, answer),
             Measure::Long { length, .. } if length > all && length <= longest => {
                 self.goes_on(lane, before, lead, pointer, areas, answer)
             }
@@ -582,11 +598,10 @@ struct Writer {
 /// Behind the packet that begins here, where it is whole and may be in a batch.
 #[inline(always)]
 fn behind(batch: &[u8], at: usize, longest: usize) -> Option<usize> {
-    let head = batch.get(at..)?.first_chunk::<6>()?;
-    let first = u16::from_be_bytes([head[0], head[1]]);
-    let length = 7 + usize::from(u16::from_be_bytes([head[4], head[5]]));
-    let good = first >> 13 == 0 && first & 0x07FF != 0x07FF && length <= longest && length <= batch.len() - at;
-    good.then_some(at + length)
+    match measure(&batch[at..]) {
+        Measure::Long { length, idle: false } if length <= longest && length <= batch.len() - at => Some(at + length),
+        _ => None,
+    }
 }
 
 /// Whether a packet batch keeps its rule; and where its first packet at or behind an octet starts, or the batch's end.

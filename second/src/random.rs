@@ -1343,8 +1343,8 @@ impl Script {
         let other = random.below(self.setting.channels.len() as u64) as usize;
         let other_lane = random.below(self.setting.lanes.len() as u64) as usize;
         // Fields that little else forges come more often.
-        match random.below(22) {
-            0 | 16 => header.version = random.below(16) as u8,
+        match random.below(26) {
+            0 | 16 | 22 => header.version = random.below(16) as u8,
             1 => header.spacecraft ^= 1 << random.below(16),
             2 => header.destination = !header.destination,
             3 => header.virtual_channel = random.below(64) as u8,
@@ -1352,8 +1352,8 @@ impl Script {
             5 => header.virtual_channel = self.setting.channels[other].virtual_channel as u8,
             6 => header.map = random.below(16) as u8,
             7 => header.map = self.setting.lanes[other_lane].map as u8,
-            8 | 17 => header.end_of_header = true,
-            9 => {
+            8 | 17 | 23 => header.end_of_header = true,
+            9 | 24 => {
                 let any = random.next() as u16;
                 header.length = random.pick(&[header.length.wrapping_add(1), header.length.wrapping_sub(1), any]);
             }
@@ -1364,7 +1364,7 @@ impl Script {
             }
             12 => header.spare = random.below(4) as u8,
             13 | 19 | 21 => header.ocf = !header.ocf,
-            14 | 20 => header.count_length = random.below(8) as u8,
+            14 | 20 | 25 => header.count_length = random.below(8) as u8,
             _ => {}
         }
     }
