@@ -230,10 +230,10 @@ handed {o = o} {v = v} {a = a} g w =
     }
 
 -- A frame gives no more units than the table has room for.
-pub handed-few : {o : Origin} {v : Verdict} {a : Answer} {l u c : List ℕ} → Handed o v a l u c → a .units ≤ 600
+pub handed-few : {o : Origin} {v : Verdict} {a : Answer} {l u c : List ℕ} → Handed o v a l u c → a .units ≤ 2048
 unfolding told got
 handed-few {a = a} h =
     let g = h .stage in
     let s : Small ((pass (g .without) (g .reader) (h .frame) (g .held) (g .units) (g .records)) .taken .answer)
     = pass-fits (g .without) (g .reader) (h .frame) (g .held) (g .units) (g .records) in
-    omega (arith, s .records, ap (λ (x : Answer). x .units) (h .answer))
+    omega (arith, s .units, ap (λ (x : Answer). x .units) (h .answer))

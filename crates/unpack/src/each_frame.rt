@@ -8,7 +8,7 @@
 // titles, and the text of all totals (`hand_totals`). Shown by runs: what no contract can follow into the system.
 ghost use mathlib.Core.Path.{_≡_};
 ghost use mathlib.Core.Bool.{true};
-ghost use Prim.Native.Nat.{_≤_, _<_};
+ghost use Prim.Native.Nat.{_*_, _≤_, _<_};
 ghost use lib.ListN.{length};
 ghost use Rattle.rules.specs.Settings.{settingOk, readerOk};
 ghost use Rattle.unpack_text.specs.Lines.{title};
@@ -186,12 +186,30 @@ fn hand_rows(g: Origin, n: usize, fds: [i32; 10], units: &[u8], records: &[u8], 
 }
 
 // Puts the lines of n units, all of them, and writes them to the table at once.
-fn put_table(g: Origin, n: usize, fds: [i32; 10], units: &[u8], records: &[u8]) -> Went
-    requires { ⌜ n ≤ 600 ⌝ }
+fn put_lines(
+    area: &mut [u8],
+    g: Origin,
+    n: usize,
+    fds: [i32; 10],
+    units: &[u8],
+    records: &[u8],
+) -> Went
+    requires { ⌜ (n ≤ 2048) × (174 * n ≤ length (now area)) ⌝ }
 {
-    let mut area = [0u8; 100800];
-    let end = unit_table::put_rows(&mut area, g, n, units, records);
+    let end = unit_table::put_rows(area, g, n, units, records);
     hand_rows(g, n, fds, units, records, &area[..end])
+}
+
+// Writes the lines of n units to the table. Most reads give few, and an area is cleared before it is lent: the large one only where it is needed.
+fn put_table(g: Origin, n: usize, fds: [i32; 10], units: &[u8], records: &[u8]) -> Went
+    requires { ⌜ n ≤ 2048 ⌝ }
+{
+    if n <= 64 {
+        let mut area = [0u8; 11136];
+        return put_lines(&mut area, g, n, fds, units, records);
+    }
+    let mut area = [0u8; 356352];
+    put_lines(&mut area, g, n, fds, units, records)
 }
 
 // Prints a frame's line, where lines are printed.
@@ -463,7 +481,7 @@ fn hand_table(fds: [i32; 10], text: &[u8]) -> Went
 pub fn start_table(o: Sinks) -> Went {
     if o.table {
         let fds = o.fds;
-        let mut area = [0u8; 50];
+        let mut area = [0u8; 57];
         let end = unit_table::put_title(&mut area, 0);
         return hand_table(fds, &area[..end]);
     }
