@@ -97,5 +97,10 @@ pub fn measure_at(octets: &[u8]) -> Measure
     if octets.len() == 0 {
         return Measure::Lacks(1);
     }
-    measured_of(octets[0], octets)
+    let a = octets[0];
+    // Nearly always it is a Space Packet: where that is asked first, the compiler puts the answer where it is used.
+    if a / 32 == 0b000 {
+        return space_at(octets);
+    }
+    measured_of(a, octets)
 }
