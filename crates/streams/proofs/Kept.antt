@@ -66,10 +66,12 @@ module _ (longest room : ℕ) (xs : List ℕ) (f : Family) (n : ℕ) (is : measu
   cut : (g : ℕ) → n + g ≤ length xs → packets (take (n + g) xs) ≡ take n xs ∷ packets (take g (drop n xs))
   cut g h =
       let b = begins xs f n is in
+      let same : measure (take (n + g) xs) ≡ Packet f n =
+      ap measure (sym (append-nil (take (n + g) xs))) ∙ packet-front xs f n is (n + g) (omega (arith, b .header)) h [] in
       let l : length (take n xs) ≡ n = length-take-le n xs within in
       let m : length (take (n + g) xs) ≡ n + g = length-take-le (n + g) xs h in
       packets-front (take (n + g) xs)
-      ∙ ap (λ (k : Measure). whole k (take (n + g) xs) packets) (ap measure (sym (append-nil (take (n + g) xs))) ∙ packet-front xs f n is (n + g) (omega (arith, b .header)) h [])
+      ∙ ap (λ (k : Measure). whole k (take (n + g) xs) packets) same
       ∙ rw (m, le-leb n (n + g) (omega arith), take-add n g xs, take-at (take n xs) (take g (drop n xs)) n l, drop-at (take n xs) (take g (drop n xs)) n l)
 
   one-fits : n ≤ longest → n ≤ room → (us : List (List ℕ)) → Fitted longest (room - n) (drop n xs) us → Fitted longest room xs (take n xs ∷ us)

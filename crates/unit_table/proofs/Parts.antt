@@ -1,6 +1,6 @@
 -- Numbers in octets and what measures a unit, where there may be fewer octets than asked for; and the line of a unit as a pattern that is filled.
 use Prim.Native.Nat.{ℕ, _+_, _-_, _≤_, _<_}
-use mathlib.Core.Path.{_≡_, refl, sym, ap, subst, _∙_}
+use mathlib.Core.Path.{_≡_, sym, ap, subst, _∙_}
 use mathlib.Core.List.{List, [], _∷_, _++_, append-assoc}
 use mathlib.Core.Bool.{true}
 use lib.ListN.{length, take, drop, getD, length-drop, List·getD-eq-default}

@@ -28,7 +28,8 @@ same-length c = search needs
 
 returns : tie.Need-returns
 unfolding text marked plain plains
-returns c = wrote-filled _ _ _ (space-strung _ (c .before .before .before .before .before .before .enum-told .given .1)) refl (c .before .before .put-filled .ensures)
+returns c =
+    wrote-filled _ _ _ (space-strung _ (c .before .before .before .before .before .before .enum-told .given .1)) refl (c .before .before .put-filled .ensures)
 
 enum-told-2 : tie.Need-enum-told-2
 enum-told-2 c = search needs
