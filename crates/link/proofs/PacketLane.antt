@@ -21,7 +21,7 @@ use Rattle.rules.specs.Tests.{_≤?_}
 use Rattle.rules.specs.Areas.{joined}
 use Rattle.rules.specs.Packets.{measure}
 use Rattle.rules.specs.Writing.{startFrom, inside}
-use Rattle.rules.specs.Reading.{DataUnit, noUnit, carries, unitFrom, unitOf, hands, both, endFate, cutFate, joinedFate, leadFate, lead, sizedNext, cutNext, nextOf, front, walkUpTo, walk, packetLane}
+use Rattle.rules.specs.Reading.{DataUnit, noUnit, unitFrom, unitOf, hands, both, endFate, cutFate, joinedFate, leadFate, lead, sizedNext, cutNext, nextOf, front, walkUpTo, walk, packetLane}
 use Rattle.rules.proofs.Tests.{split}
 use Rattle.rules.proofs.Measures.{Lacking, measure-fill}
 use Rattle.rules.proofs.Lanes.{walk-front}

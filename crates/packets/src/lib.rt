@@ -1,7 +1,7 @@
 // What a packet is, by its octets: the measure, and nothing else. Each function is total, and gives what one definition of the rules gives.
 ghost use mathlib.Core.Path.{_≡_};
 ghost use lib.ListN.{length};
-ghost use Rattle.rules.specs.Packets.{spaceHeader, sized, spacePacket, lengthOfLength, headerSize, totalled, alone, protocol, encapsulated, headed, measured, measure};
+ghost use Rattle.rules.specs.Packets.{spaceHeader, sized, spacePacket, lengthOfLength, headerSize, totalled, alone, encapsulated, headed, measured, measure};
 use rules::Family;
 use rules::Measure;
 

@@ -1,14 +1,14 @@
 -- Laws of the measure: what it can say, of the octets behind a header, of a packet's first octets, of no octets and of fill, and that eight octets say
 -- all. A packet's first octet says how many its header has; what the others say of it stands on these laws.
-use mathlib.Core.Path.{_≡_, refl, sym, ap, ap₂, _∙_}
+use mathlib.Core.Path.{_≡_, refl, sym, ap, _∙_}
 use mathlib.Core.Logic.{_⊎_, inl, inr}
 use Prim.Native.Nat.{ℕ, zero, suc, _+_, _-_, _*_, _%_, _≤_, _<_}
-use native.Mathlib.Nat.{not-suc-le-zero}
+use native.Mathlib.Nat.{not-suc-le-zero, le-trans}
 use native.Mathlib.Omega.{arith}
-use mathlib.Core.Bool.{Bool, true, false, cond}
-use mathlib.Core.List.{List, [], _∷_, _++_}
-use lib.ListN.{length, getD, take, drop, take-append-drop, List·getD-append}
-use lib.Seq.{length-take-le, take-all, take-append-le, drop-append-le}
+use mathlib.Core.Bool.{Bool, true, false, cond, true≢false}
+use mathlib.Core.List.{List, [], _∷_, _++_, append-nil}
+use lib.ListN.{length, getD, take, drop, length-append, length-drop, take-append-drop, List·getD-append}
+use lib.Seq.{length-take-le, take-all, take-append-le, drop-append-le, getD-take}
 use borrow.Author.Tests.{ltb-true, ltb-false, lt-ltb, le-ltb}
 use Rattle.rules.specs.declared.Family.{Family}
 use Rattle.rules.specs.declared.Family.the-variants.{Space, Encapsulation}
@@ -55,9 +55,12 @@ pub header-fits : (a : ℕ) → (1 ≤ headerOf a) × (headerOf a ≤ 8)
 unfolding headerOf
 header-fits a = go (firstBits a =? 0b000) (firstBits a =? 0b111)
   where
-    go : (p q : Bool) → (1 ≤ cond p spaceHeader (cond q (headerSize (lengthOfLength a)) 1)) × (cond p spaceHeader (cond q (headerSize (lengthOfLength a)) 1) ≤ 8)
+    l : ℕ
+    l = lengthOfLength a
+
+    go : (p q : Bool) → (1 ≤ cond p spaceHeader (cond q (headerSize l) 1)) × (cond p spaceHeader (cond q (headerSize l) 1) ≤ 8)
     go true q = (omega arith, omega arith)
-    go false true = let f = entry-fits (lengthOfLength a) (omega arith) in (f .some, f .most)
+    go false true = let f = entry-fits l (omega arith) in (f .some, f .most)
     go false false = (omega arith, omega arith)
 
 measure-by : (a : ℕ) (xs : List ℕ) → measure (a ∷ xs) ≡ headed (headerOf a) (suc (length xs)) (said a (a ∷ xs))
@@ -101,7 +104,8 @@ said-cases P a xs packet idle bad =
     long give h t false e false = let g : headerSize l ≤ t = ltb-false _ _ e in give Encapsulation t g (omega arith)
 
     two : (l =? 0 ≡ false) → 2 ≤ headerSize l
-    two e = entries (λ l k m. l =? 0 ≡ false → 2 ≤ k) l (omega arith) (λ e. absurd (mathlib.Core.Bool.true≢false e)) (λ e. omega arith) (λ e. omega arith) (λ e. omega arith) e
+    two e =
+        entries (λ l k m. l =? 0 ≡ false → 2 ≤ k) l (omega arith) (λ e. absurd (true≢false e)) (λ e. omega arith) (λ e. omega arith) (λ e. omega arith) e
 
     capsule : ((f : Family) (n : ℕ) → headerSize l ≤ n → 2 ≤ n → P (Packet f n)) → (z : Bool) → l =? 0 ≡ z
         → P (cond z (cond (protocol a =? 0b000) (Idle 1) Unreadable)
@@ -157,7 +161,7 @@ measure-fill xs = rw (le-ltb (suc (length xs)) 1 (omega arith))
 -- Octets j to j + k are those of the front, where it has them.
 window : (j k : ℕ) (xs ys : List ℕ) → j + k ≤ length xs → take k (drop j (xs ++ ys)) ≡ take k (drop j xs)
 window j k xs ys h =
-    ap (take k) (drop-append-le j xs ys (omega arith)) ∙ take-append-le k (drop j xs) ys (rw (lib.ListN.length-drop j xs) (omega arith))
+    ap (take k) (drop-append-le j xs ys (omega arith)) ∙ take-append-le k (drop j xs) ys (rw (length-drop j xs) (omega arith))
 
 said-behind : (a : ℕ) (xs ys : List ℕ) → headerOf a ≤ length xs → said a (xs ++ ys) ≡ said a xs
 unfolding headerOf said spacePacket encapsulated totalIn
@@ -181,14 +185,14 @@ said-behind a xs ys = go (firstBits a =? 0b000) (firstBits a =? 0b111)
 -- Octets behind a header do not change what it says.
 pub measure-behind : (xs ys : List ℕ) → headerOf (getD xs 0 0) ≤ length xs → measure (xs ++ ys) ≡ measure xs
 unfolding headed
-measure-behind [] ys h = absurd (not-suc-le-zero (native.Mathlib.Nat.le-trans (header-fits 0 .0) h))
+measure-behind [] ys h = absurd (not-suc-le-zero (le-trans (header-fits 0 .0) h))
 measure-behind (a ∷ xs) ys h =
     measure-by a (xs ++ ys)
     ∙ rw (le-ltb _ _ (long ys), said-behind a (a ∷ xs) ys h)
     (sym (measure-by a xs ∙ rw (le-ltb _ _ h)))
   where
     long : (ys : List ℕ) → headerOf a ≤ suc (length (xs ++ ys))
-    long ys = omega (arith, lib.ListN.length-append xs ys, h)
+    long ys = omega (arith, length-append xs ys, h)
 
 -- Eight octets say all.
 pub measure-eight : (xs ys : List ℕ) → 8 ≤ length xs → measure (xs ++ ys) ≡ measure xs
@@ -224,7 +228,7 @@ pub packet-front : (xs : List ℕ) (f : Family) (n : ℕ) → measure xs ≡ Pac
     → measure (take m xs ++ ys) ≡ Packet f n
 packet-front xs f n e m h k ys =
     let l : length (take m xs) ≡ m = length-take-le m xs k in
-    let o : getD (take m xs) 0 0 ≡ getD xs 0 0 = lib.Seq.getD-take m xs 0 0 (omega (arith, header-fits (getD xs 0 0) .0)) in
+    let o : getD (take m xs) 0 0 ≡ getD xs 0 0 = getD-take m xs 0 0 (omega (arith, header-fits (getD xs 0 0) .0)) in
     let b : headerOf (getD (take m xs) 0 0) ≤ length (take m xs) = rw (o, l) h in
     measure-behind (take m xs) ys b ∙ sym (measure-behind (take m xs) (drop m xs) b) ∙ ap measure (take-append-drop m xs) ∙ e
 
@@ -247,5 +251,5 @@ pub packet-part : (xs : List ℕ) (f : Family) (n : ℕ) → measure xs ≡ Pack
     → Lacking (measure (take m xs)) ⊎ (measure (take m xs) ≡ Packet f n)
 packet-part xs f n e m k =
     split (headerOf (getD xs 0 0)) m
-    (λ h. inr (ap measure (sym (mathlib.Core.List.append-nil (take m xs))) ∙ packet-front xs f n e m h k []))
+    (λ h. inr (ap measure (sym (append-nil (take m xs))) ∙ packet-front xs f n e m h k []))
     (λ h. inl (packet-few xs m h k))

@@ -1,20 +1,18 @@
 -- The measure agrees with the printed tables, for every octet string: a packet laid out as the page has it, part by part, with anything behind it, is
 -- measured as the page says; and so is one of which only first octets are there. Every first octet is one of these three kinds.
-use mathlib.Core.Path.{_≡_, refl, sym, ap, _∙_}
-use Prim.Native.Nat.{ℕ, zero, suc, _+_, _-_, _*_, _/_, _%_, _≤_, _<_}
+use mathlib.Core.Path.{_≡_, refl, ap, _∙_}
+use Prim.Native.Nat.{ℕ, suc, _+_, _-_, _*_, _%_, _≤_, _<_}
 use native.Mathlib.Omega.{arith}
 use mathlib.Core.Bool.{cond}
-use mathlib.Core.List.{List, [], _∷_, _++_, append-assoc}
+use mathlib.Core.List.{List, _∷_, _++_}
 use lib.ListN.{length, take, drop, length-append}
 use lib.Seq.{take-at, drop-at}
 use borrow.Author.Tests.{lt-ltb, le-ltb, eq-eqb, ne-eqb}
 use Rattle.rules.specs.declared.Family.the-variants.{Space}
-use Rattle.rules.specs.declared.Measure.{Measure}
 use Rattle.rules.specs.declared.Measure.the-variants.{Lacks, Packet, Idle, Unreadable}
 use Rattle.rules.specs.Tests.{_=?_}
 use Rattle.rules.specs.Octets.{num}
 use Rattle.rules.specs.Packets.{firstBits, protocol, lengthOfLength, spaceHeader, sized, spacePacket, headerSize, lengthSize, totalIn, totalled, alone, encapsulated, headed, measured, measure}
-use Rattle.rules.proofs.Measures.{entry-fits}
 
 -- ---- "first bits 111, protocol 3 bits, length-of-length 2 bits"
 

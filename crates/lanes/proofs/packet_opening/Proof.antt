@@ -1,8 +1,6 @@
 -- With a pointer the lead is the octets before it, and packets follow; with none it is all of the zone.
-use mathlib.Core.Path.{_≡_, sym}
-use Prim.Native.Nat.{_<_}
+use mathlib.Core.Path.{sym}
 use native.Mathlib.Omega.{arith}
-use lib.ListN.{length, take}
 use lib.Seq.{length-take-le}
 use borrow.Author.Needs.{needs}
 use Rattle.lanes.proofs.Parts.{lead-at, lead-nowhere}

@@ -22,7 +22,8 @@ enum-told c = search needs
 returns : tie.Need-returns
 returns c =
     let t = c .before .before .before in
-    next-lost (t .before .before .args .longest) (t .measure-at .result) (length (t .before .before .args .octets .now)) (c .before .before .match .keys2) (c .before .match2 .keys2) (c .match3 .keys2)
+    let a = t .before .before .args in
+    next-lost (a .longest) (t .measure-at .result) (length (a .octets .now)) (c .before .before .match .keys2) (c .before .match2 .keys2) (c .match3 .keys2)
     ∙ rw (t .measure-at .ensures)
 
 cut-next-requires : tie.Need-cut-next-requires
