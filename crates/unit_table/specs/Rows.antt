@@ -91,7 +91,7 @@ placeText r = decimal (r .lane) ++ (text "," ++ decimal (r .offset)) ++ (text ",
 unfoldable pub frameText : Row → List ℕ
 frameText r = text "," ++ decimal (r .frame) ++ (text "," ++ decimal (r .count))
 
--- "... of a Space Packet its APID and its sequence count, of any other unit two empty fields; ..."
+-- "... of a Space Packet its APID and its sequence count; of an encapsulation packet and of an access lane's unit two empty fields; ..."
 unfoldable pub packetText : Sort → Row → List ℕ
 packetText sort.Space r = text "," ++ decimal (r .apid) ++ (text "," ++ decimal (r .sequence))
 packetText sort.Encapsulation r = text ",,"
@@ -101,7 +101,7 @@ packetText sort.Nothing r = text ",,"
 unfoldable pub spanText : Row → List ℕ
 spanText r = text "," ++ decimal (r .span)
 
--- "... and the family of a packet, `space` or `encapsulation`; of an access unit an empty field."
+-- "... the family, `space` or `encapsulation`, and an empty field for an access lane's unit."
 unfoldable pub familyText : Sort → List ℕ
 familyText sort.Space = text ",space"
 familyText sort.Encapsulation = text ",encapsulation"
