@@ -1,4 +1,4 @@
-//! The work that docs/FIGURES.md counts, by a Rust program that is made to be quick: what ours is held against. Written from document 01, with A2 and A3 of document 02.
+//! The work that docs/FIGURES.md counts, by a Rust program that is made to be quick: what ours is held against. Written from document 01, with A2, A3 and A5 of document 02.
 //! Its calls are the paper's: a read is lent a frame and the areas, a write a lane and its batch, and each call judges what it is lent. A
 //! setting is judged once, in set-up; the states are kept in their place and can be changed by the calls alone, so that they stay valid. No call
 //! asks for memory. The frame check goes eight octets at a time, by tables (slicing by eight); built with --cfg 'check="table"' it goes an octet
