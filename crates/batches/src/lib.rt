@@ -32,16 +32,6 @@ fn packets_to(longest: usize, batch: &[u8], from: usize, to: usize) -> Place
     Place::At(i)
 }
 
-// A number that is at most n: this one, where it is.
-fn at_most(from: usize, n: usize) -> usize
-    ensures { λ r. ⌜ (r ≤ n) × (from ≤ n → r ≡ from) ⌝ }
-{
-    if from < n {
-        return from;
-    }
-    n
-}
-
 // Octet i, where there is a place.
 fn if_any(i: usize, p: Place) -> Place
     ensures { λ r. ⌜ r ≡ ifAny i p ⌝ }
@@ -57,7 +47,7 @@ fn if_any(i: usize, p: Place) -> Place
 fn back_to_back(longest: usize, batch: &[u8], from: usize) -> Place
     ensures { λ r. ⌜ Stands longest (now (batch .entry)) from r ⌝ }
 {
-    let to = at_most(from, batch.len());
+    let to = octets::least(from, batch.len());
     let p = packets_to(longest, batch, 0, to);
     match p {
         Place::At(i) => {

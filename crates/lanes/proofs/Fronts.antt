@@ -11,7 +11,7 @@ use Rattle.rules.proofs.Areas.{laid-front, laid-next, length-laid}
 use Rattle.rules.proofs.Measures.{measure-eight}
 use Rattle.rules.proofs.Tests.{split}
 
-module _ (first second : List ℕ) {m : ℕ} (is : m ≡ min (8 - length first) (length second)) (few : length first < 8) where
+module _ (first second : List ℕ) {m : ℕ} (is : m ≡ min (length second) (8 - length first)) (few : length first < 8) where
   pub more-length : m ≡ length (take m second)
   more-length = sym (length-take-le m second (omega arith))
 

@@ -1,7 +1,7 @@
 // What a lane makes of a zone and of the octets it holds, laid into lent areas.
 ghost use mathlib.Core.Path.{_≡_};
 ghost use mathlib.Core.List.{List, _++_};
-ghost use Prim.Native.Nat.{ℕ, min};
+ghost use Prim.Native.Nat.{ℕ};
 ghost use lib.ListN.{length};
 ghost use Rattle.rules.specs.Packets.{measure};
 ghost use Rattle.rules.specs.Reading.{heldIn, leadFate, packetLane, accessLane, laneStep};
@@ -22,16 +22,6 @@ use units::Stand;
 use units::Tally;
 use units::Terms;
 
-// As many as n, and at most `most`.
-fn at_most(n: usize, most: usize) -> usize
-    ensures { λ r. ⌜ r ≡ min most n ⌝ }
-{
-    if n < most {
-        return n;
-    }
-    most
-}
-
 // Measures the packet that begins with the first of two parts that follow each other. No header has more than eight octets, so the first eight say all.
 fn measure_of(first: &[u8], second: &[u8]) -> Measure
     ensures { λ r. ⌜ r ≡ measure (now (first .entry) ++ now (second .entry)) ⌝ }
@@ -40,7 +30,7 @@ fn measure_of(first: &[u8], second: &[u8]) -> Measure
     if 8 <= h {
         return packets::measure_at(first);
     }
-    let more = at_most(second.len(), 8 - h);
+    let more = octets::least(second.len(), 8 - h);
     let end = h + more;
     let mut front = [0u8; 8];
     octets::lay(&mut front, 0, first);

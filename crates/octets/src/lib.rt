@@ -1,9 +1,19 @@
 // Octets in lent areas, and numbers in octets. Each function is total and works on all of the part that it is lent.
 ghost use mathlib.Core.Path.{_≡_};
-ghost use Prim.Native.Nat.{_+_, _%_, _^_, _≤_};
+ghost use Prim.Native.Nat.{_+_, _%_, _^_, _≤_, min};
 ghost use lib.ListN.{length, take, replicate};
 ghost use Rattle.rules.specs.Octets.{be, num};
 ghost use Rattle.rules.specs.Areas.{laid};
+
+// The lesser of two numbers of octets.
+pub fn least(a: usize, b: usize) -> usize
+    ensures { λ r. ⌜ r ≡ min a b ⌝ }
+{
+    if a < b {
+        return a;
+    }
+    b
+}
 
 // Copies `src` to the front of `dst`, as far as it has room; later octets stay.
 pub fn copy(dst: &mut [u8], src: &[u8])

@@ -6,8 +6,8 @@ use Rattle.batches.proofs.Batches.{stands-by}
 use Rattle.batches.proofs.back_to_back.Statement.{statement}
 use Rattle.batches.proofs.back_to_back.Tie as tie
 
-at-most-requires : tie.Need-at-most-requires
-at-most-requires c κs = search needs
+least-requires : tie.Need-least-requires
+least-requires c κs = search needs
 
 packets-to-requires : tie.Need-packets-to-requires
 packets-to-requires c κs = search needs
@@ -30,7 +30,7 @@ returns c =
     let m = k .before .before .before in
     let a = m .before .before .args in
     let p : Passes (a .longest) (a .batch .now) _ _ _ = rw (k .p .given .1) at (k .before .before .packets-to .ensures) in
-    rw (c .if-any .ensures) (stands-by (a .longest) (a .batch .now) (a .from) _ _ p (m .at-most .ensures .1) (c .before .packets-to2 .result)
+    rw (c .if-any .ensures) (stands-by (a .longest) (a .batch .now) (a .from) _ _ p (λ h. omega (arith, m .least .ensures)) (c .before .packets-to2 .result)
     (c .before .packets-to2 .ensures))
 
 enum-told : tie.Need-enum-told
@@ -43,7 +43,7 @@ pub back-to-back-spec : {M : Type 1} → statement M
 back-to-back-spec =
     tie.close
     (tie.spec
-    at-most-requires
+    least-requires
     packets-to-requires
     enum-known-p
     packets-to-requires-2

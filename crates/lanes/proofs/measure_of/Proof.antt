@@ -16,11 +16,11 @@ returns c =
     let a = c .before .before .before .before .args in
     c .measure-at .ensures ∙ sym (measure-eight (a .first .now) (a .second .now) (c .before .if1 .taken))
 
-sub-at-most : tie.Need-sub-at-most
-sub-at-most c = search needs
+sub-least : tie.Need-sub-least
+sub-least c = search needs
 
-at-most-requires : tie.Need-at-most-requires
-at-most-requires c κs = search needs
+least-requires : tie.Need-least-requires
+least-requires c κs = search needs
 
 add-end : tie.Need-add-end
 add-end c = search needs
@@ -38,15 +38,15 @@ slice-aggregate-lay-3 : tie.Need-slice-aggregate-lay-3
 slice-aggregate-lay-3 c =
     let c₅ = c .before .before .before .before .before in
     let a = c₅ .before .before .before .before .args in
-    more-length (a .first .now) (a .second .now) (c₅ .at-most .ensures) (c₅ .before .if1 .left)
+    more-length (a .first .now) (a .second .now) (c₅ .least .ensures) (c₅ .before .if1 .left)
 
 lay-requires-2 : tie.Need-lay-requires-2
 lay-requires-2 c κs =
     let c₅ = c .before .before .before .before .before in
     let a = c₅ .before .before .before .before .args in
-    let m = more-length (a .first .now) (a .second .now) (c₅ .at-most .ensures) (c₅ .before .if1 .left) in
-    let l = first-laid (a .first .now) (a .second .now) (c₅ .at-most .ensures) (c₅ .before .if1 .left) (c .before .before .before .lay .ensures) in
-    omega (arith, m, l, c₅ .at-most .ensures)
+    let m = more-length (a .first .now) (a .second .now) (c₅ .least .ensures) (c₅ .before .if1 .left) in
+    let l = first-laid (a .first .now) (a .second .now) (c₅ .least .ensures) (c₅ .before .if1 .left) (c .before .before .before .lay .ensures) in
+    omega (arith, m, l, c₅ .least .ensures)
 
 array-share-prefix-front : tie.Need-array-share-prefix-front
 array-share-prefix-front c = search needs
@@ -57,9 +57,9 @@ slice-aggregate-measure-at c =
     let a = c₈ .before .before .before .before .args in
     sym
     (ap length
-    (front-laid (a .first .now) (a .second .now) (c₈ .at-most .ensures) (c₈ .before .if1 .left)
+    (front-laid (a .first .now) (a .second .now) (c₈ .least .ensures) (c₈ .before .if1 .left)
     (c .before .before .before .before .before .before .lay .ensures) (c .before .before .lay2 .ensures))
-    ∙ front-length (a .first .now) (a .second .now) (c₈ .at-most .ensures) (c₈ .before .if1 .left))
+    ∙ front-length (a .first .now) (a .second .now) (c₈ .least .ensures) (c₈ .before .if1 .left))
 
 measure-at-requires-2 : tie.Need-measure-at-requires-2
 measure-at-requires-2 c κs = search needs
@@ -69,7 +69,7 @@ returns-2 c =
     let c₈ = c .before .before .before .before .before .before .before .before in
     let a = c₈ .before .before .before .before .before .args in
     c .measure-at2 .ensures
-    ∙ front-is (a .first .now) (a .second .now) (c₈ .before .at-most .ensures) (c₈ .before .before .if1 .left)
+    ∙ front-is (a .first .now) (a .second .now) (c₈ .before .least .ensures) (c₈ .before .before .if1 .left)
     (c .before .before .before .before .before .before .before .lay .ensures) (c .before .before .before .lay2 .ensures)
 
 pub measure-of-spec : {M : Type 1} → statement M
@@ -78,8 +78,8 @@ measure-of-spec =
     (tie.spec
     measure-at-requires
     returns
-    sub-at-most
-    at-most-requires
+    sub-least
+    least-requires
     add-end
     slice-aggregate-lay
     lay-requires
