@@ -63,7 +63,7 @@ totalled p h t = cond (t <? h) Unreadable (cond (p =? 0b000) (Idle t) (Packet En
 unfoldable pub alone : ℕ → Measure
 alone p = cond (p =? 0b000) (Idle 1) Unreadable
 
--- With this first octet.
+-- What a header with this first octet says.
 unfoldable pub encapsulated : ℕ → List ℕ → Measure
 encapsulated a xs =
     cond (lengthOfLength a =? 0) (alone (protocol a))

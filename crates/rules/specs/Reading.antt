@@ -174,6 +174,7 @@ endFate longest on size n done =
 abbrev pub tooLong : ℕ → ℕ → Bool
 tooLong longest n = longest ≤? n
 
+-- One that had to end has not; one that may go on is held, unless it is too long.
 unfoldable pub cutFate : ℕ → Bool → ℕ → Fate
 cutFate longest on n = cond on (cond (tooLong longest n) Drop Hold) Drop
 
