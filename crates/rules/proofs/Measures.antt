@@ -188,11 +188,11 @@ unfolding headed
 measure-behind [] ys h = absurd (not-suc-le-zero (le-trans (header-fits 0 .0) h))
 measure-behind (a ∷ xs) ys h =
     measure-by a (xs ++ ys)
-    ∙ rw (le-ltb _ _ (long ys), said-behind a (a ∷ xs) ys h)
+    ∙ rw (le-ltb _ _ long, said-behind a (a ∷ xs) ys h)
     (sym (measure-by a xs ∙ rw (le-ltb _ _ h)))
   where
-    long : (ys : List ℕ) → headerOf a ≤ suc (length (xs ++ ys))
-    long ys = omega (arith, length-append xs ys, h)
+    long : headerOf a ≤ suc (length (xs ++ ys))
+    long = omega (arith, length-append xs ys, h)
 
 -- Eight octets say all.
 pub measure-eight : (xs ys : List ℕ) → 8 ≤ length xs → measure (xs ++ ys) ≡ measure xs

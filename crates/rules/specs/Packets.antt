@@ -54,12 +54,12 @@ lengthSize l = getD lengthSizes l 0
 unfoldable pub totalIn : ℕ → List ℕ → ℕ
 totalIn l xs = num (take (lengthSize l) (drop (headerSize l - lengthSize l) xs))
 
--- "A total below its own header is unreadable." "Protocol 000 is idle." By protocol, header and total.
+-- "... a total below its own header, is unreadable." "Protocol 000 is idle ..." By protocol, header and total.
 unfoldable pub totalled : ℕ → ℕ → ℕ → Measure
 totalled p h t = cond (t <? h) Unreadable (cond (p =? 0b000) (Idle t) (Packet Encapsulation t))
 
 -- "Protocol 000 is idle at all four sizes": a header of one octet has no total, and is an idle packet by itself. "A one-octet header with another
--- protocol is unreadable."
+-- protocol, ... is unreadable."
 unfoldable pub alone : ℕ → Measure
 alone p = cond (p =? 0b000) (Idle 1) Unreadable
 
