@@ -26,7 +26,7 @@ double : (r : ℕ) → r < 32768 → checkBit r ≡ r * 2
 unfolding checkBit
 double r h = rw (lt-leb 0x8000 r h)
 
-low : (k r : ℕ) → r * 2 ^ k < 65536 → checkBits k r ≡ r * 2 ^ k
+pub low : (k r : ℕ) → r * 2 ^ k < 65536 → checkBits k r ≡ r * 2 ^ k
 unfolding checkBits
 low zero r h = sym (mul-one r)
 low (suc k) r h =

@@ -1,3 +1,6 @@
 pub mod Xor
 pub mod Linear
 pub mod Agreement
+pub mod Powers
+pub mod Folds
+pub mod Turns

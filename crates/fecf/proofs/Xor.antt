@@ -1,9 +1,9 @@
--- Added numbers (`bitXor`) go in any order: `lib.Bits` has that two do, here it is three and four.
+-- Added numbers (`bitXor`) go in any order: `lib.Bits` has that two do, here it is three and four, and that two of the same are none.
 use mathlib.Core.Path.{_≡_, refl, sym, ap, _∙_}
 use Prim.Native.Nat.{ℕ, _+_, _/_, _%_}
 use native.Mathlib.Omega.{arith}
 use lib.Arith.{bin-ind}
-use lib.Bits.{bitXor, xor-add-and, xor-shr, xor-comm}
+use lib.Bits.{bitXor, xor-add-and, xor-shr, xor-comm, xor-self, xor-zero-l}
 
 parity : (a b : ℕ) → bitXor a b % 2 ≡ (a + b) % 2
 parity a b = omega (arith, xor-add-and a b)
@@ -44,3 +44,9 @@ xor-four a b c d =
     xor-assoc a b (bitXor c d)
     ∙ ap (bitXor a) (sym (xor-assoc b c d) ∙ ap (λ (m : ℕ). bitXor m d) (xor-comm b c) ∙ xor-assoc c b d)
     ∙ sym (xor-assoc a c (bitXor b d))
+
+-- What is added twice is not added.
+pub xor-between : (a m b : ℕ) → bitXor (bitXor a m) (bitXor m b) ≡ bitXor a b
+xor-between a m b =
+    xor-assoc a m (bitXor m b)
+    ∙ ap (bitXor a) (sym (xor-assoc m m b) ∙ ap (λ (n : ℕ). bitXor n b) (xor-self m) ∙ xor-zero-l b)

@@ -1,1 +1,2 @@
 pub mod Remainders
+pub mod Folds

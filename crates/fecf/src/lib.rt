@@ -1,11 +1,16 @@
-// The frame check, octet by octet, by a table of 256 remainders.
+// The frame check: long inputs are made shorter by powers of the generator, and what is left goes octet by octet, by a table of 256 remainders.
 ghost use mathlib.Core.Path.{_≡_};
-ghost use Prim.Native.Nat.{_*_, _%_};
+ghost use Prim.Native.Nat.{_+_, _-_, _*_, _%_, _≤_, _<_};
+ghost use mathlib.Core.List.{_++_};
 ghost use lib.Bits.{bitXor};
+ghost use lib.ListN.{length, take, drop};
 ghost use Rattle.rules.specs.Octets.{checkOf};
 ghost use Rattle.fecf.specs.Remainders.{stepBy, fromBy};
+ghost use Rattle.fecf.specs.Folds.{carried, plus, later, closed, shorter, checkBy};
 
 mod table;
+
+// ---- by the table
 
 // The register moved up by an octet, and an entry added. The register is the low half of r; what moves out of it stays above, where nobody looks at it,
 // since to clear that would take an instruction for each octet.
@@ -23,11 +28,11 @@ fn taken(table: &[u16; 256], r: u32, x: u8) -> u32
     added(r, table[i as usize])
 }
 
-// The register, preset to ones, after these octets, by a table.
-fn check_by(table: &[u16; 256], octets: &[u8]) -> u16
-    ensures { λ v. ⌜ v ≡ fromBy (now (table .entry)) 0xFFFF (now (octets .entry)) ⌝ }
+// The register, preset to `first`, after these octets, by a table.
+fn check_by(table: &[u16; 256], first: u16, octets: &[u8]) -> u16
+    ensures { λ v. ⌜ v ≡ fromBy (now (table .entry)) first (now (octets .entry)) ⌝ }
 {
-    let mut r: u32 = 0xFFFF;
+    let mut r = first as u32;
     let mut i: usize = 0;
     while i < octets.len() {
         r = taken(table, r, octets[i]);
@@ -36,9 +41,145 @@ fn check_by(table: &[u16; 256], octets: &[u8]) -> u16
     (r % 0x10000) as u16
 }
 
+// ---- by a power of the generator
+
+// Carries the long register on over these octets: it stands in the first 16u octets of the area, and then as many behind as there are octets.
+fn carry(u: usize, area: &mut [u8], octets: &[u8])
+    requires { ⌜ (0 < u) × (u ≤ 16) × (16 * u + length (now octets) ≤ length (now area)) ⌝ }
+    ensures { λ _. ⌜ take (16 * u) (drop (length (now (octets .entry))) (now (area .exit))) ≡ carried u (take (16 * u) (now (area .entry))) (now (octets .entry)) ⌝ }
+{
+    let mut j: usize = 0;
+    while j < octets.len() {
+        area[j + 16 * u] = octets[j] ^ area[j + 12 * u] ^ area[j + 5 * u] ^ area[j];
+        j += 1;
+    }
+}
+
+// Moves the octets of an area from `from` on to its front.
+fn to_front(area: &mut [u8], from: usize)
+    ensures { λ _. ⌜ now (area .exit) ≡ drop from (now (area .entry)) ++ drop (length (now (area .entry)) - from) (now (area .entry)) ⌝ }
+{
+    let mut j: usize = 0;
+    while from + j < area.len() {
+        area[j] = area[from + j];
+        j += 1;
+    }
+}
+
+// Adds to each octet the one that stands d octets later.
+fn add_later(area: &mut [u8], d: usize)
+    ensures { λ _. ⌜ now (area .exit) ≡ later d (now (area .entry)) ⌝ }
+{
+    let mut j: usize = 0;
+    while d + j < area.len() {
+        area[j] = area[j] ^ area[d + j];
+        j += 1;
+    }
+}
+
+// Adds octets to the first ones of an area.
+fn add_first(area: &mut [u8], octets: &[u8])
+    requires { ⌜ length (now octets) ≤ length (now area) ⌝ }
+    ensures { λ _. ⌜ now (area .exit) ≡ plus (now (octets .entry)) (now (area .entry)) ⌝ }
+{
+    let mut j: usize = 0;
+    while j < octets.len() {
+        area[j] = area[j] ^ octets[j];
+        j += 1;
+    }
+}
+
+// Ends a fold: adds what the long register puts on the octets behind it to those octets.
+fn close(u: usize, long: &mut [u8], octets: &[u8])
+    requires { ⌜ (u ≤ 16) × (length (now octets) ≤ length (now long)) ⌝ }
+    ensures { λ _. ⌜ now (long .exit) ≡ plus (now (octets .entry)) (closed u (now (long .entry))) ⌝ }
+{
+    add_later(long, 12 * u);
+    add_later(long, 5 * u);
+    add_first(long, octets);
+}
+
+// Ends a fold where the long register stands in an area, from octet `from` on.
+fn close_at(u: usize, area: &mut [u8], from: usize, octets: &[u8])
+    requires { ⌜ (u ≤ 16) × (from + 16 * u ≤ length (now area)) × (length (now octets) ≤ 16 * u) ⌝ }
+    ensures { λ _. ⌜ take (16 * u) (drop from (now (area .exit))) ≡ plus (now (octets .entry)) (closed u (take (16 * u) (drop from (now (area .entry))))) ⌝ }
+{
+    let end = from + 16 * u;
+    close(u, &mut area[from..end], octets);
+}
+
+// Carries the long register of 256 octets on over any number of octets; where it stands then.
+fn carry_far(area: &mut [u8], octets: &[u8]) -> usize
+    requires { ⌜ length (now area) ≡ 768 ⌝ }
+    ensures { λ n. ⌜ (n < 512) × (take 256 (drop n (now (area .exit))) ≡ carried 16 (take 256 (now (area .entry))) (now (octets .entry))) ⌝ }
+{
+    let mut i: usize = 0;
+    while 512 <= octets.len() - i {
+        carry(16, area, &octets[i..i + 512]);
+        to_front(area, 512);
+        i += 512;
+    }
+    carry(16, area, &octets[i..]);
+    octets.len() - i
+}
+
+// ---- the check
+
+// Over 128 octets, from a register of zeros: 64 are left.
+fn check_128(table: &[u16; 256], octets: &[u8]) -> u16
+    requires { ⌜ length (now octets) ≡ 128 ⌝ }
+    ensures { λ v. ⌜ v ≡ fromBy (now (table .entry)) 0 (shorter 4 0 (now (octets .entry))) ⌝ }
+{
+    let mut area = [0u8; 128];
+    carry(4, &mut area, &octets[..64]);
+    close_at(4, &mut area, 64, &octets[64..]);
+    check_by(table, 0, &area[64..128])
+}
+
+// Over 128 to 256 octets, from a register of twice `first`: 128 are left.
+fn check_256(table: &[u16; 256], first: u8, octets: &[u8]) -> u16
+    requires { ⌜ (128 ≤ length (now octets)) × (length (now octets) ≤ 256) ⌝ }
+    ensures { λ v. ⌜ v ≡ fromBy (now (table .entry)) 0 (shorter 4 0 (shorter 8 first (now (octets .entry)))) ⌝ }
+{
+    let mut area = [0u8; 256];
+    area[0] = first;
+    area[1] = first;
+    let n = octets.len() - 128;
+    carry(8, &mut area, &octets[..n]);
+    close_at(8, &mut area, n, &octets[n..]);
+    check_128(table, &area[n..n + 128])
+}
+
+// Over 256 octets or more, from a register of ones: 256 are left.
+fn check_long(table: &[u16; 256], octets: &[u8]) -> u16
+    requires { ⌜ 256 ≤ length (now octets) ⌝ }
+    ensures { λ v. ⌜ v ≡ fromBy (now (table .entry)) 0 (shorter 4 0 (shorter 8 0 (shorter 16 0xFF (now (octets .entry))))) ⌝ }
+{
+    let mut area = [0u8; 768];
+    area[0] = 0xFF;
+    area[1] = 0xFF;
+    let end = octets.len() - 256;
+    let n = carry_far(&mut area, &octets[..end]);
+    close_at(16, &mut area, n, &octets[end..]);
+    check_256(table, 0, &area[n..n + 256])
+}
+
+// The check by a table: as few octets as can be go by it.
+fn check_with(table: &[u16; 256], octets: &[u8]) -> u16
+    ensures { λ v. ⌜ v ≡ checkBy (now (table .entry)) (now (octets .entry)) ⌝ }
+{
+    if octets.len() < 128 {
+        return check_by(table, 0xFFFF, octets);
+    }
+    if octets.len() < 256 {
+        return check_256(table, 0xFF, octets);
+    }
+    check_long(table, octets)
+}
+
 // The frame check over these octets. The table is lent, since a constant is copied whole wherever it is used.
 pub fn check_of(octets: &[u8]) -> u16
     ensures { λ v. ⌜ v ≡ checkOf (now (octets .entry)) ⌝ }
 {
-    check_by(&table::REMAINDERS, octets)
+    check_with(&table::REMAINDERS, octets)
 }

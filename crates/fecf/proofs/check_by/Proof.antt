@@ -1,8 +1,9 @@
 -- `fecf::check_by` meets its contract: the register after all octets is that after the rest, from the register so far.
 use Prim.Native.Nat.{ℕ, _+_, _-_, _%_, _≤_, _<_}
-use mathlib.Core.Path.{_≡_, sym, _∙_}
+use mathlib.Core.Path.{_≡_, sym, ap, _∙_}
 use mathlib.Core.List.{List}
 use native.Mathlib.Numerals.{add-one}
+use native.Mathlib.Omega.{arith}
 use lib.ListN.{length, getD, drop, drop-of-length-le}
 use lib.Seq.{drop-cons}
 use borrow.Author.Needs.{needs}
@@ -19,13 +20,16 @@ unfolding fromBy
 end t xs i r h = rw (drop-of-length-le xs h)
 
 abbrev Inv-loop : tie.InvT-loop
-Inv-loop table octets r₀ i₀ r i = (i ≤ length octets) × (fromBy table 0xFFFF octets ≡ fromBy table (r % 0x10000) (drop i octets))
+Inv-loop table first octets r₀ i₀ r i = (i ≤ length octets) × (fromBy table first octets ≡ fromBy table (r % 0x10000) (drop i octets))
 
 abbrev μ-loop : tie.MeasureT-loop
-μ-loop table octets r₀ i₀ r i = length octets - i
+μ-loop table first octets r₀ i₀ r i = length octets - i
 
 loop-holds : tie.Need-loop-holds Inv-loop μ-loop
-loop-holds c = search needs
+loop-holds c =
+    let a = c .before .args in
+    let whole : a .first ≡ a .first % 0x10000 = omega (arith, c .before .fits .first .fits) in
+    (search needs, ap (λ (n : ℕ). fromBy (a .table .now) n (a .octets .now)) whole)
 
 shared-slice-read-taken : tie.Need-shared-slice-read-taken Inv-loop μ-loop
 shared-slice-read-taken c = search needs
