@@ -12,7 +12,7 @@ use borrow.Author.Tests.{le-leb, lt-leb}
 use Rattle.rules.specs.Octets.{checkBit, checkBits, checkFrom, checkOf}
 use Rattle.rules.proofs.Tests.{split}
 use Rattle.rules.proofs.Octets.{Octets, octets-take, octets-drop, bits-below}
-use Rattle.fecf.specs.Folds.{next, carried, plus, later, closed, preset, shorter, checkBy}
+use Rattle.fecf.specs.Folds.{next, carried, plus, later, closed, preset, shorter, shortest, checkBy}
 use Rattle.fecf.specs.Remainders.{remainders, fromBy}
 use Rattle.fecf.proofs.Xor.{xor-assoc, xor-four, xor-between}
 use Rattle.fecf.proofs.Linear.{shifts}
@@ -377,11 +377,11 @@ octets-closed : (u : ℕ) (long : List ℕ) → Octets long → Octets (closed u
 unfolding closed
 octets-closed u long o = octets-later (5 * u) _ (octets-later (12 * u) long o)
 
--- Which input what is made shorter stands for.
+-- What octets are made to, and that it has their check.
 record Shorter (u f : ℕ) (xs : List ℕ) : Type 0 where
-  octets : Octets (shorter u f xs)
-  size : length (shorter u f xs) ≡ 16 * u
-  same : checkFrom 0 (shorter u f xs) ≡ checkFrom (f * 257) xs
+  octets : Octets (shorter u (preset u f) xs)
+  size : length (shorter u (preset u f) xs) ≡ 16 * u
+  same : checkFrom 0 (shorter u (preset u f) xs) ≡ checkFrom (f * 257) xs
 
 shorter-same : (u f : ℕ) → Folds (8 * u) → 0 < u → f < 256 → (xs : List ℕ) → Octets xs → 16 * u ≤ length xs → Shorter u f xs
 unfolding shorter checkBits
@@ -414,35 +414,31 @@ shorter-same u f fold pos hf xs o h =
 
 -- ---- the table over what is left
 
--- By the 32nd power: what 16 · 4 octets or more come to from a register of zeros.
-by-fourth : (t xs : List ℕ) → t ≡ remainders 0 256 → Octets xs → 64 ≤ length xs → fromBy t 0 (shorter 4 0 xs) ≡ checkFrom 0 xs
-by-fourth t xs e o h =
-    let s : Shorter 4 0 xs = shorter-same 4 0 (power 5) (lit< tt) (lit< tt) xs o h in
-    by-table t e (shorter 4 0 xs) (s .octets) 0 none-below ∙ s .same
+by-shortest : (t xs : List ℕ) (f : ℕ) → f < 256 → t ≡ remainders 0 256 → Octets xs → 128 ≤ length xs → fromBy t 0 (shortest f xs) ≡ checkFrom (f * 257) xs
+unfolding shortest
+by-shortest t xs f hf e o h =
+    let a : Shorter 8 f xs = shorter-same 8 f (power 6) (lit< tt) hf xs o h in
+    let ys = shorter 8 (preset 8 f) xs in
+    let b : Shorter 4 0 ys = shorter-same 4 0 (power 5) (lit< tt) (lit< tt) ys (a .octets) (omega (arith, a .size)) in
+    let zs = shorter 4 (preset 4 0) ys in
+    let c : Shorter 2 0 zs = shorter-same 2 0 (power 4) (lit< tt) (lit< tt) zs (b .octets) (omega (arith, b .size)) in
+    by-table t e (shorter 2 (preset 2 0) zs) (c .octets) 0 none-below ∙ c .same ∙ b .same ∙ a .same
 
--- By the 64th and the 32nd.
-by-eighth : (t xs : List ℕ) (f : ℕ) → f < 256 → t ≡ remainders 0 256 → Octets xs → 128 ≤ length xs
-    → fromBy t 0 (shorter 4 0 (shorter 8 f xs)) ≡ checkFrom (f * 257) xs
-by-eighth t xs f hf e o h =
-    let s : Shorter 8 f xs = shorter-same 8 f (power 6) (lit< tt) hf xs o h in
-    by-fourth t (shorter 8 f xs) e (s .octets) (omega (arith, s .size)) ∙ s .same
-
--- By the 128th too.
-by-sixteenth : (t xs : List ℕ) → t ≡ remainders 0 256 → Octets xs → 256 ≤ length xs
-    → fromBy t 0 (shorter 4 0 (shorter 8 0 (shorter 16 0xFF xs))) ≡ checkFrom 0xFFFF xs
-by-sixteenth t xs e o h =
-    let s : Shorter 16 0xFF xs = shorter-same 16 0xFF (power 7) (lit< tt) (lit< tt) xs o h in
-    by-eighth t (shorter 16 0xFF xs) 0 (lit< tt) e (s .octets) (omega (arith, s .size)) ∙ s .same
+by-longest : (t xs : List ℕ) → t ≡ remainders 0 256 → Octets xs → 256 ≤ length xs
+    → fromBy t 0 (shortest 0 (shorter 16 (preset 16 0xFF) xs)) ≡ checkFrom 0xFFFF xs
+by-longest t xs e o h =
+    let a : Shorter 16 0xFF xs = shorter-same 16 0xFF (power 7) (lit< tt) (lit< tt) xs o h in
+    by-shortest t (shorter 16 (preset 16 0xFF) xs) 0 (lit< tt) e (a .octets) (omega (arith, a .size)) ∙ a .same
 
 -- The check by powers and by the table is the bits'.
 pub check-is : (t xs : List ℕ) → t ≡ remainders 0 256 → Octets xs → checkBy t xs ≡ checkOf xs
 unfolding checkBy checkOf
 check-is t xs e o = split 128 (length xs) (λ h. split 256 (length xs) (long h) (middle h)) short where
   long : 128 ≤ length xs → 256 ≤ length xs → checkBy t xs ≡ checkOf xs
-  long g h = simp (le-leb _ _ g, le-leb _ _ h) (by-sixteenth t xs e o h)
+  long g h = simp (le-leb _ _ g, le-leb _ _ h) (by-longest t xs e o h)
 
   middle : 128 ≤ length xs → length xs < 256 → checkBy t xs ≡ checkOf xs
-  middle g h = simp (le-leb _ _ g, lt-leb _ _ h) (by-eighth t xs 0xFF (lit< tt) e o g)
+  middle g h = simp (le-leb _ _ g, lt-leb _ _ h) (by-shortest t xs 0xFF (lit< tt) e o g)
 
   short : length xs < 128 → checkBy t xs ≡ checkOf xs
   short h = simp (lt-leb _ _ h) (by-table t e xs o 0xFFFF (lit< tt))

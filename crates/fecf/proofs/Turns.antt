@@ -9,7 +9,7 @@ use lib.ListN.{length, getD, take, drop, set, length-drop, length-take, take-app
 use lib.Seq.{drop-cons, drop-drop, drop-set-add, take-suc-set, take-all, take-at, drop-at, length-take-le, getD-take, getD-drop, paste, paste-suc, drop-paste}
 use lib.Bits.{bitXor}
 use borrow.Rule.Slice.PartMut.{putMid}
-use Rattle.fecf.specs.Folds.{next, carried, plus, later, closed, preset, shorter}
+use Rattle.fecf.specs.Folds.{next, carried, plus, later, closed, shorter}
 use Rattle.fecf.proofs.Folds.{length-plus, length-closed}
 
 -- ---- the long register, carried on
@@ -175,20 +175,25 @@ close-part u from area octets x room e =
 
 -- ---- octets made shorter
 
--- A long register that was the preset one, carried on over all octets but the last 16u, and closed over these.
-pub made-shorter : (u f n : ℕ) (xs first long out : List ℕ) → n + 16 * u ≡ length xs → first ≡ preset u f → long ≡ carried u first (take n xs)
-    → out ≡ plus (take (length xs - n) (drop n xs)) (closed u long) → out ≡ shorter u f xs
-unfolding shorter
-made-shorter u f n xs first long out size ef el eo =
-    let m : n ≡ length xs - 16 * u = omega arith in
-    let rest : take (length xs - n) (drop n xs) ≡ drop n xs = take-all (length xs - n) (drop n xs) (omega (arith, length-drop n xs)) in
-    eo
-    ∙ ap₂ plus rest (ap (closed u) (el ∙ ap (λ (l : List ℕ). carried u l (take n xs)) ef))
-    ∙ ap (λ (k : ℕ). plus (drop k xs) (closed u (carried u (preset u f) (take k xs)))) m
-
--- Where it stands, by the octets that it was carried on over.
-pub stands-at : (u n : ℕ) (b long xs : List ℕ) → n ≤ length xs → take (16 * u) (drop (length (take n xs)) b) ≡ long → take (16 * u) (drop n b) ≡ long
-stands-at u n b long xs h e = ap (λ (k : ℕ). take (16 * u) (drop k b)) (sym (length-take-le n xs h)) ∙ e
+-- Octets of an area, by another number for their place or for how many there are.
+pub placed : (m k n : ℕ) (b out : List ℕ) → k ≡ n → take m (drop k b) ≡ out → take m (drop n b) ≡ out
+placed m k n b out e h = ap (λ (j : ℕ). take m (drop j b)) (sym e) ∙ h
 
 pub part-long : (n m : ℕ) (b : List ℕ) → take (n + m - n) (drop n b) ≡ take m (drop n b)
 part-long n m b = (let e : n + m - n ≡ m = omega arith in ap (λ (k : ℕ). take k (drop n b)) e)
+
+-- Carried on over all octets but the last 16u, and closed over these.
+pub made-shorter : (u n : ℕ) (xs first long out : List ℕ) → n ≡ length xs - 16 * u → long ≡ carried u first (take n xs)
+    → out ≡ plus (take (length xs - n) (drop n xs)) (closed u long) → out ≡ shorter u first xs
+unfolding shorter
+made-shorter u n xs first long out m el eo =
+    let rest : take (length xs - n) (drop n xs) ≡ drop n xs = take-all (length xs - n) (drop n xs) (omega (arith, length-drop n xs)) in
+    eo
+    ∙ ap₂ plus rest (ap (closed u) el)
+    ∙ ap (λ (k : ℕ). plus (drop k xs) (closed u (carried u first (take k xs)))) m
+
+pub shortened : (u n : ℕ) (xs a b out : List ℕ) → n ≡ length xs - 16 * u → take (16 * u) (drop (length (take n xs)) b) ≡ carried u (take (16 * u) a) (take n xs)
+    → out ≡ plus (take (length xs - n) (drop n xs)) (closed u (take (16 * u) (drop n b))) → out ≡ shorter u (take (16 * u) a) xs
+shortened u n xs a b out m el eo =
+    let long = carried u (take (16 * u) a) (take n xs) in
+    made-shorter u n xs (take (16 * u) a) (take (16 * u) (drop n b)) out m (placed (16 * u) (length (take n xs)) n b long (length-take-le n xs (omega arith)) el) eo

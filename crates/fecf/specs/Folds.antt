@@ -37,14 +37,18 @@ closed u long = later (5 * u) (later (12 * u) long)
 unfoldable pub preset : ℕ → ℕ → List ℕ
 preset u f = f ∷ f ∷ replicate (16 * u - 2) 0
 
--- 16u octets that have the check from a register of zeros which at least as many have from one whose two octets are f.
-unfoldable pub shorter : ℕ → ℕ → List ℕ → List ℕ
-shorter u f xs = plus (drop (length xs - 16 * u) xs) (closed u (carried u (preset u f) (take (length xs - 16 * u) xs)))
+-- The last 16u of some octets, and added to them what a long register adds after it was carried on over those before.
+unfoldable pub shorter : ℕ → List ℕ → List ℕ → List ℕ
+shorter u long xs = plus (drop (length xs - 16 * u) xs) (closed u (carried u long (take (length xs - 16 * u) xs)))
 
--- The check by a table and by powers of the generator: 256 octets or more are made shorter by the 128th power, what is left, and 128 or more, by
--- the 64th and the 32nd; the rest goes by the table.
+-- By the 64th, the 32nd and the 16th power: 32 octets are left of 128 or more, from a register whose two octets are both f.
+unfoldable pub shortest : ℕ → List ℕ → List ℕ
+shortest f xs = shorter 2 (preset 2 0) (shorter 4 (preset 4 0) (shorter 8 (preset 8 f) xs))
+
+-- The check by a table and by powers of the generator: 256 octets or more are made shorter by the 128th power first; fewer than 128 go by the
+-- table alone.
 unfoldable pub checkBy : List ℕ → List ℕ → ℕ
 checkBy table xs =
     cond (128 ≤? length xs)
-    (cond (256 ≤? length xs) (fromBy table 0 (shorter 4 0 (shorter 8 0 (shorter 16 0xFF xs)))) (fromBy table 0 (shorter 4 0 (shorter 8 0xFF xs))))
+    (cond (256 ≤? length xs) (fromBy table 0 (shortest 0 (shorter 16 (preset 16 0xFF) xs))) (fromBy table 0 (shortest 0xFF xs)))
     (fromBy table 0xFFFF xs)

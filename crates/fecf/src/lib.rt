@@ -6,7 +6,7 @@ ghost use lib.Bits.{bitXor};
 ghost use lib.ListN.{length, take, drop};
 ghost use Rattle.rules.specs.Octets.{checkOf};
 ghost use Rattle.fecf.specs.Remainders.{stepBy, fromBy};
-ghost use Rattle.fecf.specs.Folds.{carried, plus, later, closed, shorter, checkBy};
+ghost use Rattle.fecf.specs.Folds.{carried, plus, later, closed, preset, shorter, shortest, checkBy};
 
 mod table;
 
@@ -123,37 +123,55 @@ fn carry_far(area: &mut [u8], octets: &[u8]) -> usize
     octets.len() - i
 }
 
+// Makes octets shorter: 16u are left, where the long register ends up that stands at the front of the area before.
+fn shorten(u: usize, area: &mut [u8], octets: &[u8])
+    requires { ⌜ (0 < u) × (u ≤ 16) × (16 * u ≤ length (now octets)) × (length (now octets) ≤ length (now area)) ⌝ }
+    ensures { λ _. ⌜ take (16 * u) (drop (length (now (octets .entry)) - 16 * u) (now (area .exit))) ≡ shorter u (take (16 * u) (now (area .entry))) (now (octets .entry)) ⌝ }
+{
+    let n = octets.len() - 16 * u;
+    carry(u, area, &octets[..n]);
+    close_at(u, area, n, &octets[n..]);
+}
+
 // ---- the check
+
+// Over 64 octets, from a register of zeros: 32 are left for the table.
+fn check_64(table: &[u16; 256], octets: &[u8]) -> u16
+    requires { ⌜ length (now octets) ≡ 64 ⌝ }
+    ensures { λ v. ⌜ v ≡ fromBy (now (table .entry)) 0 (shorter 2 (preset 2 0) (now (octets .entry))) ⌝ }
+{
+    let mut area = [0u8; 64];
+    shorten(2, &mut area, octets);
+    check_by(table, 0, &area[32..64])
+}
 
 // Over 128 octets, from a register of zeros: 64 are left.
 fn check_128(table: &[u16; 256], octets: &[u8]) -> u16
     requires { ⌜ length (now octets) ≡ 128 ⌝ }
-    ensures { λ v. ⌜ v ≡ fromBy (now (table .entry)) 0 (shorter 4 0 (now (octets .entry))) ⌝ }
+    ensures { λ v. ⌜ v ≡ fromBy (now (table .entry)) 0 (shorter 2 (preset 2 0) (shorter 4 (preset 4 0) (now (octets .entry)))) ⌝ }
 {
     let mut area = [0u8; 128];
-    carry(4, &mut area, &octets[..64]);
-    close_at(4, &mut area, 64, &octets[64..]);
-    check_by(table, 0, &area[64..128])
+    shorten(4, &mut area, octets);
+    check_64(table, &area[64..128])
 }
 
-// Over 128 to 256 octets, from a register of twice `first`: 128 are left.
+// Over 128 to 256 octets, from a register whose two octets are `first`: 128 are left.
 fn check_256(table: &[u16; 256], first: u8, octets: &[u8]) -> u16
     requires { ⌜ (128 ≤ length (now octets)) × (length (now octets) ≤ 256) ⌝ }
-    ensures { λ v. ⌜ v ≡ fromBy (now (table .entry)) 0 (shorter 4 0 (shorter 8 first (now (octets .entry)))) ⌝ }
+    ensures { λ v. ⌜ v ≡ fromBy (now (table .entry)) 0 (shortest first (now (octets .entry))) ⌝ }
 {
     let mut area = [0u8; 256];
     area[0] = first;
     area[1] = first;
+    shorten(8, &mut area, octets);
     let n = octets.len() - 128;
-    carry(8, &mut area, &octets[..n]);
-    close_at(8, &mut area, n, &octets[n..]);
     check_128(table, &area[n..n + 128])
 }
 
 // Over 256 octets or more, from a register of ones: 256 are left.
 fn check_long(table: &[u16; 256], octets: &[u8]) -> u16
     requires { ⌜ 256 ≤ length (now octets) ⌝ }
-    ensures { λ v. ⌜ v ≡ fromBy (now (table .entry)) 0 (shorter 4 0 (shorter 8 0 (shorter 16 0xFF (now (octets .entry))))) ⌝ }
+    ensures { λ v. ⌜ v ≡ fromBy (now (table .entry)) 0 (shortest 0 (shorter 16 (preset 16 0xFF) (now (octets .entry)))) ⌝ }
 {
     let mut area = [0u8; 768];
     area[0] = 0xFF;

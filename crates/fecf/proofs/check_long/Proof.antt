@@ -1,13 +1,12 @@
 -- `fecf::check_long` meets its contract: 256 octets or more made shorter by the generator's 128th power.
-use mathlib.Core.Path.{_≡_, refl, sym, ap, _∙_}
+use mathlib.Core.Path.{refl, sym, ap, _∙_}
 use mathlib.Core.List.{List}
-use Prim.Native.Nat.{ℕ, _+_, _-_}
+use Prim.Native.Nat.{ℕ, _-_}
 use native.Mathlib.Omega.{arith}
-use lib.ListN.{length, take, drop}
-use lib.Seq.{length-take-le}
-use lib.Dec.{lit<, lit≤}
+use lib.ListN.{length}
 use Rattle.fecf.specs.Remainders.{fromBy}
-use Rattle.fecf.specs.Folds.{preset, shorter}
+use Rattle.fecf.specs.Folds.{preset, shorter, shortest}
+use lib.Seq.{length-take-le}
 use Rattle.fecf.proofs.Turns.{made-shorter, part-long}
 use borrow.Author.Needs.{needs}
 use Rattle.fecf.proofs.check_long.Statement.{statement}
@@ -68,10 +67,9 @@ returns c =
     let b = c₈ .before .before .before .before in
     let xs = b .args .octets .now in
     c .check-256 .ensures
-    ∙ ap (λ (l : List ℕ). fromBy (b .args .table .now) 0 (shorter 4 0 (shorter 8 0 l)))
+    ∙ ap (λ (l : List ℕ). fromBy (b .args .table .now) 0 (shortest 0 l))
       (part-long (c₈ .carry-far .result) 256 _
-       ∙ made-shorter 16 0xFF (length xs - 256) xs _ _ _ (omega (arith, b .pre)) refl (c₈ .carry-far .ensures .1)
-         (c .before .before .before .before .close-at .ensures))
+       ∙ made-shorter 16 (length xs - 256) xs _ _ _ refl (c₈ .carry-far .ensures .1) (c .before .before .before .before .close-at .ensures))
 
 pub check-long-spec : {M : Type 1} → statement M
 check-long-spec =
