@@ -4,3 +4,4 @@ pub mod Agreement
 pub mod Powers
 pub mod Folds
 pub mod Turns
+pub mod Lengths
