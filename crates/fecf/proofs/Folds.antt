@@ -108,11 +108,11 @@ plus-sum [] ys r s o q hr hs h =
 plus-sum (x ∷ xs) [] r s o q hr hs h = absurd (not-suc-le-zero h)
 plus-sum (x ∷ xs) (y ∷ ys) r s o q hr hs h =
     let apart : bitXor (bitXor r s) (bitXor y x * 256) ≡ bitXor (bitXor r (y * 256)) (bitXor s (x * 256)) =
-        ap (bitXor (bitXor r s)) (times-256 y x) ∙ xor-four r s (y * 256) (x * 256) in
+    ap (bitXor (bitXor r s)) (times-256 y x) ∙ xor-four r s (y * 256) (x * 256) in
     let left : length ys - length xs ≡ suc (length ys) - suc (length xs) = omega arith in
     ap (λ (n : ℕ). checkFrom n (plus xs ys))
     (ap (checkBits 8) apart
-     ∙ shifts 8 (bitXor r (y * 256)) (bitXor s (x * 256)) (xor-lt 16 r (y * 256) hr (upper y (q .0))) (xor-lt 16 s (x * 256) hs (upper x (o .0))))
+    ∙ shifts 8 (bitXor r (y * 256)) (bitXor s (x * 256)) (xor-lt 16 r (y * 256) hr (upper y (q .0))) (xor-lt 16 s (x * 256) hs (upper x (o .0))))
     ∙ plus-sum xs ys (checkBits 8 (bitXor r (y * 256))) (checkBits 8 (bitXor s (x * 256))) (o .1) (q .1) (step-below r y) (step-below s x) (le-of-suc-le-suc h)
     ∙ ap (λ (n : ℕ). bitXor (checkFrom r (y ∷ ys)) (checkBits (8 * n) (checkFrom s (x ∷ xs)))) left
 
@@ -150,30 +150,30 @@ one-on d v long o hv h =
     let room : d ≤ length (drop 1 long) = omega (arith, length-drop 1 long) in
     let past : 1 + d ≡ suc d = omega arith in
     let parts : drop d (drop 1 long ++ v ∷ []) ≡ rest ++ v ∷ [] =
-        drop-append-le d (drop 1 long) (v ∷ []) room ∙ ap (λ (l : List ℕ). l ++ v ∷ []) (drop-drop d 1 long ∙ ap (λ (n : ℕ). drop n long) past) in
+    drop-append-le d (drop 1 long) (v ∷ []) room ∙ ap (λ (l : List ℕ). l ++ v ∷ []) (drop-drop d 1 long ∙ ap (λ (n : ℕ). drop n long) past) in
     let new : checkFrom 0 (drop d (drop 1 long ++ v ∷ [])) ≡ bitXor (checkBits 8 p) (alone v) =
-        ap (checkFrom 0) parts ∙ from-joined rest (v ∷ []) 0 ∙ shifts 8 p (v * 256) hp (upper v hv) in
+    ap (checkFrom 0) parts ∙ from-joined rest (v ∷ []) 0 ∙ shifts 8 p (v * 256) hp (upper v hv) in
     let old : checkFrom 0 (drop d long) ≡ bitXor p (checkBits (8 * length rest) (alone x)) =
-        ap (checkFrom 0) (drop-cons long d 0 h)
-        ∙ ap (λ (n : ℕ). checkFrom n rest) (ap (checkBits 8) (xor-zero-l (x * 256)) ∙ sym (xor-zero-l (alone x)))
-        ∙ from-sum rest 0 (alone x) (octets-drop (suc d) long o) none-below (alone-below x) in
+    ap (checkFrom 0) (drop-cons long d 0 h)
+    ∙ ap (λ (n : ℕ). checkFrom n rest) (ap (checkBits 8) (xor-zero-l (x * 256)) ∙ sym (xor-zero-l (alone x)))
+    ∙ from-sum rest 0 (alone x) (octets-drop (suc d) long o) none-below (alone-below x) in
     let far : 8 * length rest + 8 * d + 8 ≡ 8 * length long = omega (arith, length-drop (suc d) long) in
     let e = checkBits (8 * length long) (alone x) in
     let g = checkBits 8 (checkBits (8 * d) p) in
     let z = checkBits (8 * length rest) (alone x) in
     let hz : z < 65536 = shifted-below (8 * length rest) (alone x) (alone-below x) in
     let gone : checkBits 8 (checkBits (8 * d) (checkFrom 0 (drop d long))) ≡ bitXor g e =
-        ap (λ (n : ℕ). checkBits 8 (checkBits (8 * d) n)) old
-        ∙ ap (checkBits 8) (shifts (8 * d) p z hp hz)
-        ∙ shifts 8 (checkBits (8 * d) p) (checkBits (8 * d) z) (shifted-below (8 * d) p hp) (shifted-below (8 * d) z hz)
-        ∙ ap (bitXor g)
-          (ap (checkBits 8) (sym (shifts-add (8 * length rest) (8 * d) (alone x))) ∙ sym (shifts-add (8 * length rest + 8 * d) 8 (alone x))
-           ∙ ap (λ (n : ℕ). checkBits n (alone x)) far) in
+    ap (λ (n : ℕ). checkBits 8 (checkBits (8 * d) n)) old
+    ∙ ap (checkBits 8) (shifts (8 * d) p z hp hz)
+    ∙ shifts 8 (checkBits (8 * d) p) (checkBits (8 * d) z) (shifted-below (8 * d) p hp) (shifted-below (8 * d) z hz)
+    ∙ ap (bitXor g)
+    (ap (checkBits 8) (sym (shifts-add (8 * length rest) (8 * d) (alone x))) ∙ sym (shifts-add (8 * length rest + 8 * d) 8 (alone x))
+    ∙ ap (λ (n : ℕ). checkBits n (alone x)) far) in
     ap (checkBits (8 * d)) new
     ∙ shifts (8 * d) (checkBits 8 p) (alone v) (shifted-below 8 p hp) (alone-below v)
     ∙ ap (λ (n : ℕ). bitXor n (checkBits (8 * d) (alone v)))
-      (shifts-swap (8 * d) 8 p
-       ∙ sym (ap (λ (n : ℕ). bitXor n e) gone ∙ xor-assoc g e e ∙ ap (bitXor g) (xor-self e) ∙ xor-zero-r g))
+    (shifts-swap (8 * d) 8 p
+    ∙ sym (ap (λ (n : ℕ). bitXor n e) gone ∙ xor-assoc g e e ∙ ap (bitXor g) (xor-self e) ∙ xor-zero-r g))
 
 -- Three sums added are the sum of what stands first in them and of what stands second.
 three : (a b c d e f : ℕ) → bitXor (bitXor (bitXor a b) (bitXor c d)) (bitXor e f) ≡ bitXor (bitXor (bitXor a c) e) (bitXor (bitXor b d) f)
@@ -199,11 +199,11 @@ next-alone u long x o h =
     let hb : b < 256 = octet-at long o (5 * u) in
     let hc : c < 256 = octet-at long o 0 in
     let last : bitXor (bitXor (bitXor x a) b) c ≡ bitXor x (bitXor (bitXor a b) c) =
-        ap (λ (n : ℕ). bitXor n c) (xor-assoc x a b) ∙ xor-assoc x (bitXor a b) c in
+    ap (λ (n : ℕ). bitXor n c) (xor-assoc x a b) ∙ xor-assoc x (bitXor a b) c in
     ap alone last
     ∙ alone-sum x (bitXor (bitXor a b) c) h (xor-lt 8 (bitXor a b) c (xor-lt 8 a b ha hb) hc)
     ∙ ap (bitXor (alone x))
-      (alone-sum (bitXor a b) c (xor-lt 8 a b ha hb) hc ∙ ap (λ (n : ℕ). bitXor n (alone c)) (alone-sum a b ha hb))
+    (alone-sum (bitXor a b) c (xor-lt 8 a b ha hb) hc ∙ ap (λ (n : ℕ). bitXor n (alone c)) (alone-sum a b ha hb))
 
 next-value : (u : ℕ) → Folds (8 * u) → 0 < u → (long : List ℕ) (x : ℕ) → Octets long → length long ≡ 16 * u → x < 256
     → value u (drop 1 long ++ next u long x ∷ []) ≡ bitXor (checkBits 8 (value u long)) (checkBits (16 * (8 * u)) (alone x))
@@ -227,18 +227,18 @@ next-value u fold pos long x o len hx =
     let q = from-on (5 * u) long in
     let s = from-on 0 long in
     let in-all : bitXor (bitXor (checkBits (8 * (12 * u)) (alone v)) (checkBits (8 * (5 * u)) (alone v))) (alone v) ≡ checkBits m (bitXor (alone x) y) =
-        ap₂ (λ (j k : ℕ). bitXor (bitXor (checkBits j (alone v)) (checkBits k (alone v))) (alone v)) twelve five
-        ∙ sym (fold (alone v) (alone-below v))
-        ∙ ap₂ checkBits (sym far) (next-alone u long x o hx) in
+    ap₂ (λ (j k : ℕ). bitXor (bitXor (checkBits j (alone v)) (checkBits k (alone v))) (alone v)) twelve five
+    ∙ sym (fold (alone v) (alone-below v))
+    ∙ ap₂ checkBits (sym far) (next-alone u long x o hx) in
     ap₂ bitXor
     (ap₂ bitXor (one-on (12 * u) v long o hv (omega (arith, len))) (one-on (5 * u) v long o hv (omega (arith, len))))
     (one-on 0 v long o hv (omega (arith, len)))
     ∙ three (bitXor (checkBits 8 p) (checkBits m a)) (checkBits (8 * (12 * u)) (alone v)) (bitXor (checkBits 8 q) (checkBits m b)) (checkBits (8 * (5 * u)) (alone v))
-      (bitXor (checkBits 8 s) (checkBits m c)) (alone v)
+    (bitXor (checkBits 8 s) (checkBits m c)) (alone v)
     ∙ ap₂ bitXor
-      (three (checkBits 8 p) (checkBits m a) (checkBits 8 q) (checkBits m b) (checkBits 8 s) (checkBits m c)
-       ∙ ap₂ bitXor (sym (shifts-three 8 p q s (from-on-below (12 * u) long) (from-on-below (5 * u) long) (from-on-below 0 long))) (sym (shifts-three m a b c ha hb hc)))
-      (in-all ∙ shifts m (alone x) y (alone-below x) hy ∙ xor-comm (checkBits m (alone x)) (checkBits m y))
+    (three (checkBits 8 p) (checkBits m a) (checkBits 8 q) (checkBits m b) (checkBits 8 s) (checkBits m c)
+    ∙ ap₂ bitXor (sym (shifts-three 8 p q s (from-on-below (12 * u) long) (from-on-below (5 * u) long) (from-on-below 0 long))) (sym (shifts-three m a b c ha hb hc)))
+    (in-all ∙ shifts m (alone x) y (alone-below x) hy ∙ xor-comm (checkBits m (alone x)) (checkBits m y))
     ∙ xor-between (checkBits 8 (bitXor (bitXor p q) s)) (checkBits m y) (checkBits m (alone x))
     ∙ ap (λ (n : ℕ). bitXor (checkBits 8 (bitXor (bitXor p q) s)) (checkBits n (alone x))) far
 
@@ -259,10 +259,10 @@ next-stands u fold pos long r x hx s =
       size = omega (arith, length-append (drop 1 long) (next u long x ∷ []), length-drop 1 long, s .size);
       below = step-below r x;
       same =
-        next-value u fold pos long x (s .octets) (s .size) hx
-        ∙ ap (λ (n : ℕ). bitXor n (checkBits m (alone x))) (ap (checkBits 8) (s .same) ∙ shifts-swap 8 m r)
-        ∙ sym (shifts m (checkBits 8 r) (alone x) (shifted-below 8 r (s .below)) (alone-below x))
-        ∙ ap (checkBits m) (sym (shifts 8 r (x * 256) (s .below) (upper x hx)));
+          next-value u fold pos long x (s .octets) (s .size) hx
+          ∙ ap (λ (n : ℕ). bitXor n (checkBits m (alone x))) (ap (checkBits 8) (s .same) ∙ shifts-swap 8 m r)
+          ∙ sym (shifts m (checkBits 8 r) (alone x) (shifted-below 8 r (s .below)) (alone-below x))
+          ∙ ap (checkBits m) (sym (shifts 8 r (x * 256) (s .below) (upper x hx)));
     }
 
 carried-stands : (u : ℕ) → Folds (8 * u) → 0 < u → (xs long : List ℕ) (r : ℕ) → Octets xs → Stands u long r → Stands u (carried u long xs) (checkFrom r xs)
@@ -310,27 +310,27 @@ preset-stands u f pos hf =
     let both : bitXor h f ≡ f * 257 = (let e : f * 256 + f ≡ f * 257 = omega arith in xor-shifted f 8 f hf ∙ e) in
     let moved : checkBits 8 f ≡ h = low 8 f hh in
     let two : checkBits 8 (bitXor (checkBits 8 h) h) ≡ checkBits 16 (f * 257) =
-        ap (λ (m : ℕ). checkBits 8 (bitXor (checkBits 8 h) m)) (sym moved)
-        ∙ ap (checkBits 8) (sym (shifts 8 h f hh (omega arith)))
-        ∙ sym (shifts-add 8 8 (bitXor h f))
-        ∙ ap (checkBits 16) both in
+    ap (λ (m : ℕ). checkBits 8 (bitXor (checkBits 8 h) m)) (sym moved)
+    ∙ ap (checkBits 8) (sym (shifts 8 h f hh (omega arith)))
+    ∙ sym (shifts-add 8 8 (bitXor h f))
+    ∙ ap (checkBits 16) both in
     let far : 16 + 8 * n ≡ 16 * (8 * u) = omega arith in
     let whole : checkFrom 0 (f ∷ f ∷ replicate n 0) ≡ checkBits (16 * (8 * u)) (f * 257) =
-        ap (λ (m : ℕ). checkFrom (checkBits 8 (bitXor (checkBits 8 m) h)) (replicate n 0)) (xor-zero-l h)
-        ∙ ap (λ (m : ℕ). checkFrom m (replicate n 0)) two
-        ∙ over-none n (checkBits 16 (f * 257))
-        ∙ sym (shifts-add 16 (8 * n) (f * 257))
-        ∙ ap (λ (m : ℕ). checkBits m (f * 257)) far in
+    ap (λ (m : ℕ). checkFrom (checkBits 8 (bitXor (checkBits 8 m) h)) (replicate n 0)) (xor-zero-l h)
+    ∙ ap (λ (m : ℕ). checkFrom m (replicate n 0)) two
+    ∙ over-none n (checkBits 16 (f * 257))
+    ∙ sym (shifts-add 16 (8 * n) (f * 257))
+    ∙ ap (λ (m : ℕ). checkBits m (f * 257)) far in
     let apart : (d : ℕ) → 2 ≤ d → from-on d (f ∷ f ∷ replicate n 0) ≡ 0 =
-        λ d hd. (let e : suc (suc (d - 2)) ≡ d = omega arith in subst (λ (m : ℕ). from-on m (f ∷ f ∷ replicate n 0) ≡ 0) e (behind (d - 2) n f)) in
+    λ d hd. (let e : suc (suc (d - 2)) ≡ d = omega arith in subst (λ (m : ℕ). from-on m (f ∷ f ∷ replicate n 0) ≡ 0) e (behind (d - 2) n f)) in
     record {
       octets = (hf, (hf, octets-none n));
       size = omega (arith, length-replicate {A = ℕ} n 0);
       below = omega arith;
       same =
-        ap₂ (λ (j k : ℕ). bitXor (bitXor j k) (from-on 0 (f ∷ f ∷ replicate n 0))) (apart (12 * u) (omega arith)) (apart (5 * u) (omega arith))
-        ∙ xor-zero-l (from-on 0 (f ∷ f ∷ replicate n 0))
-        ∙ whole;
+          ap₂ (λ (j k : ℕ). bitXor (bitXor j k) (from-on 0 (f ∷ f ∷ replicate n 0))) (apart (12 * u) (omega arith)) (apart (5 * u) (omega arith))
+          ∙ xor-zero-l (from-on 0 (f ∷ f ∷ replicate n 0))
+          ∙ whole;
     }
 
 -- ---- the last octets
@@ -401,15 +401,15 @@ shorter-same u f fold pos hf xs o h =
       octets = octets-plus ys (closed u long) oy (octets-closed u long (s .octets));
       size = length-plus ys (closed u long) ∙ as-long;
       same =
-        plus-check ys (closed u long) oy (octets-closed u long (s .octets)) (omega (arith, size, as-long))
-        ∙ ap₂ bitXor
+          plus-check ys (closed u long) oy (octets-closed u long (s .octets)) (omega (arith, size, as-long))
+          ∙ ap₂ bitXor
           (closed-check u long (s .octets) (s .size) ∙ s .same ∙ ap (λ (k : ℕ). checkBits k r) far)
           (ap (λ (k : ℕ). checkBits (8 * k) (checkFrom 0 ys)) none)
-        ∙ xor-comm (checkBits (8 * length ys) r) (checkFrom 0 ys)
-        ∙ sym (from-sum ys 0 r oy none-below (s .below))
-        ∙ ap (λ (k : ℕ). checkFrom k ys) (xor-zero-l r)
-        ∙ sym (from-joined front ys (f * 257))
-        ∙ ap (checkFrom (f * 257)) (take-append-drop n xs);
+          ∙ xor-comm (checkBits (8 * length ys) r) (checkFrom 0 ys)
+          ∙ sym (from-sum ys 0 r oy none-below (s .below))
+          ∙ ap (λ (k : ℕ). checkFrom k ys) (xor-zero-l r)
+          ∙ sym (from-joined front ys (f * 257))
+          ∙ ap (checkFrom (f * 257)) (take-append-drop n xs);
     }
 
 -- ---- the table over what is left

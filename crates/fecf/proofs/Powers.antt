@@ -75,9 +75,9 @@ generator : Folds 1
 generator =
     bin-ind (λ (n : ℕ). n < 65536 → checkBits 16 n ≡ bitXor (bitXor (checkBits 12 n) (checkBits 5 n)) n) (λ h. of-bit 0 (omega arith))
     (λ n half h.
-      let b : n / 2 < 65536 = omega arith in
-      subst (λ (m : ℕ). checkBits 16 m ≡ bitXor (bitXor (checkBits 12 m) (checkBits 5 m)) m) (by-halves n h)
-      (of-sum (checkBits 1 (n / 2)) (n % 2) (shifted-below 1 (n / 2) b) (omega arith) (of-shifted 1 (n / 2) b (half b)) (of-bit (n % 2) (omega arith))))
+    let b : n / 2 < 65536 = omega arith in
+    subst (λ (m : ℕ). checkBits 16 m ≡ bitXor (bitXor (checkBits 12 m) (checkBits 5 m)) m) (by-halves n h)
+    (of-sum (checkBits 1 (n / 2)) (n % 2) (shifted-below 1 (n / 2) b) (omega arith) (of-shifted 1 (n / 2) b (half b)) (of-bit (n % 2) (omega arith))))
 
 cancelled : (p q s a b r : ℕ) → bitXor (bitXor (bitXor (bitXor p q) a) (bitXor (bitXor q s) b)) (bitXor (bitXor a b) r) ≡ bitXor (bitXor p s) r
 cancelled p q s a b r =
@@ -99,12 +99,12 @@ squared n f r h =
     ∙ ap (checkBits (16 * n)) (f r h)
     ∙ shifts-three (16 * n) a b r ha hb h
     ∙ ap₂ bitXor
-      (ap₂ bitXor (f a ha) (f b hb ∙ ap (λ (m : ℕ). bitXor (bitXor m (checkBits (5 * n) b)) b) (shifts-swap (12 * n) (5 * n) r)))
-      (f r h)
+    (ap₂ bitXor (f a ha) (f b hb ∙ ap (λ (m : ℕ). bitXor (bitXor m (checkBits (5 * n) b)) b) (shifts-swap (12 * n) (5 * n) r)))
+    (f r h)
     ∙ cancelled (checkBits (12 * n) a) (checkBits (5 * n) a) (checkBits (5 * n) b) a b r
     ∙ ap₂ (λ (m s : ℕ). bitXor (bitXor m s) r)
-      (sym (shifts-add (12 * n) (12 * n) r) ∙ ap (λ (m : ℕ). checkBits m r) twelve)
-      (sym (shifts-add (5 * n) (5 * n) r) ∙ ap (λ (m : ℕ). checkBits m r) five)
+    (sym (shifts-add (12 * n) (12 * n) r) ∙ ap (λ (m : ℕ). checkBits m r) twelve)
+    (sym (shifts-add (5 * n) (5 * n) r) ∙ ap (λ (m : ℕ). checkBits m r) five)
 
 -- The generator's power of 2^k, for every k.
 pub power : (k : ℕ) → Folds (2 ^ k)

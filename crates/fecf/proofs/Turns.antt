@@ -23,8 +23,8 @@ one-further (suc m) (y ∷ ys) v pos h = take-suc-set ys m v (le-of-suc-le-suc h
 pub carry-turn : (u j : ℕ) (a xs : List ℕ) → 0 < u → j < length xs → 16 * u + length xs ≤ length a
     → carried u (take (16 * u) (drop j a)) (drop j xs)
     ≡ carried u
-      (take (16 * u) (drop (j + 1) (set a (j + 16 * u) (bitXor (bitXor (bitXor (getD xs j 0) (getD a (j + 12 * u) 0)) (getD a (j + 5 * u) 0)) (getD a j 0)))))
-      (drop (j + 1) xs)
+    (take (16 * u) (drop (j + 1) (set a (j + 16 * u) (bitXor (bitXor (bitXor (getD xs j 0) (getD a (j + 12 * u) 0)) (getD a (j + 5 * u) 0)) (getD a j 0)))))
+    (drop (j + 1) xs)
 unfolding carried next
 carry-turn u j a xs pos h room =
     let m = 16 * u in
@@ -33,15 +33,15 @@ carry-turn u j a xs pos h room =
     let x = getD xs j 0 in
     let v = bitXor (bitXor (bitXor x (getD a (j + 12 * u) 0)) (getD a (j + 5 * u) 0)) (getD a j 0) in
     let same : next u (take m b) x ≡ v =
-        ap₂ bitXor
-        (ap₂ (λ (p q : ℕ). bitXor (bitXor x p) q) (at (12 * u) (omega arith)) (at (5 * u) (omega arith)))
-        (at 0 (omega arith) ∙ ap (λ (k : ℕ). getD a k 0) (add-zero j)) in
+    ap₂ bitXor
+    (ap₂ (λ (p q : ℕ). bitXor (bitXor x p) q) (at (12 * u) (omega arith)) (at (5 * u) (omega arith)))
+    (at 0 (omega arith) ∙ ap (λ (k : ℕ). getD a k 0) (add-zero j)) in
     let moved : drop (j + 1) (set a (j + m) v) ≡ drop 1 (set b m v) = sym (drop-drop 1 j (set a (j + m) v)) ∙ ap (drop 1) (drop-set-add j a m v) in
     ap (carried u (take m b)) (drop-cons xs j 0 h)
     ∙ ap₂ (carried u)
-      (ap (λ (n : ℕ). drop 1 (take m b) ++ n ∷ []) same
-       ∙ sym (ap (take m) moved ∙ one-further m b v (omega arith) (omega (arith, length-drop j a))))
-      (ap (λ (n : ℕ). drop n xs) (sym (add-one j)))
+    (ap (λ (n : ℕ). drop 1 (take m b) ++ n ∷ []) same
+    ∙ sym (ap (take m) moved ∙ one-further m b v (omega arith) (omega (arith, length-drop j a))))
+    (ap (λ (n : ℕ). drop n xs) (sym (add-one j)))
 
 pub carry-all : (u j : ℕ) (a long xs : List ℕ) → j ≤ length xs → length xs ≤ j → carried u long xs ≡ carried u (take (16 * u) (drop j a)) (drop j xs)
     → take (16 * u) (drop (length xs) a) ≡ carried u long xs
@@ -64,11 +64,11 @@ far-turn a b d xs part i lb h ep eb ed =
     let long : length part ≡ 512 = ap length mine ∙ length-take-le 512 (drop i xs) (omega (arith, length-drop i xs)) in
     let front : take 256 d ≡ drop 512 b = ap (take 256) ed ∙ take-at (drop 512 b) (drop (length b - 512) b) 256 (omega (arith, length-drop 512 b)) in
     let back : take 256 d ≡ carried 16 (take 256 a) (take 512 (drop i xs)) =
-        front
-        ∙ sym (take-all 256 (drop 512 b) (omega (arith, length-drop 512 b)))
-        ∙ ap (λ (m : ℕ). take 256 (drop m b)) (sym long)
-        ∙ eb
-        ∙ ap (carried 16 (take 256 a)) mine in
+    front
+    ∙ sym (take-all 256 (drop 512 b) (omega (arith, length-drop 512 b)))
+    ∙ ap (λ (m : ℕ). take 256 (drop m b)) (sym long)
+    ∙ eb
+    ∙ ap (carried 16 (take 256 a)) mine in
     ap (carried 16 (take 256 a)) (sym (take-append-drop 512 (drop i xs)))
     ∙ carried-joined 16 (take 256 a) (take 512 (drop i xs)) (drop 512 (drop i xs))
     ∙ ap₂ (carried 16) (sym back) (drop-drop 512 i xs)
@@ -167,8 +167,8 @@ close-part u from area octets x room e =
     let same : k ≡ m = omega arith in
     let part : x ≡ plus octets (closed u (take m (drop from area))) = e ∙ ap (λ (n : ℕ). plus octets (closed u (take n (drop from area)))) same in
     let long : length x ≡ m =
-        ap length part ∙ length-plus octets (closed u (take m (drop from area))) ∙ length-closed u (take m (drop from area))
-        ∙ length-take-le m (drop from area) (omega (arith, length-drop from area)) in
+    ap length part ∙ length-plus octets (closed u (take m (drop from area))) ∙ length-closed u (take m (drop from area))
+    ∙ length-take-le m (drop from area) (omega (arith, length-drop from area)) in
     ap (take m) (drop-at (take from area) (x ++ drop k (drop from area)) from (length-take-le from area (omega arith)))
     ∙ take-at x (drop k (drop from area)) m long
     ∙ part

@@ -50,10 +50,11 @@ loop-again c =
     let c₈ = c .before .before .before .before .before .before .before .before in
     let l = c₈ .before .before .loop in
     let a = c₈ .before .before .before .before .before .args in
-    let carry = c .before .before .before .before .before .before .carry in
-    (search needs,
-     search needs,
-     l .inv .2 ∙ far-turn (l .area) _ _ (a .octets .now) _ (l .i) (search needs) (search needs) refl (carry .ensures) (c .before .before .to-front .ensures))
+    let carry = c .before .before .before .before .before .before .carry in (
+      search needs,
+      search needs,
+      l .inv .2 ∙ far-turn (l .area) _ _ (a .octets .now) _ (l .i) (search needs) (search needs) refl (carry .ensures) (c .before .before .to-front .ensures),
+    )
 
 sub-carry-2 : tie.Need-sub-carry-2 Inv-loop μ-loop
 sub-carry-2 c = search needs

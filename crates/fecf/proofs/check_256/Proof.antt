@@ -47,7 +47,7 @@ returns c =
     let b = c .before .before .before .before .before .before .before in
     c .check-128 .ensures
     ∙ ap (λ (l : List ℕ). fromBy (b .args .table .now) 0 (shorter 2 (preset 2 0) (shorter 4 (preset 4 0) l)))
-      (part-long (length (b .args .octets .now) - 128) 128 _ ∙ c .before .before .before .before .shorten .ensures)
+    (part-long (length (b .args .octets .now) - 128) 128 _ ∙ c .before .before .before .before .shorten .ensures)
 
 pub check-256-spec : {M : Type 1} → statement M
 check-256-spec =

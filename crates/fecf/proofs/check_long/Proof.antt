@@ -68,8 +68,8 @@ returns c =
     let xs = b .args .octets .now in
     c .check-256 .ensures
     ∙ ap (λ (l : List ℕ). fromBy (b .args .table .now) 0 (shortest 0 l))
-      (part-long (c₈ .carry-far .result) 256 _
-       ∙ made-shorter 16 (length xs - 256) xs _ _ _ refl (c₈ .carry-far .ensures .1) (c .before .before .before .before .close-at .ensures))
+    (part-long (c₈ .carry-far .result) 256 _
+    ∙ made-shorter 16 (length xs - 256) xs _ _ _ refl (c₈ .carry-far .ensures .1) (c .before .before .before .before .close-at .ensures))
 
 pub check-long-spec : {M : Type 1} → statement M
 check-long-spec =
