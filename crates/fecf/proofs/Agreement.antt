@@ -9,7 +9,7 @@ use lib.Bits.{bitXor, xor-lt, xor-block, xor-shifted, xor-zero-r, xor-comm}
 use lib.Dec.{lit<}
 use lib.Pow.{pow-pos}
 use borrow.Author.Tests.{lt-leb}
-use Rattle.rules.specs.Octets.{checkBit, checkBits, checkFrom, checkOf}
+use Rattle.rules.specs.Octets.{checkBit, checkBits, checkFrom}
 use Rattle.rules.proofs.Octets.{Octets, bits-below}
 use Rattle.fecf.specs.Remainders.{remainder, remainders, stepBy, fromBy}
 use Rattle.fecf.proofs.Linear.{shifts}
@@ -65,7 +65,3 @@ unfolding fromBy checkFrom
 by-table t e [] o r h = refl
 by-table t e (x ∷ xs) o r h =
     ap (λ (n : ℕ). fromBy t n xs) (by-step t e r x h (o .0)) ∙ by-table t e xs (o .1) _ (bits-below 7 (bitXor r (x * 0x100)))
-
-pub check-by-table : (t xs : List ℕ) (v : ℕ) → v ≡ fromBy t 0xFFFF xs → t ≡ remainders 0 256 → Octets xs → v ≡ checkOf xs
-unfolding checkOf
-check-by-table t xs v h e o = h ∙ by-table t e xs o 0xFFFF (lit< tt)

@@ -41,9 +41,9 @@ fn check_by(table: &[u16; 256], first: u16, octets: &[u8]) -> u16
     (r % 0x10000) as u16
 }
 
-// ---- by a power of the generator
+// ---- by a power of the generator: the 8u-th, for a u of 1, 2, 4 and so on
 
-// Carries the long register on over these octets: it stands in the first 16u octets of the area, and then as many behind as there are octets.
+// Carries the long register on over these octets. It has 16u octets, and stands at the front of the area; then it stands as far behind as there are octets.
 fn carry(u: usize, area: &mut [u8], octets: &[u8])
     requires { ⌜ (0 < u) × (u ≤ 16) × (16 * u + length (now octets) ≤ length (now area)) ⌝ }
     ensures { λ _. ⌜ take (16 * u) (drop (length (now (octets .entry))) (now (area .exit))) ≡ carried u (take (16 * u) (now (area .entry))) (now (octets .entry)) ⌝ }
@@ -89,7 +89,7 @@ fn add_first(area: &mut [u8], octets: &[u8])
     }
 }
 
-// Ends a fold: adds what the long register puts on the octets behind it to those octets.
+// Ends a fold: the octets behind the long register, and added to them what it adds to them.
 fn close(u: usize, long: &mut [u8], octets: &[u8])
     requires { ⌜ (u ≤ 16) × (length (now octets) ≤ length (now long)) ⌝ }
     ensures { λ _. ⌜ now (long .exit) ≡ plus (now (octets .entry)) (closed u (now (long .entry))) ⌝ }
@@ -99,7 +99,7 @@ fn close(u: usize, long: &mut [u8], octets: &[u8])
     add_first(long, octets);
 }
 
-// Ends a fold where the long register stands in an area, from octet `from` on.
+// The same where the long register stands in an area from octet `from` on.
 fn close_at(u: usize, area: &mut [u8], from: usize, octets: &[u8])
     requires { ⌜ (u ≤ 16) × (from + 16 * u ≤ length (now area)) × (length (now octets) ≤ 16 * u) ⌝ }
     ensures { λ _. ⌜ take (16 * u) (drop from (now (area .exit))) ≡ plus (now (octets .entry)) (closed u (take (16 * u) (drop from (now (area .entry))))) ⌝ }
@@ -108,7 +108,7 @@ fn close_at(u: usize, area: &mut [u8], from: usize, octets: &[u8])
     close(u, &mut area[from..end], octets);
 }
 
-// Carries the long register of 256 octets on over any number of octets; where it stands then.
+// Carries the long register of 256 octets on over any number of octets, and says where it stands then. 512 at a time, so that the area is no longer for a longer frame.
 fn carry_far(area: &mut [u8], octets: &[u8]) -> usize
     requires { ⌜ length (now area) ≡ 768 ⌝ }
     ensures { λ n. ⌜ (n < 512) × (take 256 (drop n (now (area .exit))) ≡ carried 16 (take 256 (now (area .entry))) (now (octets .entry))) ⌝ }
@@ -123,7 +123,8 @@ fn carry_far(area: &mut [u8], octets: &[u8]) -> usize
     octets.len() - i
 }
 
-// Makes octets shorter: 16u are left, where the long register ends up that stands at the front of the area before.
+// Makes octets shorter: the long register at the front of the area goes over all of them but the last 16u, and the fold ends over these. The 16u octets that
+// are left stand where it came to.
 fn shorten(u: usize, area: &mut [u8], octets: &[u8])
     requires { ⌜ (0 < u) × (u ≤ 16) × (16 * u ≤ length (now octets)) × (length (now octets) ≤ length (now area)) ⌝ }
     ensures { λ _. ⌜ take (16 * u) (drop (length (now (octets .entry)) - 16 * u) (now (area .exit))) ≡ shorter u (take (16 * u) (now (area .entry))) (now (octets .entry)) ⌝ }
@@ -182,7 +183,7 @@ fn check_long(table: &[u16; 256], octets: &[u8]) -> u16
     check_256(table, 0, &area[n..n + 256])
 }
 
-// The check by a table: as few octets as can be go by it.
+// The check by a table. Fewer than 128 octets go by it alone; from there on the fold takes fewer instructions (docs/FIGURES.md).
 fn check_with(table: &[u16; 256], octets: &[u8]) -> u16
     ensures { λ v. ⌜ v ≡ checkBy (now (table .entry)) (now (octets .entry)) ⌝ }
 {
