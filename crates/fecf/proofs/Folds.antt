@@ -226,6 +226,8 @@ next-value u fold pos long x o len hx =
     let p = from-on (12 * u) long in
     let q = from-on (5 * u) long in
     let s = from-on 0 long in
+    let d = checkBits (8 * (12 * u)) (alone v) in
+    let e = checkBits (8 * (5 * u)) (alone v) in
     let in-all : bitXor (bitXor (checkBits (8 * (12 * u)) (alone v)) (checkBits (8 * (5 * u)) (alone v))) (alone v) ≡ checkBits m (bitXor (alone x) y) =
     ap₂ (λ (j k : ℕ). bitXor (bitXor (checkBits j (alone v)) (checkBits k (alone v))) (alone v)) twelve five
     ∙ sym (fold (alone v) (alone-below v))
@@ -233,11 +235,11 @@ next-value u fold pos long x o len hx =
     ap₂ bitXor
     (ap₂ bitXor (one-on (12 * u) v long o hv (omega (arith, len))) (one-on (5 * u) v long o hv (omega (arith, len))))
     (one-on 0 v long o hv (omega (arith, len)))
-    ∙ three (bitXor (checkBits 8 p) (checkBits m a)) (checkBits (8 * (12 * u)) (alone v)) (bitXor (checkBits 8 q) (checkBits m b)) (checkBits (8 * (5 * u)) (alone v))
-    (bitXor (checkBits 8 s) (checkBits m c)) (alone v)
+    ∙ three (bitXor (checkBits 8 p) (checkBits m a)) d (bitXor (checkBits 8 q) (checkBits m b)) e (bitXor (checkBits 8 s) (checkBits m c)) (alone v)
     ∙ ap₂ bitXor
     (three (checkBits 8 p) (checkBits m a) (checkBits 8 q) (checkBits m b) (checkBits 8 s) (checkBits m c)
-    ∙ ap₂ bitXor (sym (shifts-three 8 p q s (from-on-below (12 * u) long) (from-on-below (5 * u) long) (from-on-below 0 long))) (sym (shifts-three m a b c ha hb hc)))
+    ∙ ap₂ bitXor (sym (shifts-three 8 p q s (from-on-below (12 * u) long) (from-on-below (5 * u) long) (from-on-below 0 long)))
+    (sym (shifts-three m a b c ha hb hc)))
     (in-all ∙ shifts m (alone x) y (alone-below x) hy ∙ xor-comm (checkBits m (alone x)) (checkBits m y))
     ∙ xor-between (checkBits 8 (bitXor (bitXor p q) s)) (checkBits m y) (checkBits m (alone x))
     ∙ ap (λ (n : ℕ). bitXor (checkBits 8 (bitXor (bitXor p q) s)) (checkBits n (alone x))) far

@@ -1,5 +1,5 @@
--- The powers of the generator: what 16 shifts make of a register, 12 and 5 make of it together with the register itself; and so it is with twice as many shifts, and
--- twice as many again. Only what 16 shifts make of the register 1 is computed.
+-- The powers of the generator: what 16 shifts make of a register, 12 and 5 of them make together with the register itself; and so it is with twice as
+-- many shifts, and with twice as many again. Only what 16 shifts make of the register 1 is computed.
 use mathlib.Core.Path.{_≡_, refl, sym, ap, ap₂, _∙_, subst}
 use Prim.Native.Nat.{ℕ, zero, suc, _+_, _*_, _/_, _%_, _^_, _<_}
 use native.Mathlib.Nat.{zero-add, suc-add, add-comm, pow-succ'}

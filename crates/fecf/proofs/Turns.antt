@@ -196,4 +196,5 @@ pub shortened : (u n : ℕ) (xs a b out : List ℕ) → n ≡ length xs - 16 * u
     → out ≡ plus (take (length xs - n) (drop n xs)) (closed u (take (16 * u) (drop n b))) → out ≡ shorter u (take (16 * u) a) xs
 shortened u n xs a b out m el eo =
     let long = carried u (take (16 * u) a) (take n xs) in
-    made-shorter u n xs (take (16 * u) a) (take (16 * u) (drop n b)) out m (placed (16 * u) (length (take n xs)) n b long (length-take-le n xs (omega arith)) el) eo
+    let there : take (16 * u) (drop n b) ≡ long = placed (16 * u) (length (take n xs)) n b long (length-take-le n xs (omega arith)) el in
+    made-shorter u n xs (take (16 * u) a) (take (16 * u) (drop n b)) out m there eo

@@ -1,7 +1,7 @@
 -- The frame check of long inputs by powers of its generator. For u = 1, 2, 4 and so on the 8u-th power of x^16 + x^12 + x^5 + 1 is
 -- x^128u + x^96u + x^40u + 1: an octet may be taken away if it is added to those 4u, 11u and 16u octets behind it. The rule of the check stays bit by
 -- bit (rules/Octets.checkOf).
-use Prim.Native.Nat.{ℕ, zero, suc, _-_, _*_}
+use Prim.Native.Nat.{ℕ, _-_, _*_}
 use mathlib.Core.Bool.{cond}
 use mathlib.Core.List.{List, [], _∷_, _++_}
 use lib.ListN.{length, getD, take, drop, replicate}

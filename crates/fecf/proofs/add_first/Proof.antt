@@ -1,6 +1,6 @@
 -- `fecf::add_first` meets its contract: after j turns the first j octets are added.
 use Prim.Native.Nat.{_-_, _≤_}
-use mathlib.Core.Path.{_≡_, refl, _∙_}
+use mathlib.Core.Path.{_≡_, refl}
 use lib.ListN.{length, take, length-set}
 use borrow.Author.Needs.{needs}
 use Rattle.fecf.specs.Folds.{plus}

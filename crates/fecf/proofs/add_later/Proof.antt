@@ -1,9 +1,9 @@
 -- `fecf::add_later` meets its contract: after j turns the first j octets have theirs added.
 use Prim.Native.Nat.{_-_, _≤_}
-use mathlib.Core.Path.{_≡_, refl, _∙_}
+use mathlib.Core.Path.{_≡_, refl}
 use lib.ListN.{length, take, drop, length-set}
 use borrow.Author.Needs.{needs}
-use Rattle.fecf.specs.Folds.{plus, later}
+use Rattle.fecf.specs.Folds.{plus}
 use Rattle.fecf.proofs.Turns.{plus-none, later-turn, later-all}
 use Rattle.fecf.proofs.add_later.Statement.{statement}
 use Rattle.fecf.proofs.add_later.Tie as tie

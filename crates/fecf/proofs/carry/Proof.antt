@@ -1,7 +1,6 @@
 -- `fecf::carry` meets its contract: over the octets that are left, the long register so far comes to what it has to be.
-use Prim.Native.Nat.{_+_, _-_, _*_, _≤_}
-use mathlib.Core.Path.{_≡_, refl, sym, _∙_}
-use native.Mathlib.Omega.{arith}
+use Prim.Native.Nat.{_-_, _*_, _≤_}
+use mathlib.Core.Path.{_≡_, refl, _∙_}
 use lib.ListN.{length, take, drop, length-set}
 use borrow.Author.Needs.{needs}
 use Rattle.fecf.specs.Folds.{carried}
@@ -10,7 +9,10 @@ use Rattle.fecf.proofs.carry.Statement.{statement}
 use Rattle.fecf.proofs.carry.Tie as tie
 
 abbrev Inv-loop : tie.InvT-loop
-Inv-loop u area₀ octets j₀ area j = (j ≤ length octets) × (length area ≡ length area₀) × (carried u (take (16 * u) area₀) octets ≡ carried u (take (16 * u) (drop j area)) (drop j octets))
+Inv-loop u area₀ octets j₀ area j =
+    (j ≤ length octets)
+    × (length area ≡ length area₀)
+    × (carried u (take (16 * u) area₀) octets ≡ carried u (take (16 * u) (drop j area)) (drop j octets))
 
 abbrev μ-loop : tie.MeasureT-loop
 μ-loop u area₀ octets j₀ area j = length octets - j

@@ -1,7 +1,6 @@
 -- `fecf::carry_far` meets its contract: over the octets that are left, the long register so far comes to what it has to be.
-use Prim.Native.Nat.{_+_, _-_, _≤_}
+use Prim.Native.Nat.{_-_, _≤_}
 use mathlib.Core.Path.{_≡_, refl, sym, _∙_}
-use native.Mathlib.Omega.{arith}
 use lib.ListN.{length, take, drop}
 use borrow.Author.Needs.{needs}
 use Rattle.fecf.specs.Folds.{carried}
@@ -10,7 +9,10 @@ use Rattle.fecf.proofs.carry_far.Statement.{statement}
 use Rattle.fecf.proofs.carry_far.Tie as tie
 
 abbrev Inv-loop : tie.InvT-loop
-Inv-loop area₀ octets i₀ area i = (i ≤ length octets) × (length area ≡ length area₀) × (carried 16 (take 256 area₀) octets ≡ carried 16 (take 256 area) (drop i octets))
+Inv-loop area₀ octets i₀ area i =
+    (i ≤ length octets)
+    × (length area ≡ length area₀)
+    × (carried 16 (take 256 area₀) octets ≡ carried 16 (take 256 area) (drop i octets))
 
 abbrev μ-loop : tie.MeasureT-loop
 μ-loop area₀ octets i₀ area i = length octets - i
@@ -77,7 +79,8 @@ same-length c = search needs
 returns : tie.Need-returns Inv-loop μ-loop
 returns c =
     let l = c .before .before .before .before .before .before .loop in
-    let a = c .before .before .before .before .before .before .before .before .before .args in
+    let c₈ = c .before .before .before .before .before .before .before .before in
+    let a = c₈ .before .args in
     (search needs, far-all (l .area) _ (a .octets .now) _ (l .i) (l .inv .0) refl (c .before .before .carry2 .ensures) ∙ sym (l .inv .2))
 
 pub carry-far-spec : {M : Type 1} → statement M

@@ -1,5 +1,5 @@
 -- `fecf::check_128` meets its contract: 128 octets made shorter by the generator's 32nd power.
-use mathlib.Core.Path.{refl, ap, _∙_}
+use mathlib.Core.Path.{ap, _∙_}
 use mathlib.Core.List.{List}
 use Prim.Native.Nat.{ℕ, _-_}
 use native.Mathlib.Omega.{arith}
@@ -33,8 +33,9 @@ returns : tie.Need-returns
 unfolding preset
 returns c =
     let b = c .before .before .before .before .before .before .before in
+    let there = placed 64 (length (b .args .octets .now) - 64) 64 _ _ (omega (arith, b .pre)) (c .before .before .before .before .shorten .ensures) in
     c .check-64 .ensures
-    ∙ ap (λ (l : List ℕ). fromBy (b .args .table .now) 0 (shorter 2 (preset 2 0) l)) (placed 64 (length (b .args .octets .now) - 64) 64 _ _ (omega (arith, b .pre)) (c .before .before .before .before .shorten .ensures))
+    ∙ ap (λ (l : List ℕ). fromBy (b .args .table .now) 0 (shorter 2 (preset 2 0) l)) there
 
 pub check-128-spec : {M : Type 1} → statement M
 check-128-spec =

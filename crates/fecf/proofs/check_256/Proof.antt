@@ -1,8 +1,7 @@
 -- `fecf::check_256` meets its contract: 128 to 256 octets made shorter by the generator's 64th power.
-use mathlib.Core.Path.{refl, ap, _∙_}
+use mathlib.Core.Path.{ap, _∙_}
 use mathlib.Core.List.{List}
 use Prim.Native.Nat.{ℕ, _-_}
-use native.Mathlib.Omega.{arith}
 use lib.ListN.{length}
 use Rattle.fecf.specs.Remainders.{fromBy}
 use Rattle.fecf.specs.Folds.{preset, shorter, shortest}

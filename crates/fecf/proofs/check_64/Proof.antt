@@ -1,11 +1,10 @@
 -- `fecf::check_64` meets its contract: 64 octets made shorter by the generator's 16th power.
-use mathlib.Core.Path.{refl, ap, _∙_}
-use mathlib.Core.List.{List}
-use Prim.Native.Nat.{ℕ, _-_}
+use mathlib.Core.Path.{ap, _∙_}
+use Prim.Native.Nat.{_-_}
 use native.Mathlib.Omega.{arith}
 use lib.ListN.{length}
 use Rattle.fecf.specs.Remainders.{fromBy}
-use Rattle.fecf.specs.Folds.{preset, shorter}
+use Rattle.fecf.specs.Folds.{preset}
 use Rattle.fecf.proofs.Turns.{placed}
 use borrow.Author.Needs.{needs}
 use Rattle.fecf.proofs.check_64.Statement.{statement}
@@ -33,8 +32,9 @@ returns : tie.Need-returns
 unfolding preset
 returns c =
     let b = c .before .before .before .before .before .before .before in
+    let there = placed 32 (length (b .args .octets .now) - 32) 32 _ _ (omega (arith, b .pre)) (c .before .before .before .before .shorten .ensures) in
     c .check-by .ensures
-    ∙ ap (fromBy (b .args .table .now) 0) (placed 32 (length (b .args .octets .now) - 32) 32 _ _ (omega (arith, b .pre)) (c .before .before .before .before .shorten .ensures))
+    ∙ ap (fromBy (b .args .table .now) 0) there
 
 pub check-64-spec : {M : Type 1} → statement M
 check-64-spec =

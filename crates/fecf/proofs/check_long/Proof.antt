@@ -5,7 +5,7 @@ use Prim.Native.Nat.{ℕ, _-_}
 use native.Mathlib.Omega.{arith}
 use lib.ListN.{length}
 use Rattle.fecf.specs.Remainders.{fromBy}
-use Rattle.fecf.specs.Folds.{preset, shorter, shortest}
+use Rattle.fecf.specs.Folds.{preset, shortest}
 use lib.Seq.{length-take-le}
 use Rattle.fecf.proofs.Turns.{made-shorter, part-long}
 use borrow.Author.Needs.{needs}

@@ -1,6 +1,5 @@
 -- `fecf::close` meets its contract: three calls.
-use mathlib.Core.Path.{_≡_, sym, ap, _∙_}
-use Rattle.fecf.specs.Folds.{plus, later, closed}
+use Rattle.fecf.specs.Folds.{closed}
 use borrow.Author.Needs.{needs}
 use Rattle.fecf.proofs.close.Statement.{statement}
 use Rattle.fecf.proofs.close.Tie as tie

@@ -1,6 +1,6 @@
 -- `fecf::to_front` meets its contract: after j turns the first j octets are the moved ones.
 use Prim.Native.Nat.{_-_, _≤_}
-use mathlib.Core.Path.{_≡_, refl, _∙_}
+use mathlib.Core.Path.{_≡_, refl}
 use lib.ListN.{length, drop, length-set}
 use lib.Seq.{paste, paste-zero}
 use borrow.Author.Needs.{needs}
