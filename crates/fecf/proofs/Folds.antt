@@ -6,7 +6,7 @@ use native.Mathlib.Nat.{not-suc-le-zero, le-of-suc-le-suc}
 use native.Mathlib.Omega.{arith}
 use lib.ListN.{length, getD, take, drop, replicate, length-append, length-drop, length-replicate, take-append-drop}
 use lib.Seq.{drop-cons, drop-append-le, drop-drop}
-use lib.Bits.{bitXor, xor-lt, xor-block, xor-shifted, xor-zero-l, xor-zero-r, xor-comm, xor-self}
+use lib.Bits.{bitXor, xor-lt, xor-shifted, xor-zero-l, xor-zero-r, xor-comm, xor-self}
 use lib.Dec.{lit<}
 use borrow.Author.Tests.{le-leb, lt-leb}
 use Rattle.rules.specs.Octets.{checkBit, checkBits, checkFrom, checkOf}
@@ -14,7 +14,7 @@ use Rattle.rules.proofs.Tests.{split}
 use Rattle.rules.proofs.Octets.{Octets, octets-take, octets-drop, bits-below}
 use Rattle.fecf.specs.Folds.{next, carried, plus, later, closed, preset, shorter, shortest, checkBy}
 use Rattle.fecf.specs.Remainders.{remainders, fromBy}
-use Rattle.fecf.proofs.Xor.{xor-assoc, xor-four, xor-between}
+use Rattle.fecf.proofs.Xor.{xor-assoc, xor-four, xor-between, xor-times}
 use Rattle.fecf.proofs.Linear.{shifts}
 use Rattle.fecf.proofs.Agreement.{low, by-table}
 use Rattle.fecf.proofs.Powers.{Folds, power, shifted-below, shifts-add, shifts-swap, shifts-three}
@@ -52,12 +52,6 @@ drop-plus (suc n) (x ∷ xs) (y ∷ ys) h = drop-plus n xs ys (le-of-suc-le-suc 
 
 -- ---- the register after sums of octets
 
-times-256 : (a b : ℕ) → bitXor a b * 256 ≡ bitXor (a * 256) (b * 256)
-times-256 a b =
-    let none : 0 < 256 = lit< tt in
-    let plain : (n : ℕ) → n * 256 ≡ n * 256 + 0 = λ n. omega arith in
-    sym (ap₂ bitXor (plain a) (plain b) ∙ xor-block 8 a b 0 0 none none ∙ sym (plain (bitXor a b)))
-
 upper : (x : ℕ) → x < 256 → x * 256 < 65536
 upper x h = omega arith
 
@@ -71,7 +65,7 @@ alone-below x = bits-below 7 (x * 256)
 
 alone-sum : (x y : ℕ) → x < 256 → y < 256 → alone (bitXor x y) ≡ bitXor (alone x) (alone y)
 unfolding alone
-alone-sum x y hx hy = ap (checkBits 8) (times-256 x y) ∙ shifts 8 (x * 256) (y * 256) (upper x hx) (upper y hy)
+alone-sum x y hx hy = ap (checkBits 8) (xor-times 8 x y) ∙ shifts 8 (x * 256) (y * 256) (upper x hx) (upper y hy)
 
 step-below : (r x : ℕ) → checkBits 8 (bitXor r (x * 256)) < 65536
 step-below r x = bits-below 7 (bitXor r (x * 256))
@@ -108,7 +102,7 @@ plus-sum [] ys r s o q hr hs h =
 plus-sum (x ∷ xs) [] r s o q hr hs h = absurd (not-suc-le-zero h)
 plus-sum (x ∷ xs) (y ∷ ys) r s o q hr hs h =
     let apart : bitXor (bitXor r s) (bitXor y x * 256) ≡ bitXor (bitXor r (y * 256)) (bitXor s (x * 256)) =
-    ap (bitXor (bitXor r s)) (times-256 y x) ∙ xor-four r s (y * 256) (x * 256) in
+    ap (bitXor (bitXor r s)) (xor-times 8 y x) ∙ xor-four r s (y * 256) (x * 256) in
     let left : length ys - length xs ≡ suc (length ys) - suc (length xs) = omega arith in
     ap (λ (n : ℕ). checkFrom n (plus xs ys))
     (ap (checkBits 8) apart
@@ -179,7 +173,7 @@ one-on d v long o hv h =
 three : (a b c d e f : ℕ) → bitXor (bitXor (bitXor a b) (bitXor c d)) (bitXor e f) ≡ bitXor (bitXor (bitXor a c) e) (bitXor (bitXor b d) f)
 three a b c d e f = ap (λ (n : ℕ). bitXor n (bitXor e f)) (xor-four a b c d) ∙ xor-four (bitXor a c) (bitXor b d) e f
 
--- What is left where one octet of the input goes in.
+-- The octet that comes in, where the input's next one is x.
 next-below : (u : ℕ) (long : List ℕ) (x : ℕ) → Octets long → x < 256 → next u long x < 256
 unfolding next
 next-below u long x o h =
@@ -337,7 +331,7 @@ preset-stands u f pos hf =
 
 -- ---- the last octets
 
-pub length-later : (d : ℕ) (xs : List ℕ) → length (later d xs) ≡ length xs
+length-later : (d : ℕ) (xs : List ℕ) → length (later d xs) ≡ length xs
 unfolding later
 length-later d xs = length-plus (drop d xs) xs
 
@@ -435,11 +429,11 @@ by-longest t xs e o h =
 -- The check by powers and by the table is the bits'.
 pub check-is : (t xs : List ℕ) → t ≡ remainders 0 256 → Octets xs → checkBy t xs ≡ checkOf xs
 unfolding checkBy checkOf
-check-is t xs e o = split 128 (length xs) (λ h. split 256 (length xs) (long h) (middle h)) short where
-  long : 128 ≤ length xs → 256 ≤ length xs → checkBy t xs ≡ checkOf xs
-  long g h = simp (le-leb _ _ g, le-leb _ _ h) (by-longest t xs e o h)
+check-is t xs e o = split 128 (length xs) (λ h. split 257 (length xs) (long h) (middle h)) short where
+  long : 128 ≤ length xs → 257 ≤ length xs → checkBy t xs ≡ checkOf xs
+  long g h = simp (le-leb _ _ g, le-leb _ _ h) (by-longest t xs e o (omega arith))
 
-  middle : 128 ≤ length xs → length xs < 256 → checkBy t xs ≡ checkOf xs
+  middle : 128 ≤ length xs → length xs < 257 → checkBy t xs ≡ checkOf xs
   middle g h = simp (le-leb _ _ g, lt-leb _ _ h) (by-shortest t xs 0xFF (lit< tt) e o g)
 
   short : length xs < 128 → checkBy t xs ≡ checkOf xs

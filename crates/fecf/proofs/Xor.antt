@@ -1,9 +1,11 @@
--- Added numbers (`bitXor`) go in any order: `lib.Bits` has that two do, here it is three and four, and that two of the same are none.
-use mathlib.Core.Path.{_≡_, refl, sym, ap, _∙_}
-use Prim.Native.Nat.{ℕ, _+_, _/_, _%_}
+-- Added numbers (`bitXor`) go in any order: `lib.Bits` has that two do, here it is three and four. Two of the same are none, and a sum may be moved up.
+use mathlib.Core.Path.{_≡_, refl, sym, ap, ap₂, _∙_}
+use Prim.Native.Nat.{ℕ, _+_, _*_, _/_, _%_, _^_}
+use native.Mathlib.Nat.{add-zero}
 use native.Mathlib.Omega.{arith}
 use lib.Arith.{bin-ind}
-use lib.Bits.{bitXor, xor-add-and, xor-shr, xor-comm, xor-self, xor-zero-l}
+use lib.Bits.{bitXor, xor-add-and, xor-shr, xor-comm, xor-block, xor-self, xor-zero-l}
+use lib.Pow.{pow-pos}
 
 parity : (a b : ℕ) → bitXor a b % 2 ≡ (a + b) % 2
 parity a b = omega (arith, xor-add-and a b)
@@ -50,3 +52,8 @@ pub xor-between : (a m b : ℕ) → bitXor (bitXor a m) (bitXor m b) ≡ bitXor 
 xor-between a m b =
     xor-assoc a m (bitXor m b)
     ∙ ap (bitXor a) (sym (xor-assoc m m b) ∙ ap (λ (n : ℕ). bitXor n b) (xor-self m) ∙ xor-zero-l b)
+
+-- A sum moved up is the sum of what is moved up.
+pub xor-times : (k a b : ℕ) → bitXor a b * 2 ^ k ≡ bitXor (a * 2 ^ k) (b * 2 ^ k)
+xor-times k a b =
+    sym (ap₂ bitXor (sym (add-zero (a * 2 ^ k))) (sym (add-zero (b * 2 ^ k))) ∙ xor-block k a b 0 0 (pow-pos k) (pow-pos k) ∙ add-zero (bitXor a b * 2 ^ k))

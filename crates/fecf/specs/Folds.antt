@@ -45,10 +45,10 @@ shorter u long xs = plus (drop (length xs - 16 * u) xs) (closed u (carried u lon
 unfoldable pub shortest : ℕ → List ℕ → List ℕ
 shortest f xs = shorter 2 (preset 2 0) (shorter 4 (preset 4 0) (shorter 8 (preset 8 f) xs))
 
--- The check by a table and by powers of the generator: 256 octets or more are made shorter by the 128th power first; fewer than 128 go by the
--- table alone.
+-- The check by a table and by powers of the generator: more than 256 octets are made shorter by the 128th power first; fewer than 128 go by the table
+-- alone.
 unfoldable pub checkBy : List ℕ → List ℕ → ℕ
 checkBy table xs =
     cond (128 ≤? length xs)
-    (cond (256 ≤? length xs) (fromBy table 0 (shortest 0 (shorter 16 (preset 16 0xFF) xs))) (fromBy table 0 (shortest 0xFF xs)))
+    (cond (257 ≤? length xs) (fromBy table 0 (shortest 0 (shorter 16 (preset 16 0xFF) xs))) (fromBy table 0 (shortest 0xFF xs)))
     (fromBy table 0xFFFF xs)

@@ -190,7 +190,7 @@ fn check_with(table: &[u16; 256], octets: &[u8]) -> u16
     if octets.len() < 128 {
         return check_by(table, 0xFFFF, octets);
     }
-    if octets.len() < 256 {
+    if octets.len() <= 256 {
         return check_256(table, 0xFF, octets);
     }
     check_long(table, octets)

@@ -1,4 +1,7 @@
 -- `fecf::check_with` meets its contract: it chooses as its rule does.
+use Prim.Native.Nat.{_<_}
+use native.Mathlib.Omega.{arith}
+use lib.ListN.{length}
 use borrow.Author.Tests.{le-leb, lt-leb}
 use Rattle.fecf.specs.Folds.{checkBy}
 use borrow.Author.Needs.{needs}
@@ -17,7 +20,10 @@ check-256-requires c κs = search needs
 
 returns-2 : tie.Need-returns-2
 unfolding checkBy
-returns-2 c = simp (le-leb _ _ (c .before .before .if1 .left), lt-leb _ _ (c .before .if2 .taken)) (c .check-256 .ensures)
+returns-2 c =
+    let xs = c .before .before .before .before .args .octets .now in
+    let few : length xs < 257 = omega (arith, c .before .if2 .taken) in
+    simp (le-leb _ _ (c .before .before .if1 .left), lt-leb _ _ few) (c .check-256 .ensures)
 
 check-long-requires : tie.Need-check-long-requires
 check-long-requires c κs = search needs
