@@ -43,7 +43,7 @@ length-plus (x ∷ xs) [] = refl
 length-plus (x ∷ xs) (y ∷ ys) = ap suc (length-plus xs ys)
 
 -- Behind the octets to which others were added nothing changed.
-drop-plus : (n : ℕ) (xs ys : List ℕ) → length xs ≤ n → drop n (plus xs ys) ≡ drop n ys
+pub drop-plus : (n : ℕ) (xs ys : List ℕ) → length xs ≤ n → drop n (plus xs ys) ≡ drop n ys
 unfolding plus
 drop-plus n [] ys h = refl
 drop-plus zero (x ∷ xs) ys h = absurd (not-suc-le-zero h)

@@ -35,29 +35,39 @@ shifts-three k a b c ha hb hc =
 
 -- ---- powers
 
--- Of every register, 16n shifts are 12n and 5n and none of them, added.
+-- 16n shifts of a register are 12n and 5n and none of them, added.
+abbrev Fold : ℕ → ℕ → Type 0
+Fold n r = checkBits (16 * n) r ≡ bitXor (bitXor (checkBits (12 * n) r) (checkBits (5 * n) r)) r
+
+-- That is so of every register.
 abbrev pub Folds : ℕ → Type 0
-Folds n = (r : ℕ) → r < 65536 → checkBits (16 * n) r ≡ bitXor (bitXor (checkBits (12 * n) r) (checkBits (5 * n) r)) r
+Folds n = (r : ℕ) → r < 65536 → Fold n r
 
-of-sum : (a b : ℕ) → a < 65536 → b < 65536 → checkBits 16 a ≡ bitXor (bitXor (checkBits 12 a) (checkBits 5 a)) a
-    → checkBits 16 b ≡ bitXor (bitXor (checkBits 12 b) (checkBits 5 b)) b
-    → checkBits 16 (bitXor a b) ≡ bitXor (bitXor (checkBits 12 (bitXor a b)) (checkBits 5 (bitXor a b))) (bitXor a b)
-of-sum a b ha hb ea eb =
-    shifts 16 a b ha hb
+-- So of a sum, where it is so of both.
+of-sum : (n a b : ℕ) → a < 65536 → b < 65536 → Fold n a → Fold n b → Fold n (bitXor a b)
+of-sum n a b ha hb ea eb =
+    let p = checkBits (12 * n) a in
+    let q = checkBits (5 * n) a in
+    let s = checkBits (12 * n) b in
+    let t = checkBits (5 * n) b in
+    shifts (16 * n) a b ha hb
     ∙ ap₂ bitXor ea eb
-    ∙ xor-four (bitXor (checkBits 12 a) (checkBits 5 a)) a (bitXor (checkBits 12 b) (checkBits 5 b)) b
-    ∙ ap (λ (n : ℕ). bitXor n (bitXor a b)) (xor-four (checkBits 12 a) (checkBits 5 a) (checkBits 12 b) (checkBits 5 b))
-    ∙ sym (ap₂ (λ (m n : ℕ). bitXor (bitXor m n) (bitXor a b)) (shifts 12 a b ha hb) (shifts 5 a b ha hb))
+    ∙ xor-four (bitXor p q) a (bitXor s t) b
+    ∙ ap (λ (m : ℕ). bitXor m (bitXor a b)) (xor-four p q s t)
+    ∙ sym (ap₂ (λ (j k : ℕ). bitXor (bitXor j k) (bitXor a b)) (shifts (12 * n) a b ha hb) (shifts (5 * n) a b ha hb))
 
-of-shifted : (k r : ℕ) → r < 65536 → checkBits 16 r ≡ bitXor (bitXor (checkBits 12 r) (checkBits 5 r)) r
-    → checkBits 16 (checkBits k r) ≡ bitXor (bitXor (checkBits 12 (checkBits k r)) (checkBits 5 (checkBits k r))) (checkBits k r)
-of-shifted k r h e =
-    shifts-swap 16 k r
+-- And of a register that is shifted.
+of-shifted : (n k r : ℕ) → r < 65536 → Fold n r → Fold n (checkBits k r)
+of-shifted n k r h e =
+    let p = checkBits (12 * n) r in
+    let q = checkBits (5 * n) r in
+    shifts-swap (16 * n) k r
     ∙ ap (checkBits k) e
-    ∙ shifts-three k (checkBits 12 r) (checkBits 5 r) r (shifted-below 12 r h) (shifted-below 5 r h) h
-    ∙ ap₂ (λ (m n : ℕ). bitXor (bitXor m n) (checkBits k r)) (shifts-swap k 12 r) (shifts-swap k 5 r)
+    ∙ shifts-three k p q r (shifted-below (12 * n) r h) (shifted-below (5 * n) r h) h
+    ∙ ap₂ (λ (i j : ℕ). bitXor (bitXor i j) (checkBits k r)) (shifts-swap k (12 * n) r) (shifts-swap k (5 * n) r)
 
-of-bit : (b : ℕ) → b < 2 → checkBits 16 b ≡ bitXor (bitXor (checkBits 12 b) (checkBits 5 b)) b
+-- The generator's own line, computed: of the register 1, and of 0.
+of-bit : (b : ℕ) → b < 2 → Fold 1 b
 unfolding checkBits checkBit
 of-bit zero h = refl
 of-bit (suc zero) h = refl
@@ -73,11 +83,11 @@ by-halves r h =
 
 generator : Folds 1
 generator =
-    bin-ind (λ (n : ℕ). n < 65536 → checkBits 16 n ≡ bitXor (bitXor (checkBits 12 n) (checkBits 5 n)) n) (λ h. of-bit 0 (omega arith))
+    bin-ind (λ (n : ℕ). n < 65536 → Fold 1 n) (λ h. of-bit 0 (omega arith))
     (λ n half h.
     let b : n / 2 < 65536 = omega arith in
-    subst (λ (m : ℕ). checkBits 16 m ≡ bitXor (bitXor (checkBits 12 m) (checkBits 5 m)) m) (by-halves n h)
-    (of-sum (checkBits 1 (n / 2)) (n % 2) (shifted-below 1 (n / 2) b) (omega arith) (of-shifted 1 (n / 2) b (half b)) (of-bit (n % 2) (omega arith))))
+    subst (Fold 1) (by-halves n h)
+    (of-sum 1 (checkBits 1 (n / 2)) (n % 2) (shifted-below 1 (n / 2) b) (omega arith) (of-shifted 1 1 (n / 2) b (half b)) (of-bit (n % 2) (omega arith))))
 
 cancelled : (p q s a b r : ℕ) → bitXor (bitXor (bitXor (bitXor p q) a) (bitXor (bitXor q s) b)) (bitXor (bitXor a b) r) ≡ bitXor (bitXor p s) r
 cancelled p q s a b r =

@@ -8,9 +8,10 @@ use native.Mathlib.Omega.{arith}
 use lib.ListN.{length, getD, take, drop, set, length-drop, length-take, take-append-drop, drop-of-length-le}
 use lib.Seq.{drop-cons, drop-drop, drop-set-add, take-suc-set, take-all, take-at, drop-at, length-take-le, getD-take, getD-drop, paste, paste-suc, drop-paste}
 use lib.Bits.{bitXor}
+use borrow.Rule.Slice.PartAt.{part-to-end}
 use borrow.Rule.Slice.PartMut.{putMid}
 use Rattle.fecf.specs.Folds.{next, carried, plus, later, closed, shorter}
-use Rattle.fecf.proofs.Folds.{length-plus, length-closed}
+use Rattle.fecf.proofs.Folds.{length-plus, drop-plus, length-closed}
 
 -- ---- the long register, carried on
 
@@ -77,22 +78,25 @@ far-turn a b d xs part i lb h ep eb ed =
 pub far-all : (a b xs part : List ℕ) (i : ℕ) → i ≤ length xs → part ≡ take (length xs - i) (drop i xs)
     → take 256 (drop (length part) b) ≡ carried 16 (take 256 a) part → take 256 (drop (length xs - i) b) ≡ carried 16 (take 256 a) (drop i xs)
 far-all a b xs part i h ep eb =
-    let mine : part ≡ drop i xs = ep ∙ take-all (length xs - i) (drop i xs) (omega (arith, length-drop i xs)) in
+    let mine : part ≡ drop i xs = ep ∙ part-to-end xs i in
     ap (λ (m : ℕ). take 256 (drop m b)) (sym (ap length mine ∙ length-drop i xs)) ∙ eb ∙ ap (carried 16 (take 256 a)) mine
 
 -- ---- octets moved to the front
 
+-- Where two areas are the same from octet j on, what is read there is the same.
+read-behind : (l a : List ℕ) (j i : ℕ) → j ≤ i → drop j l ≡ drop j a → getD l i 0 ≡ getD a i 0
+read-behind l a j i h e =
+    let there : j + (i - j) ≡ i = omega arith in
+    ap (λ (n : ℕ). getD l n 0) (sym there)
+    ∙ sym (getD-drop j l (i - j) 0)
+    ∙ ap (λ (m : List ℕ). getD m (i - j) 0) e
+    ∙ getD-drop j a (i - j) 0
+    ∙ ap (λ (n : ℕ). getD a n 0) there
+
 front-read : (a : List ℕ) (from j : ℕ) → from + j < length a → getD (paste a 0 (drop from a) j) (from + j) 0 ≡ getD (drop from a) j 0
 front-read a from j h =
-    let s = drop from a in
-    let enough : j ≤ length s = omega (arith, length-drop from a) in
-    let swap : from + j ≡ 0 + j + from = omega arith in
-    let same : 0 + j + from ≡ from + j = omega arith in
-    ap (λ (n : ℕ). getD (paste a 0 s j) n 0) swap
-    ∙ sym (getD-drop (0 + j) (paste a 0 s j) from 0)
-    ∙ ap (λ (l : List ℕ). getD l from 0) (drop-paste a 0 s j (omega arith) enough)
-    ∙ getD-drop (0 + j) a from 0
-    ∙ ap (λ (n : ℕ). getD a n 0) same
+    let enough : j ≤ length (drop from a) = omega (arith, length-drop from a) in
+    read-behind (paste a 0 (drop from a) j) a (0 + j) (from + j) (omega arith) (drop-paste a 0 (drop from a) j (omega arith) enough)
     ∙ sym (getD-drop from a j 0)
 
 pub front-turn : (a area : List ℕ) (from j : ℕ) → from + j < length a → area ≡ paste a 0 (drop from a) j
@@ -113,15 +117,8 @@ front-all a area from j h le e =
 
 -- ---- octets added
 
-plus-behind : (xs ys : List ℕ) (i : ℕ) → length xs ≤ i → getD (plus xs ys) i 0 ≡ getD ys i 0
-unfolding plus
-plus-behind [] ys i h = refl
-plus-behind (x ∷ xs) ys zero h = absurd (not-suc-le-zero h)
-plus-behind (x ∷ xs) [] (suc i) h = refl
-plus-behind (x ∷ xs) (y ∷ ys) (suc i) h = plus-behind xs ys i (le-of-suc-le-suc h)
-
 plus-read : (xs a : List ℕ) (j i : ℕ) → j ≤ i → getD (plus (take j xs) a) i 0 ≡ getD a i 0
-plus-read xs a j i h = plus-behind (take j xs) a i (omega (arith, length-take j xs))
+plus-read xs a j i h = read-behind (plus (take j xs) a) a j i h (drop-plus j (take j xs) a (omega (arith, length-take j xs)))
 
 plus-set : (xs ys : List ℕ) (j : ℕ) → j < length xs → j < length ys
     → set (plus (take j xs) ys) j (bitXor (getD ys j 0) (getD xs j 0)) ≡ plus (take (suc j) xs) ys
@@ -187,9 +184,8 @@ pub made-shorter : (u n : ℕ) (xs first long out : List ℕ) → n ≡ length x
     → out ≡ plus (take (length xs - n) (drop n xs)) (closed u long) → out ≡ shorter u first xs
 unfolding shorter
 made-shorter u n xs first long out m el eo =
-    let rest : take (length xs - n) (drop n xs) ≡ drop n xs = take-all (length xs - n) (drop n xs) (omega (arith, length-drop n xs)) in
     eo
-    ∙ ap₂ plus rest (ap (closed u) el)
+    ∙ ap₂ plus (part-to-end xs n) (ap (closed u) el)
     ∙ ap (λ (k : ℕ). plus (drop k xs) (closed u (carried u first (take k xs)))) m
 
 pub shortened : (u n : ℕ) (xs a b out : List ℕ) → n ≡ length xs - 16 * u → take (16 * u) (drop (length (take n xs)) b) ≡ carried u (take (16 * u) a) (take n xs)
