@@ -1,4 +1,6 @@
 // A batch: whether it keeps its rule, how its frames are cut, and what rule, pointer and fill each carries.
+#![tactic(auto)]
+
 ghost use Rattle.std.specs.Prelude.{◌≡◌, ◌+◌, ◌-◌, ◌*◌, ◌/◌, ◌≤◌, ◌<◌, length};
 ghost use Rattle.rules.specs.Frames.{pointer_to};
 ghost use Rattle.rules.specs.Writing.{fill, rule_of, offset_of, pointer_of};

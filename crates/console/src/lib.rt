@@ -1,5 +1,7 @@
 // What the people who run the archive's programs ask for, what the programs say to them, and whether they may: nothing is said into an input. How names
 // and words of others are printed is promised; no contract can speak of what is on a command line, or of what is written to a descriptor.
+#![tactic(auto)]
+
 pub mod progress;
 
 ghost use Rattle.std.specs.Prelude.{◌≡◌, ◌≤◌, length, take, cond};

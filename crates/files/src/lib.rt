@@ -1,5 +1,7 @@
 // Which file a descriptor or a name leads to, so that no program writes over what it reads. The system's answer goes along as a value; all that
 // is decided by it has a definition. Two functions ask the system, and their proofs are by hand: the struct that it fills is lent to it.
+#![tactic(auto)]
+
 ghost use Rattle.std.specs.Prelude.{◌≡◌};
 ghost use Rattle.libc.specs.Io.{Ended};
 ghost use Rattle.files.specs.Known.{whole_of, known_of, same_file, is_regular, is_folder, spoils};

@@ -1,4 +1,6 @@
 // Whether a count is a repeat, how many frames are missing before it, and what a gap drops.
+#![tactic(auto)]
+
 ghost use Rattle.std.specs.Prelude.{◌≡◌, true, ℕ, ◌+◌, ◌^◌, ◌≤◌, ◌<◌, get_or};
 ghost use Rattle.rules.specs.Tests.{◌=?◌};
 ghost use Rattle.rules.specs.Settings.{no_slot, reader_ok, channel, expect};

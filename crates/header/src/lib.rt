@@ -1,4 +1,6 @@
 // The fields of a frame, in printed order, from octets and to octets.
+#![tactic(auto)]
+
 ghost use Rattle.std.specs.Prelude.{◌≡◌, ◌+◌, ◌-◌, ◌*◌, ◌/◌, ◌%◌, ◌^◌, ◌≤◌, ◌<◌, [], ◌∷◌, length, take};
 ghost use Rattle.rules.specs.Octets.{num, fields_of, packed, flag};
 ghost use Rattle.rules.specs.Settings.{insert_at};

@@ -1,6 +1,8 @@
 // Octets from a descriptor into an area, behind those that it holds. That a read failed is told apart from the input's end.
 //
 // Proved: what the area held is as it was, and what came stands behind it. Left open: that what came is what stands in the file.
+#![tactic(auto)]
+
 ghost use Rattle.std.specs.Prelude.{◌≡◌, ◌≤◌, min, length};
 ghost use Rattle.intake.specs.Windows.{Refilled};
 

@@ -1,4 +1,6 @@
 // The checks of a frame, in the paper's order: refused, idle, or what they found of it. No field is read twice.
+#![tactic(auto)]
+
 ghost use Rattle.std.specs.Prelude.{◌≡◌, true, ◌≤◌, ◌<◌, length};
 ghost use Rattle.rules.specs.Settings.{channel, lane, setting_ok};
 ghost use Rattle.rules.specs.Octets.{flag};

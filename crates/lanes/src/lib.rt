@@ -1,4 +1,6 @@
 // What a lane makes of a zone and of the octets it holds, laid into lent areas.
+#![tactic(auto)]
+
 ghost use Rattle.std.specs.Prelude.{◌≡◌, List, ◌++◌, ℕ, length};
 ghost use Rattle.rules.specs.Packets.{measure};
 ghost use Rattle.rules.specs.Reading.{held_in, lead_fate, packet_lane, access_lane, lane_step};

@@ -7,6 +7,8 @@
 // and that what is handed over is printed, for no contract can speak of what a call of the system reads or writes; and that a
 // short last frame, or the input's end, ends the run. The stored run is of document 01's frames 0, 1 and 1: what it must print is what
 // document 01 prints, at the end of "Worked frames".
+#![tactic(auto)]
+
 ghost use Rattle.std.specs.Prelude.{◌≡◌, ◌+◌, ◌≤◌, ◌<◌, false, length};
 ghost use Rattle.rules.specs.Worked.{worked, packet_lane};
 ghost use Rattle.rules.specs.Calls.{read};

@@ -1,4 +1,6 @@
 // What the listing prints: numbers, words, the title and the line of an answer, put into a lent area.
+#![tactic(auto)]
+
 ghost use Rattle.std.specs.Prelude.{◌≡◌, [], ◌∷◌, ◌+◌, ◌≤◌, length, get_or};
 ghost use Rattle.rules.specs.Listing.{text, digits, decimal, amount, line};
 ghost use Rattle.listing_text.specs.Puts.{Put, filled, part, place, front};

@@ -1,6 +1,8 @@
 // Work to be measured: the frame check, headers, looks, takes or writes of frames that come from standard input, and no other work for them to be held
 // against. Its two arguments are the work's word and a file with the setting, which has one packet lane, an OCF and no insert zone; it prints
 // how many frames there were and a sum over what came out.
+#![tactic(auto)]
+
 ghost use Rattle.std.specs.Prelude.{◌≡◌, ◌+◌, ◌%◌, ◌≤◌, ◌∷◌, get_or};
 
 use header::{Data, Head};

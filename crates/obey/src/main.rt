@@ -3,6 +3,8 @@
 //
 // Proved: what a request leaves on the desk and in each area is `obeyed` of its octets and of what was there, and a call is the rules' own
 // (`obey`). Left open: that a request's octets are those of standard input, and that the areas are written (`next`, `tell`, `main`).
+#![tactic(auto)]
+
 ghost use Rattle.std.specs.Prelude.{◌≡◌, ◌≤◌, length};
 ghost use Rattle.io.specs.Counts.{IsPrefixLen};
 

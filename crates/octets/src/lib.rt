@@ -1,4 +1,6 @@
 // Octets in lent areas, and numbers in octets. Each function is total and works on all of the part that it is lent.
+#![tactic(auto)]
+
 ghost use Rattle.std.specs.Prelude.{◌≡◌, ◌+◌, ◌%◌, ◌^◌, ◌≤◌, min, length, take, replicate};
 ghost use Rattle.rules.specs.Octets.{be, num};
 ghost use Rattle.rules.specs.Areas.{laid};

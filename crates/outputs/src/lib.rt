@@ -2,6 +2,8 @@
 // whole, and removed where a run fails. What had the names is put aside until then, and gets them again where a run fails. This is the one
 // place that does so. Outputs have numbers: 0 to 7 are the lanes', 8 is the table of units, 9 the records. Which of them there are, what each
 // is called, and in which order they are taken is promised; what the system then does with a name is shown by runs.
+#![tactic(auto)]
+
 ghost use Rattle.std.specs.Prelude.{◌≡◌, ◌+◌, ◌≤◌, ◌<◌, length, take, drop};
 ghost use Rattle.unpack_text.specs.Lines.{Wrote};
 ghost use Rattle.outputs.specs.Names.{has_output, ending, mark, Named, plain_fit, fit_of, aside_turn, no_stage, put_aside, gave, last_slash};

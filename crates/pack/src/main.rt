@@ -3,6 +3,8 @@
 // `words::pack_start` has what its words come to, crate `streams` what the next batch of a file is or what is wrong with it, and crate `turns` what
 // a turn of a file writes and leaves. Here files are opened and closed, the turns are dealt out, and what went wrong is said: what no contract
 // can follow into the system is shown by runs. The stored run is document 01's batch of worked frame 2, on its setting.
+#![tactic(auto)]
+
 ghost use Rattle.std.specs.Prelude.{◌≡◌, ◌<◌, ◌≤◌, length};
 ghost use Rattle.rules.specs.Settings.{lane, channel, ocf_octets};
 ghost use Rattle.pack.specs.Rounds.{form_of, next_place, any_more, has_next, place_after, Stepped, Rounded, Passed};

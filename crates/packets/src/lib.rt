@@ -1,4 +1,6 @@
 // What a packet is, by its octets: the measure, and nothing else. Each function is total, and gives what one definition of the rules gives.
+#![tactic(auto)]
+
 ghost use Rattle.std.specs.Prelude.{◌≡◌, length};
 ghost use Rattle.rules.specs.Packets.{space_header, sized, space_packet, length_of_length, header_size, totalled, alone, encapsulated, headed, measured, measure};
 

@@ -1,5 +1,7 @@
 // The reader: set-up, and two calls a frame. One judgement of state and frame, `find`: `look` shows it, `take` acts on it, and `pass` does both, with an
 // operator's decision between them.
+#![tactic(auto)]
+
 pub mod choices;
 
 ghost use Rattle.std.specs.Prelude.{◌≡◌, ◌≤◌, ◌<◌};

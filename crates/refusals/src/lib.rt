@@ -1,5 +1,7 @@
 // Refused frames in unpack's totals: how many there were of each number, document 01's words for it, the commonest one, and what the first of them
 // says of itself; and with them the text of all totals.
+#![tactic(auto)]
+
 ghost use Rattle.std.specs.Prelude.{◌≡◌, ◌+◌, ◌≤◌, ◌<◌, length};
 ghost use Rattle.unpack_text.specs.Lines.{Wrote};
 ghost use Rattle.refusals.specs.Counts.{raised, front_of, first_after, refused_after, totalled, passed_over, no_totals, commoner, commonest};

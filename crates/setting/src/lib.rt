@@ -1,4 +1,6 @@
 // Whether a setting and a state are valid, the zone of a channel, look-up of channels and lanes, and fresh states.
+#![tactic(auto)]
+
 ghost use Rattle.std.specs.Prelude.{◌≡◌, true, ◌&&◌, ◌-◌, ◌^◌, ◌≤◌, ◌<◌, get_or, set};
 ghost use Rattle.rules.specs.Tests.{◌≤?◌, ◌<?◌, ◌=?◌, every};
 ghost use Rattle.rules.specs.Settings.{no_channel, no_lane, no_expects, no_slot, expect_on, expecting, channel, lane, number};

@@ -1,5 +1,7 @@
 // A setting from a file, and in words what is wrong with one. What stands in the area after the reads is what was read; all that
 // follows from it is promised (`load`), but for the words, which no contract can follow to a descriptor.
+#![tactic(auto)]
+
 ghost use Rattle.std.specs.Prelude.{◌≡◌, ◌≤◌, length};
 ghost use Rattle.setting_text.specs.Quotes.{quoted};
 ghost use Rattle.setting_file.specs.Files.{none, text_found, judged};

@@ -1,4 +1,6 @@
 // A setting from its text: a table of its lines, what each says, the first bad line, and what a text lacks.
+#![tactic(auto)]
+
 pub mod quoting;
 
 ghost use Rattle.std.specs.Prelude.{◌≡◌, ◌&&◌, cond, ◌≤◌, ◌<◌, [], ◌∷◌, get_or};

@@ -1,5 +1,7 @@
 // A lane's file on its way into batches: what the next batch is, of the octets that the windows on the file and on its list of lengths hold, or
 // what is wrong where there is none.
+#![tactic(auto)]
+
 pub mod file_batches;
 pub mod lengths;
 

@@ -4,6 +4,8 @@
 // fails. Proved: a frame that is handed to standard output is the rules' write of the batch at the front of the file's window (`hand`); that
 // batch is the next of what the windows hold (`streams::begin`), it is lent until the lane's number returns to 0, and the window then holds the
 // octets after it (`turn`); a file's turn uses the windows of that file and leaves the others (`turn_at`).
+#![tactic(auto)]
+
 ghost use Rattle.std.specs.Prelude.{◌≡◌, ◌<◌, length};
 ghost use Rattle.rules.specs.Settings.{number};
 ghost use Rattle.streams.specs.Streams.{Kept};

@@ -1,4 +1,6 @@
 // The table of units that unpack writes where it is asked for: a line for each unit, of its record, its octets, and where the frame's units come from.
+#![tactic(auto)]
+
 ghost use Rattle.std.specs.Prelude.{◌≡◌, ◌+◌, ◌*◌, ◌≤◌, ◌<◌, length, get_or, drop};
 ghost use Rattle.rules.specs.Settings.{no_lane};
 ghost use Rattle.rules.specs.Packets.{measure};

@@ -1,6 +1,8 @@
 // The program unpack: a setting, a recording and a prefix from the command line; the recording's frames (module `each_frame`) into outputs, which
 // crate `outputs` makes, names and removes; and what it says of a recording of which little was read. Shown by runs: what no contract can follow into
 // the system.
+#![tactic(auto)]
+
 ghost use Rattle.std.specs.Prelude.{◌≡◌, true};
 ghost use Rattle.io.specs.Counts.{IsPrefixLen};
 ghost use Rattle.rules.specs.Settings.{setting_ok, reader_ok};

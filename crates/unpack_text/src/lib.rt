@@ -1,4 +1,6 @@
 // What unpack says and counts: whose a frame is, the line of its answer, and the totals, as numbers and as text.
+#![tactic(auto)]
+
 ghost use Rattle.std.specs.Prelude.{◌≡◌, ◌++◌, ◌+◌, ◌≤◌, length, get_or};
 ghost use Rattle.rules.specs.Settings.{no_slot, lane};
 ghost use Rattle.rules.specs.Frames.{vc};

@@ -1,5 +1,7 @@
 // Words of a command line: what they begin with, whether they are a given word, an option, or stand for standard input; and what all of them ask
 // for.
+#![tactic(auto)]
+
 pub mod pack_start;
 pub mod unpack_start;
 

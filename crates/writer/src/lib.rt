@@ -1,4 +1,6 @@
 // The writer: set-up, and one call a frame.
+#![tactic(auto)]
+
 ghost use Rattle.std.specs.Prelude.{◌≡◌, true, ◌<◌};
 ghost use Rattle.rules.specs.Tests.{given};
 ghost use Rattle.rules.specs.Settings.{channel_of, number, zone, writer_ok};
