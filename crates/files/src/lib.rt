@@ -9,7 +9,7 @@ ghost use Rattle.files.specs.Known.{whole_of, known_of, same_file, is_regular, i
 use libc::types;
 
 // A file as the system knows it: whether there is one, its device and inode, its mode, and its size.
-#[derive(Drop)]
+#[derive(Clone, Copy)]
 pub struct Known {
     pub device: u64,
     pub inode: u64,

@@ -105,7 +105,7 @@ fn gap_by(s: Setting, expects: Expects, slots: [Slot; 8], c: usize, missing: u64
 }
 
 // What a channel's counts are held against: what is expected of it, and how many octets they have.
-#[derive(Drop)]
+#[derive(Clone, Copy)]
 struct Awaited {
     expect: Expect,
     octets: usize,

@@ -10,7 +10,7 @@ ghost use Rattle.header.specs.Heads.{head_of, data_of, head_fields, data_fields}
 use rules::{Channel, Lane, Setting};
 
 // The first twelve fields of figure 4-2 in 000, in printed order: the primary header before its count.
-#[derive(Drop)]
+#[derive(Clone, Copy)]
 pub struct Head {
     pub version: u8, // Transfer Frame Version Number
     pub craft: u16, // Spacecraft Identifier
@@ -27,7 +27,7 @@ pub struct Head {
 }
 
 // The three fields of figure 4-4, in printed order: the data field's header.
-#[derive(Drop)]
+#[derive(Clone, Copy)]
 pub struct Data {
     pub rule: u8, // TFDZ Construction Rules
     pub upid: u8, // USLP Protocol Identifier

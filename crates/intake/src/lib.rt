@@ -7,7 +7,7 @@ ghost use Rattle.std.specs.Prelude.{◌≡◌, ◌≤◌, min, length};
 ghost use Rattle.intake.specs.Windows.{Refilled};
 
 // What an area holds of a file: how many octets at its front, which octet of the file the first is, and whether all reads went well.
-#[derive(Drop)]
+#[derive(Clone, Copy)]
 pub struct Window {
     pub have: usize,
     pub at: u64,

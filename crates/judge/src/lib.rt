@@ -16,7 +16,7 @@ use rules::{Kind, Lane, Place, Setting};
 
 // What the checks found of a frame of a listed channel: the channel's place, the lane that reads it, if any, and its count. Of a frame
 // that is read also its construction rule, what its pointer points to, and where its zone begins and how many octets it has.
-#[derive(Drop)]
+#[derive(Clone, Copy)]
 pub struct Sight {
     pub channel: usize,
     pub count: u64,
@@ -29,7 +29,7 @@ pub struct Sight {
 
 // What is found of a frame: refused by a number, idle, seen on a listed channel, or a repeat on the channel at this place. The checks alone find no
 // repeat, for they do not know what was taken before.
-#[derive(Drop)]
+#[derive(Clone, Copy)]
 pub enum Sighting {
     Refused(u8),
     Idle,

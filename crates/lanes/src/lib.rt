@@ -33,7 +33,7 @@ fn measure_of(first: &[u8], second: &[u8]) -> Measure
 
 // How a lane begins its step: some octets are only counted, as fill or as dropped. `slot` is what it goes on with, all that it holds or nothing: that and
 // `size` octets of the zone become what `fate` says. There the step `stops`, or else packets are read from there on.
-#[derive(Drop)]
+#[derive(Clone, Copy)]
 struct Opening {
     size: usize,
     fill: usize,

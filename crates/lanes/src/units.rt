@@ -8,7 +8,7 @@ ghost use Rattle.lanes.specs.Hands.{Room, Handed, Ready, Went};
 use rules::{Fate, Info, Kind, Slot};
 
 // How many units were handed out, how many octets they have, and how many octets were idle, fill or dropped.
-#[derive(Drop)]
+#[derive(Clone, Copy)]
 pub struct Tally {
     pub count: usize,
     pub octets: usize,
@@ -18,14 +18,14 @@ pub struct Tally {
 }
 
 // How a lane stands in its step: the tally so far, and what it keeps.
-#[derive(Drop)]
+#[derive(Clone, Copy)]
 pub struct Stand {
     pub tally: Tally,
     pub slot: Slot,
 }
 
 // What a lane brings to its step: its kind and longest unit, and what the records of the frame have in common.
-#[derive(Drop)]
+#[derive(Clone, Copy)]
 pub struct Terms {
     pub info: Info,
     pub longest: usize,

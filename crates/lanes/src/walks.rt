@@ -11,7 +11,7 @@ use crate::{fates, units};
 use rules::{Measure, Next, Slot};
 
 // Where a walk over a zone ends: with the zone, at a packet that the zone's end cuts, or at one that drops the rest with itself.
-#[derive(Drop)]
+#[derive(Clone, Copy)]
 pub enum Walk {
     Finished,
     Held(usize),
@@ -19,7 +19,7 @@ pub enum Walk {
 }
 
 // How a walk ended, and the tally then.
-#[derive(Drop)]
+#[derive(Clone, Copy)]
 pub struct Walked {
     pub end: Walk,
     pub tally: Tally,

@@ -19,7 +19,7 @@ use intake::Window;
 use rules::{Answer, Channel, Kind, Lane, Reader, Setting};
 
 // The state after a frame, its answer, and where its text ends.
-#[derive(Drop)]
+#[derive(Clone, Copy)]
 struct Printed {
     state: Reader,
     answer: Answer,
@@ -27,7 +27,7 @@ struct Printed {
 }
 
 // The state after a turn, how many frames are listed by then, whether the input may go on, and whether all went well.
-#[derive(Drop)]
+#[derive(Clone, Copy)]
 struct Turn {
     state: Reader,
     frames: u64,

@@ -193,7 +193,7 @@ fn take(looks: bool, s: Setting, area: &mut [u8]) {
 }
 
 // What goes from frame to frame while batches are written.
-#[derive(Drop)]
+#[derive(Clone, Copy)]
 struct Course {
     state: Writer,
     frames: u64,

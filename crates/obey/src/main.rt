@@ -15,7 +15,7 @@ use requests::{least, obey};
 use rows::word_in;
 
 // What came of a request: how many octets it has, 0 where there is none, and whether all went well. What did not is said by then.
-#[derive(Drop)]
+#[derive(Clone, Copy)]
 struct Came {
     size: usize,
     good: bool,

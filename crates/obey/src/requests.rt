@@ -12,7 +12,7 @@ use rows::{put_reader, put_row, put_writer, reader_in, setting_in, word_in, writ
 use rules::{Answer, Class, Listener, Looked, Outcome, Place, Reader, Sender, Taken, Writer};
 
 // How many octets of the held, unit and record area a read is lent.
-#[derive(Drop)]
+#[derive(Clone, Copy)]
 pub struct Sizes {
     pub held: usize,
     pub units: usize,

@@ -11,7 +11,7 @@ ghost use Rattle.outputs.specs.Names.{has_output, ending, mark, Named, plain_fit
 use files::Known;
 
 // How many lanes a run has, whether it writes a table of units, and the number that its unfinished files have in their names.
-#[derive(Drop)]
+#[derive(Clone, Copy)]
 pub struct Plan {
     pub number: u64,
     pub lanes: usize,
@@ -19,7 +19,7 @@ pub struct Plan {
 }
 
 // The files of a run that no output may replace: its inputs, and where it prints and says something.
-#[derive(Drop)]
+#[derive(Clone, Copy)]
 pub struct Kept {
     pub setting: Known,
     pub recording: Known,
@@ -28,7 +28,7 @@ pub struct Kept {
 }
 
 // What stands at the name of an output: nothing that is in the way, an input, what is printed or said, or something that is no regular file.
-#[derive(Drop)]
+#[derive(Clone, Copy)]
 pub enum Fit {
     Free,
     Setting,
@@ -91,7 +91,7 @@ fn put_prefix(name: &mut [u8], prefix: &[u8]) -> usize
 }
 
 // A name: its octets, how many of them are the finished name, and how many are that with the mark behind it.
-#[derive(Drop)]
+#[derive(Clone, Copy)]
 struct Name {
     octets: [u8; 4147],
     at: usize,
@@ -239,7 +239,7 @@ fn make(p: Plan, prefix: &[u8], i: usize) -> i32 {
 }
 
 // The descriptors of unfinished files, -1 where none was made, and whether all that are wanted were.
-#[derive(Drop)]
+#[derive(Clone, Copy)]
 pub struct Made {
     pub fds: [i32; 10],
     pub good: bool,
@@ -300,7 +300,7 @@ pub fn keep_all(p: Plan, fds: [i32; 10], prefix: &[u8]) -> bool {
 // ---- finished names
 
 // How a file went from one name to another: well; there was none; or the system failed.
-#[derive(Drop)]
+#[derive(Clone, Copy)]
 enum Moved {
     Done,
     Nothing,
@@ -308,7 +308,7 @@ enum Moved {
 }
 
 // How far the names are: which earlier files are put aside, which outputs have their names, and whether nothing failed.
-#[derive(Drop)]
+#[derive(Clone, Copy)]
 struct Stage {
     aside: [bool; 10],
     given: [bool; 10],

@@ -190,7 +190,7 @@ fn fresh() -> Window
 }
 
 // A file that was opened, or not: its descriptor, below 0 where it was not, and how many octets its name has.
-#[derive(Drop)]
+#[derive(Clone, Copy)]
 struct Opened {
     fd: i32,
     name: usize,
@@ -370,7 +370,7 @@ fn open_source(s: Setting, l: usize, i: usize, n: usize, k: usize, names: &mut [
 
 // How a pass goes: whether frames are written; whether the files take turns; how many octets of them are a hundredth; whether standard error is
 // a terminal.
-#[derive(Drop)]
+#[derive(Clone, Copy)]
 struct Way {
     writing: bool,
     together: bool,
@@ -401,7 +401,7 @@ fn say_progress(way: Way, before: u64, c: Course) {
 }
 
 // The files of a round, and how many there are.
-#[derive(Drop)]
+#[derive(Clone, Copy)]
 struct Files {
     sources: [Source; 8],
     count: usize,
@@ -449,14 +449,14 @@ fn has_next(c: Course, f: Files) -> bool
 }
 
 // A round of turns: the course after it, and the file that was the last to have one.
-#[derive(Drop)]
+#[derive(Clone, Copy)]
 struct Round {
     course: Course,
     last: usize,
 }
 
 // Where a round is: the course and the files, whose turn is next and whose was the last, and whether there is a next one.
-#[derive(Drop)]
+#[derive(Clone, Copy)]
 struct Place {
     course: Course,
     files: Files,
@@ -582,7 +582,7 @@ fn round_on(way: Way, c: Course, f: Files, names: &[u8], insert: &[u8], ocf: &[u
 // ---- passes
 
 // Where a pass is: the course, and the files that wait for a round.
-#[derive(Drop)]
+#[derive(Clone, Copy)]
 struct Stage {
     course: Course,
     files: Files,

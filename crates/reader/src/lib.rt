@@ -142,7 +142,7 @@ fn areas_short(held: usize, units: usize, records: usize) -> bool
 // ---- the one judgement
 
 // What is found of a frame: what it is, by the checks and after them, and how many frames are missing before it.
-#[derive(Drop)]
+#[derive(Clone, Copy)]
 struct Found {
     sighting: Sighting,
     missing: u64,

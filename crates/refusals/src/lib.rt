@@ -11,7 +11,7 @@ use rules::{Answer, Reader, Setting, Verdict};
 use unpack_text::Tally;
 
 // The first refused frame, if there is one: its number, how many octets it has, and the first seven, with zeros for those that it has not.
-#[derive(Drop)]
+#[derive(Clone, Copy)]
 pub struct First {
     pub frame: u64,
     pub octets: usize,
@@ -20,14 +20,14 @@ pub struct First {
 }
 
 // How many frames were refused with each number, by number, and the first of all.
-#[derive(Drop)]
+#[derive(Clone, Copy)]
 pub struct Refusals {
     pub counts: [u64; 13],
     pub first: First,
 }
 
 // The totals of a recording, with its refusals.
-#[derive(Drop)]
+#[derive(Clone, Copy)]
 pub struct Totals {
     pub tally: Tally,
     pub refusals: Refusals,

@@ -13,7 +13,7 @@ ghost use Rattle.rows.specs.States.{tail_of, tails_of, reader_octets, expects_of
 use rules::{Channel, Expect, Expects, Kind, Lane, Reader, Setting, Slot, Writer};
 
 // The two numbers behind a lane's own in its row: of a reader what its slot says, of a writer the next frame number, and 0.
-#[derive(Drop)]
+#[derive(Clone, Copy)]
 pub struct Tail {
     pub first: u64,
     pub second: u64,

@@ -17,7 +17,7 @@ pub const RECORD_SIZE: usize = 24;
 pub const BATCH_SIZE: usize = 32768;
 
 // What a lane carries: packets that span frames, or access units (MAPA_SDU). The first is what a state of zeros has.
-#[derive(Drop)]
+#[derive(Clone, Copy)]
 pub enum Kind {
     Packets,
     Access,
@@ -25,7 +25,7 @@ pub enum Kind {
 
 // A virtual channel with a service (0 sequence-controlled, 1 expedited), how many octets its count has, and whether its
 // frames have an operational control field.
-#[derive(Drop)]
+#[derive(Clone, Copy)]
 pub struct Channel {
     pub octets: u8,
     pub vc: u8,
@@ -34,7 +34,7 @@ pub struct Channel {
 }
 
 // A listed channel, by its place in the list; a map; what the lane carries; the longest unit; the protocol number.
-#[derive(Drop)]
+#[derive(Clone, Copy)]
 pub struct Lane {
     pub longest: u16,
     pub channel: u8,
@@ -45,7 +45,7 @@ pub struct Lane {
 
 // Frame length, spacecraft number, source-or-destination bit, octets of the insert zone, whether there is a frame check;
 // then how many of the channels are listed, and how many of the lanes are numbered: later slots say nothing.
-#[derive(Drop)]
+#[derive(Clone, Copy)]
 pub struct Setting {
     pub length: usize,
     pub insert: usize,
@@ -59,14 +59,14 @@ pub struct Setting {
 }
 
 // What a reader expects of a channel: whether it expects a count, and which.
-#[derive(Drop)]
+#[derive(Clone, Copy)]
 pub struct Expect {
     pub count: u64,
     pub known: bool,
 }
 
 // What it expects of each channel, counts beside counts: an array of the pairs would be copied piece by piece, for the gap in each.
-#[derive(Drop)]
+#[derive(Clone, Copy)]
 pub struct Expects {
     pub counts: [u64; 8],
     pub known: [bool; 8],
@@ -74,14 +74,14 @@ pub struct Expects {
 
 // What a reader keeps of a lane: how many octets it holds, and how many frames of the lane carry them. A lane holds fewer than 8,192 octets, so
 // two octets are enough for each.
-#[derive(Drop)]
+#[derive(Clone, Copy)]
 pub struct Slot {
     pub held: u16,
     pub span: u16,
 }
 
 // A reader's state: of each channel the count that it expects, of each lane its slot.
-#[derive(Drop)]
+#[derive(Clone, Copy)]
 pub struct Reader {
     pub setting: Setting,
     pub expects: Expects,
@@ -89,7 +89,7 @@ pub struct Reader {
 }
 
 // A writer's state: for each channel the count of its next frame, for each lane the number of its next frame in its batch.
-#[derive(Drop)]
+#[derive(Clone, Copy)]
 pub struct Writer {
     pub setting: Setting,
     pub counts: [u64; 8],
@@ -97,28 +97,28 @@ pub struct Writer {
 }
 
 // How set-up and write end: done, or refused with the paper's number.
-#[derive(Drop)]
+#[derive(Clone, Copy)]
 pub enum Outcome {
     Done,
     Refused(u8),
 }
 
 // What the reader's set-up answers.
-#[derive(Drop)]
+#[derive(Clone, Copy)]
 pub struct Listener {
     pub state: Reader,
     pub outcome: Outcome,
 }
 
 // What the writer's set-up and each write answer.
-#[derive(Drop)]
+#[derive(Clone, Copy)]
 pub struct Sender {
     pub state: Writer,
     pub outcome: Outcome,
 }
 
 // The class of a frame.
-#[derive(Drop)]
+#[derive(Clone, Copy)]
 pub enum Class {
     Idle,
     Counted,
@@ -128,7 +128,7 @@ pub enum Class {
 }
 
 // What a read answers: class, units, unit octets, missing frames, and octets that were idle, fill or dropped.
-#[derive(Drop)]
+#[derive(Clone, Copy)]
 pub struct Answer {
     pub units: usize,
     pub octets: usize,
@@ -140,21 +140,21 @@ pub struct Answer {
 }
 
 // A read's answer, and the state after it.
-#[derive(Drop)]
+#[derive(Clone, Copy)]
 pub struct Taken {
     pub answer: Answer,
     pub state: Reader,
 }
 
 // A place, or none: of a channel in the list, of a lane, of the octet where a packet starts or a unit ends.
-#[derive(Drop)]
+#[derive(Clone, Copy)]
 pub enum Place {
     At(usize),
     Nowhere,
 }
 
 // What a look answers: class, missing frames, the place of the frame's channel if it is Counted, Read or a repeat, and its lane if it is Read.
-#[derive(Drop)]
+#[derive(Clone, Copy)]
 pub struct Looked {
     pub missing: u64,
     pub channel: Place,
@@ -163,7 +163,7 @@ pub struct Looked {
 }
 
 // What comes of a frame that is looked at, and then taken or left out: what the look said, the answer and the state, and whether it was left out.
-#[derive(Drop)]
+#[derive(Clone, Copy)]
 pub struct Passed {
     pub taken: Taken,
     pub looked: Looked,
@@ -171,7 +171,7 @@ pub struct Passed {
 }
 
 // The families of packets: Space Packets, and encapsulation packets (document 02, A5).
-#[derive(Drop)]
+#[derive(Clone, Copy)]
 pub enum Family {
     Space,
     Encapsulation,
@@ -179,7 +179,7 @@ pub enum Family {
 
 // What the octets from a packet's first on say of it: how many octets its header still lacks; the family and size of one that is not idle; the
 // size of an idle one; or that it is unreadable.
-#[derive(Drop)]
+#[derive(Clone, Copy)]
 pub enum Measure {
     Lacks(usize),
     Packet(Family, usize),
@@ -189,7 +189,7 @@ pub enum Measure {
 
 // What becomes of the packet at the front of a zone: handed out whole, left out as idle, held for it is cut, or dropped with
 // the rest of the zone.
-#[derive(Drop)]
+#[derive(Clone, Copy)]
 pub enum Next {
     Give(usize),
     Skip(usize),
@@ -198,7 +198,7 @@ pub enum Next {
 }
 
 // What becomes of held octets with those that follow them: all handed out, all idle, all held, or all dropped.
-#[derive(Drop)]
+#[derive(Clone, Copy)]
 pub enum Fate {
     Hand,
     Blank,
@@ -207,7 +207,7 @@ pub enum Fate {
 }
 
 // What a frame is: refused, idle, counted on a channel, read by a lane, or a repeat on a channel.
-#[derive(Drop)]
+#[derive(Clone, Copy)]
 pub enum Verdict {
     Refused(u8),
     Idle,
@@ -217,7 +217,7 @@ pub enum Verdict {
 }
 
 // After a frame's count was taken: the state, how many frames are missing, how many held octets that dropped.
-#[derive(Drop)]
+#[derive(Clone, Copy)]
 pub struct Gap {
     pub state: Reader,
     pub missing: u64,
@@ -225,7 +225,7 @@ pub struct Gap {
 }
 
 // What the records of one read have in common: lane, virtual channel, map, service, and the finishing frame's count.
-#[derive(Drop)]
+#[derive(Clone, Copy)]
 pub struct Info {
     pub count: u64,
     pub lane: u8,

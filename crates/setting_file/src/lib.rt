@@ -12,7 +12,7 @@ use setting_text::quoting::Fault;
 use setting_text::{Finding, Missing, Wanted};
 
 // What a file is: one that could not be read, one that is longer than a text may be, or a text and what that is found to be.
-#[derive(Drop)]
+#[derive(Clone, Copy)]
 pub enum Found {
     Unread,
     TooLong,
@@ -20,7 +20,7 @@ pub enum Found {
 }
 
 // What a file is, whether it gave a setting that document 01 accepts, and that setting.
-#[derive(Drop)]
+#[derive(Clone, Copy)]
 pub struct Judged {
     pub found: Found,
     pub good: bool,
@@ -28,14 +28,14 @@ pub struct Judged {
 }
 
 // Whether the file was read, and how many octets of it are at the front of the area.
-#[derive(Drop)]
+#[derive(Clone, Copy)]
 pub struct Filled {
     pub read: bool,
     pub size: usize,
 }
 
 // How a file was read, what it is, and which file it was.
-#[derive(Drop)]
+#[derive(Clone, Copy)]
 pub struct Loaded {
     pub filled: Filled,
     pub judged: Judged,

@@ -17,7 +17,7 @@ ghost use Rattle.setting_text.specs.Facts.{nothing, refuse, forbid, told, with_f
 use rules::{Channel, Kind, Lane, Place, Setting};
 
 // What was expected at a line that is refused.
-#[derive(Drop)]
+#[derive(Clone, Copy)]
 pub enum Wanted {
     Nothing,
     Fact,
@@ -42,7 +42,7 @@ pub enum Wanted {
 }
 
 // What was never said.
-#[derive(Drop)]
+#[derive(Clone, Copy)]
 pub enum Missing {
     Length,
     Spacecraft,
@@ -55,7 +55,7 @@ pub enum Missing {
 
 // A valid setting; a bad line, from 1, the first of its words that does not fit, from 0 (256 where all do), and what was expected there; what the text lacks; virtual
 // channel and service of a channel whose zone has no octet; another rule of document 01 that the setting breaks.
-#[derive(Drop)]
+#[derive(Clone, Copy)]
 pub enum Finding {
     Good,
     Line(usize, usize, Wanted),
@@ -65,14 +65,14 @@ pub enum Finding {
 }
 
 // What a text is, and its setting: one of zeros where the text is not good.
-#[derive(Drop)]
+#[derive(Clone, Copy)]
 pub struct Parsed {
     pub finding: Finding,
     pub setting: Setting,
 }
 
 // Octets that end something: a line feed, a `#`, a blank, what is no blank, a carriage return.
-#[derive(Drop)]
+#[derive(Clone, Copy)]
 pub enum Stop {
     Feed,
     Hash,
@@ -82,14 +82,14 @@ pub enum Stop {
 }
 
 // Where a word stands.
-#[derive(Drop)]
+#[derive(Clone, Copy)]
 pub struct Span {
     pub from: usize,
     pub to: usize,
 }
 
 // What a line says: a single fact, by its field, a channel, a lane, or nothing.
-#[derive(Drop)]
+#[derive(Clone, Copy)]
 pub enum Says {
     Fact(usize),
     Channel,
@@ -99,7 +99,7 @@ pub enum Says {
 
 // What is asked of a word: to be one of some words, or else this was wanted; to be a number from .. to ..; not to be there, and
 // then the line says this.
-#[derive(Drop)]
+#[derive(Clone, Copy)]
 pub enum Ask {
     Word(Wanted),
     Number(usize, usize),
@@ -107,7 +107,7 @@ pub enum Ask {
 }
 
 // What is heard of a line: its numbers by their fields, how many words fit, what was asked last, and whether all words fit.
-#[derive(Drop)]
+#[derive(Clone, Copy)]
 pub struct Heard {
     pub numbers: [usize; 14],
     pub count: usize,
@@ -117,7 +117,7 @@ pub struct Heard {
 
 // How far a line is held against the table: the next octet, what is heard of it as the present line of the table, and as the best
 // one before.
-#[derive(Drop)]
+#[derive(Clone, Copy)]
 pub struct Trace {
     pub at: usize,
     pub now: Heard,
@@ -126,7 +126,7 @@ pub struct Trace {
 
 // What the lines said so far, whether each single fact, a channel and a lane were said, whether all lines fit, and otherwise which word of the
 // last does not (256 where the lines before forbid it) and what was expected.
-#[derive(Drop)]
+#[derive(Clone, Copy)]
 pub struct Draft {
     pub setting: Setting,
     pub facts: [bool; 7],
@@ -136,7 +136,7 @@ pub struct Draft {
 }
 
 // What all lines said, and the number of the one that does not fit; 0 where all do.
-#[derive(Drop)]
+#[derive(Clone, Copy)]
 pub struct Gathered {
     pub draft: Draft,
     pub line: usize,

@@ -10,7 +10,7 @@ use crate::{Span, Stop};
 
 // What is told of a line that does not fit: a byte order mark, a carriage return that ends no line, that the line ends too soon, or the
 // octets that are quoted.
-#[derive(Drop)]
+#[derive(Clone, Copy)]
 pub enum Fault {
     Mark,
     Return,

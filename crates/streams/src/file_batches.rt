@@ -7,7 +7,7 @@ use rules::Measure;
 
 // What is wrong with a packet of a file: nothing; it is a packet of neither family; it is idle; it is longer than the lane's longest, and how long;
 // the file ends before it does.
-#[derive(Drop)]
+#[derive(Clone, Copy)]
 pub enum Wrong {
     Nothing,
     NoPacket,

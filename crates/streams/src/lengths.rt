@@ -3,7 +3,7 @@ ghost use Rattle.std.specs.Prelude.{◌≡◌, ◌+◌, ◌-◌, ◌≤◌, leng
 ghost use Rattle.streams.specs.Lengths.{is_blank, is_digit, front, value_from, ends_at, word_of, next_of};
 
 // What stands next in a list: nothing more, a number, or something else.
-#[derive(Drop)]
+#[derive(Clone, Copy)]
 pub enum Length {
     End,
     Of(usize),
@@ -11,7 +11,7 @@ pub enum Length {
 }
 
 // What stands next, how many blanks and line feeds are before it, and how many octets it has with these.
-#[derive(Drop)]
+#[derive(Clone, Copy)]
 pub struct Listed {
     pub length: Length,
     pub blanks: usize,

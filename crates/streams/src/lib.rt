@@ -18,7 +18,7 @@ use lengths::Length;
 // What ends the program early: nothing; a file or a list that cannot be read; what is wrong with the packet at an octet of a file; a unit that
 // is empty, above the lane's longest, or cut by the file's end; octets after the last unit; a word of a list that is no length; a batch that
 // the writer refused; standard output.
-#[derive(Drop)]
+#[derive(Clone, Copy)]
 pub enum Fault {
     Nothing,
     NotRead,
@@ -119,7 +119,7 @@ pub fn fill(fd: i32, w: Window, area: &mut [u8], room: usize) -> Window
 // ---- the next batch
 
 // What a file has: packets, one unit, or the units of a list.
-#[derive(Drop)]
+#[derive(Clone, Copy)]
 pub enum Form {
     Packets,
     Unit,
@@ -128,7 +128,7 @@ pub enum Form {
 
 // A lane's file: what the window on it and the one on its list hold; how many octets at the front are the batch that is being worked off, 0
 // for none; the lane, its longest unit, and what the file has.
-#[derive(Drop)]
+#[derive(Clone, Copy)]
 pub struct Stream {
     pub window: Window,
     pub list: Window,
@@ -139,7 +139,7 @@ pub struct Stream {
 }
 
 // The next batch: its octets, 0 for none; how many octets of the list it takes; and what is wrong.
-#[derive(Drop)]
+#[derive(Clone, Copy)]
 pub struct Next {
     pub batch: usize,
     pub used: usize,
@@ -255,7 +255,7 @@ fn next_of(s: Stream, octets: &[u8], list: &[u8]) -> Next
 }
 
 // A file whose next batch is at the front of its window, or what is wrong where there is none.
-#[derive(Drop)]
+#[derive(Clone, Copy)]
 pub struct Begun {
     pub stream: Stream,
     pub fault: Fault,

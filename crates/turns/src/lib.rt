@@ -20,7 +20,7 @@ use streams::{Fault, Form, Stream};
 
 // What goes from frame to frame: the writer's state, how many frames are written, how many octets stand in batches that are worked off, and what
 // went wrong.
-#[derive(Drop)]
+#[derive(Clone, Copy)]
 pub struct Course {
     pub state: Writer,
     pub frames: u64,
@@ -142,7 +142,7 @@ fn count_batch(c: Course, n: usize) -> Course
 // ---- turns
 
 // A turn: the course and the file after it, and whether there may be more.
-#[derive(Drop)]
+#[derive(Clone, Copy)]
 struct Step {
     course: Course,
     stream: Stream,
@@ -234,7 +234,7 @@ fn turn(
 
 // A file that is open: on its way into batches; its descriptor and its list's; how many octets of the names' area are the name of each; how many
 // OCF octets its frames have; and whether there may be more.
-#[derive(Drop)]
+#[derive(Clone, Copy)]
 pub struct Source {
     pub stream: Stream,
     pub name: usize,
@@ -296,7 +296,7 @@ fn read_on(x: Source, area: &mut [u8], list: &mut [u8]) -> Stream
 }
 
 // A file's turn and the file after it.
-#[derive(Drop)]
+#[derive(Clone, Copy)]
 pub struct Move {
     pub course: Course,
     pub source: Source,

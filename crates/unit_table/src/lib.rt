@@ -12,7 +12,7 @@ use rules::{Family, Kind, Lane, Measure, Setting, Verdict};
 use unpack_text::{LaneTally, Tally};
 
 // Where the units of a frame come from: its number, how many octets its lane had before it, and whether they are packets.
-#[derive(Drop)]
+#[derive(Clone, Copy)]
 pub struct Origin {
     pub frame: u64,
     pub base: u64,
@@ -20,7 +20,7 @@ pub struct Origin {
 }
 
 // What a line says of a unit's family: which it is of a packet, and nothing of an access unit.
-#[derive(Drop)]
+#[derive(Clone, Copy)]
 pub enum Sort {
     Space,
     Encapsulation,
@@ -28,7 +28,7 @@ pub enum Sort {
 }
 
 // What a line says of a unit.
-#[derive(Drop)]
+#[derive(Clone, Copy)]
 pub struct Row {
     pub offset: u64,
     pub frame: u64,

@@ -18,14 +18,14 @@ use rules::{Answer, Passed, Reader, Setting, Verdict};
 use unit_table::Origin;
 
 // What came of a frame: how many octets, and whether the system failed.
-#[derive(Drop)]
+#[derive(Clone, Copy)]
 pub struct Came {
     pub octets: usize,
     pub failed: bool,
 }
 
 // How a turn went with the system: well, or what failed: reading the recording, printing, or writing an output.
-#[derive(Drop)]
+#[derive(Clone, Copy)]
 pub enum Went {
     Well,
     NotRead,
@@ -35,7 +35,7 @@ pub enum Went {
 
 // Where a run's octets go, and what it says on the way: the descriptors of its outputs, how many frames are a hundredth of the recording (0 where
 // that is not known), whether no line a frame is printed, and whether there is a table of units.
-#[derive(Drop)]
+#[derive(Clone, Copy)]
 pub struct Sinks {
     pub fds: [i32; 10],
     pub hundredth: u64,
@@ -44,7 +44,7 @@ pub struct Sinks {
 }
 
 // A frame taken or left out: state and totals after it, whose it is, its answer, where its units come from, and whether it was left out.
-#[derive(Drop)]
+#[derive(Clone, Copy)]
 struct Step {
     state: Reader,
     totals: Totals,
@@ -55,7 +55,7 @@ struct Step {
 }
 
 // A turn: state and totals after it, how many frames there were, what came, how it went, and whether there may be more.
-#[derive(Drop)]
+#[derive(Clone, Copy)]
 pub struct Turn {
     pub state: Reader,
     pub totals: Totals,

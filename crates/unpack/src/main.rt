@@ -22,7 +22,7 @@ use words::{Asked, Program, Start};
 
 // What a run has: the plan of its outputs, where its octets go, what no output may replace, as the system knows it, and which virtual channels are left
 // out.
-#[derive(Drop)]
+#[derive(Clone, Copy)]
 struct Job {
     plan: Plan,
     sinks: Sinks,
@@ -31,7 +31,7 @@ struct Job {
 }
 
 // Whether all went well to the end, and how many frames there were.
-#[derive(Drop)]
+#[derive(Clone, Copy)]
 struct Outcome {
     count: u64,
     whole: bool,
@@ -327,7 +327,7 @@ fn with_name(s: Setting, fd: i32, recording: &[u8], f: Kept, q: Asked, prefix: &
 }
 
 // A word of the command line: how many octets it has, and whether the system gave it. What it had against it is said by then.
-#[derive(Drop)]
+#[derive(Clone, Copy)]
 struct Word {
     octets: usize,
     good: bool,

@@ -11,7 +11,7 @@ ghost use Rattle.unpack_text.specs.Lines.{Wrote, third, front_text, frame_line, 
 use rules::{Answer, Channel, Class, Reader, Setting, Slot, Verdict};
 
 // How many frames there were, how many of each class, and how many were left out.
-#[derive(Drop)]
+#[derive(Clone, Copy)]
 pub struct Classes {
     pub frames: u64,
     pub read: u64,
@@ -23,7 +23,7 @@ pub struct Classes {
 }
 
 // What all frames gave together: units, their octets, and octets that were idle, fill or dropped.
-#[derive(Drop)]
+#[derive(Clone, Copy)]
 pub struct Sums {
     pub units: u64,
     pub octets: u64,
@@ -33,7 +33,7 @@ pub struct Sums {
 }
 
 // What a lane read.
-#[derive(Drop)]
+#[derive(Clone, Copy)]
 pub struct LaneTally {
     pub frames: u64,
     pub units: u64,
@@ -41,14 +41,14 @@ pub struct LaneTally {
 }
 
 // What a channel took, counted or read; a repeat is not taken.
-#[derive(Drop)]
+#[derive(Clone, Copy)]
 pub struct ChannelTally {
     pub frames: u64,
     pub missing: u64,
 }
 
 // The totals of a recording.
-#[derive(Drop)]
+#[derive(Clone, Copy)]
 pub struct Tally {
     pub classes: Classes,
     pub sums: Sums,

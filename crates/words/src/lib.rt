@@ -70,7 +70,7 @@ pub fn behind(s: &[u8]) -> usize
 
 // What a word of the command line is: one of the program's own options, of which one gives a virtual channel, one of those that every program has,
 // an option that there is not, or a name.
-#[derive(Drop)]
+#[derive(Clone, Copy)]
 pub enum Word {
     First,
     Second,
@@ -83,7 +83,7 @@ pub enum Word {
 
 // What the command line asks for: how many names there are, up to four, and which words the first three are; the first option that there is not,
 // 0 for none; which options stand there; and which virtual channels are left out.
-#[derive(Drop)]
+#[derive(Clone, Copy)]
 pub struct Asked {
     pub names: usize,
     pub one: usize,
@@ -98,7 +98,7 @@ pub struct Asked {
 }
 
 // What a run of the program does: it prints its help or its version, refuses an option or the number of names, or does its work.
-#[derive(Drop)]
+#[derive(Clone, Copy)]
 pub enum Start {
     Help,
     Version,
@@ -127,7 +127,7 @@ pub fn word_of(word: &[u8]) -> Word
 }
 
 // The programs whose words are told here.
-#[derive(Drop)]
+#[derive(Clone, Copy)]
 pub enum Program {
     Unpack,
     Pack,

@@ -32,7 +32,7 @@ pub fn start_of(a: Asked) -> Start
 
 // What a word after the setting names: a lane's file, the list of lengths of the file before it, the insert octets, the OCF octets; it is an
 // option; or none of these.
-#[derive(Drop)]
+#[derive(Clone, Copy)]
 pub enum Named {
     ToLane(usize),
     Lengths,
@@ -90,7 +90,7 @@ pub fn name_of(s: &[u8], numbered: usize) -> Named
 
 // What is wrong with a word: nothing; it names the insert octets, the OCF octets or a lane again; it is a list of lengths, and the word before
 // it is no access lane's file; it names none of what it should; the system does not hand it out.
-#[derive(Drop)]
+#[derive(Clone, Copy)]
 pub enum Bad {
     Nothing,
     InsertTwice,
@@ -103,7 +103,7 @@ pub enum Bad {
 
 // What is wrong with the words, which of them name the insert and OCF octets, 0 for none, whether one names a lane's file, whether the last one
 // names an access lane's, and which lanes are named.
-#[derive(Drop)]
+#[derive(Clone, Copy)]
 pub struct Plan {
     pub insert: usize,
     pub ocf: usize,
@@ -223,7 +223,7 @@ pub fn is_fine(bad: Bad) -> bool
 
 // What stands against reading a file: nothing; it would be read twice, and what is no regular file need not give the same octets again; it is
 // standard output, and frames would be written into it.
-#[derive(Drop)]
+#[derive(Clone, Copy)]
 pub enum Objection {
     Nothing,
     NotRegular,

@@ -9,7 +9,7 @@ use crate::{Asked, Start, Word};
 use files::Known;
 
 // What a prefix is: one that names can begin with, nothing, or a folder.
-#[derive(Drop)]
+#[derive(Clone, Copy)]
 pub enum Prefix {
     Fine,
     Empty,
@@ -37,7 +37,7 @@ pub fn prefix_of(prefix: &[u8], k: Known) -> Prefix
 // ---- how much was read
 
 // How much was read: enough, nothing, or fewer frames than were refused.
-#[derive(Drop)]
+#[derive(Clone, Copy)]
 pub enum Little {
     Enough,
     Nothing,

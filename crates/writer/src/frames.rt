@@ -11,7 +11,7 @@ use rules::{Channel, Kind, Lane, Setting};
 
 // What a write looks up for the frame that is upcoming: the channel's place, the lane, the channel, its zone, the channel's count, the lane's
 // next number.
-#[derive(Drop)]
+#[derive(Clone, Copy)]
 pub struct Upcoming {
     pub place: usize,
     pub zone: usize,

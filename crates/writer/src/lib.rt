@@ -88,7 +88,7 @@ fn late_refusal(s: Setting, x: Upcoming, batch: &[u8], insert: &[u8], ocf: &[u8]
 }
 
 // What the checks of a write say: a refusal's number, or 0; and then where the first packet from the frame's zone on starts.
-#[derive(Drop)]
+#[derive(Clone, Copy)]
 struct Judged {
     start: usize,
     number: u8,
