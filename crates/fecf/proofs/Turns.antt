@@ -50,10 +50,10 @@ unfolding carried
 carry_all u j a long xs le h e =
     ap (λ (n : ℕ). take (16 * u) (drop n a)) (le_antisymm h le) ∙ sym (e ∙ ap (carried u (take (16 * u) (drop j a))) (drop_of_length-le xs h))
 
-carried-joined : (u : ℕ) (long xs ys : List ℕ) → carried u long (xs ++ ys) ≡ carried u (carried u long xs) ys
+carried-joined : (u : ℕ) (long : List ℕ) (xs ys : List ℕ) → carried u long (xs ++ ys) ≡ carried u (carried u long xs) ys
 unfolding carried
 carried-joined u long [] ys = refl
-carried-joined u long (x ∷ xs) ys = carried-joined u _ xs ys
+carried-joined u long (x ∷ xs) ys = carried-joined u (drop 1 long ++ next u long x ∷ []) xs ys
 
 -- A turn of 512 octets: carried on over them, the long register goes back to the front of its area.
 pub far-turn : (a b d xs part : List ℕ) (i : ℕ) → length b ≡ 768 → i + 512 ≤ length xs → part ≡ take (i + 512 - i) (drop i xs)

@@ -111,31 +111,31 @@ overflow_add-result-11 c =
     rw (returns c) (omega (arith, c.struct_known-10-1.given, c.requires))
 
 pub overflow_add-result-10 : goal.overflow_add-result-10
-overflow_add-result-10 c = Fits-le (le-add_right _ _) (add-result-11 c)
+overflow_add-result-10 c = Fits-le (le-add_right _ _) (overflow_add-result-11 c)
 
 pub overflow_add-result-9 : goal.overflow_add-result-9
-overflow_add-result-9 c = Fits-le (le-add_right _ _) (add-result-10 c)
+overflow_add-result-9 c = Fits-le (le-add_right _ _) (overflow_add-result-10 c)
 
 pub overflow_add-result-8 : goal.overflow_add-result-8
-overflow_add-result-8 c = Fits-le (le-add_right _ _) (add-result-9 c)
+overflow_add-result-8 c = Fits-le (le-add_right _ _) (overflow_add-result-9 c)
 
 pub overflow_add-result-7 : goal.overflow_add-result-7
-overflow_add-result-7 c = Fits-le (le-add_right _ _) (add-result-8 c)
+overflow_add-result-7 c = Fits-le (le-add_right _ _) (overflow_add-result-8 c)
 
 pub overflow_add-result-6 : goal.overflow_add-result-6
-overflow_add-result-6 c = Fits-le (le-add_right _ _) (add-result-7 c)
+overflow_add-result-6 c = Fits-le (le-add_right _ _) (overflow_add-result-7 c)
 
 pub overflow_add-result-5 : goal.overflow_add-result-5
-overflow_add-result-5 c = Fits-le (le-add_right _ _) (add-result-6 c)
+overflow_add-result-5 c = Fits-le (le-add_right _ _) (overflow_add-result-6 c)
 
 pub overflow_add-result-4 : goal.overflow_add-result-4
-overflow_add-result-4 c = Fits-le (le-add_right _ _) (add-result-5 c)
+overflow_add-result-4 c = Fits-le (le-add_right _ _) (overflow_add-result-5 c)
 
 pub overflow_add-result-3 : goal.overflow_add-result-3
-overflow_add-result-3 c = Fits-le (le-add_right _ _) (add-result-4 c)
+overflow_add-result-3 c = Fits-le (le-add_right _ _) (overflow_add-result-4 c)
 
 pub overflow_add-result-2 : goal.overflow_add-result-2
-overflow_add-result-2 c = Fits-le (le-add_right _ _) (add-result-3 c)
+overflow_add-result-2 c = Fits-le (le-add_right _ _) (overflow_add-result-3 c)
 
 pub overflow_add-result : goal.overflow_add-result
-overflow_add-result c = Fits-le (le-add_right _ _) (add-result-2 c)
+overflow_add-result c = Fits-le (le-add_right _ _) (overflow_add-result-2 c)

@@ -30,7 +30,7 @@ returns-then-n-h c = simp (lt-ltb _ _ c.if-n-h.true)
 
 pub returns-then-l-eq0 : goal.returns-then-l-eq0
 unfolding headed encapsulated
-returns-then-l-eq0 c = c.Alone-of.ensures ∙ simp (le-ltb _ _ c.if-n-h.false, eq-eqb _ _ c.if-l-eq0.true)
+returns-then-l-eq0 c = c.alone_of.ensures ∙ simp (le-ltb _ _ c.if-n-h.false, eq-eqb _ _ c.if-l-eq0.true)
 
 pub overflow_sub-from : goal.overflow_sub-from
 overflow_sub-from c = (fits c.args.a).within

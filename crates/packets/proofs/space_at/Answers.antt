@@ -11,4 +11,4 @@ returns-then-n-lt6 c = simp (lt-ltb _ _ c.if-n-lt6.true)
 
 pub returns : goal.returns
 unfolding headed space_packet
-returns c = c.Sized-of.ensures ∙ simp (le-ltb _ _ c.if-n-lt6.false)
+returns c = c.sized_of.ensures ∙ simp (le-ltb _ _ c.if-n-lt6.false)

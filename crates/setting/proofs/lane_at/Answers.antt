@@ -1,0 +1,26 @@
+use Prim.Native.Nat.{ℕ, ◌-◌, ◌<◌}
+use mathlib.Core.Bool.{false, ◌&&◌}
+use mathlib.Core.Path.{◌≡◌, sym, ◌∙◌}
+use borrow.Author.Rules.{rules}
+use borrow.Author.Count.{below_none, below_more}
+use Rattle.rules.specs.Tests.{◌=?◌}
+use Rattle.rules.specs.Settings.{lane}
+use Rattle.rules.specs.Refusals.{lane_at}
+use Rattle.setting.proofs.Loops.{finds, misses}
+use Rattle.setting.proofs.lane_at.Goals as goal
+
+pub loop-i-init : goal.loop-i-init
+loop-i-init c = below_none _
+
+pub returns-then-found : goal.returns-then-found
+unfolding lane_at
+returns-then-found c =
+    finds _ _ _ c.loop-i-test.true (sym c.lane_is-found.ensures ∙ c.if-found.true) c.loop-i.invariant
+
+pub loop-i-preserved : goal.loop-i-preserved
+loop-i-preserved c =
+    below_more _ _ c.loop-i.invariant (sym c.lane_is-found.ensures ∙ c.if-found.false)
+
+pub returns : goal.returns
+unfolding lane_at
+returns c = misses _ _ _ c.loop-i-test.false c.loop-i.invariant
