@@ -19,32 +19,29 @@ too_long Access longest upid h = one-fails _ 1 (lt-leb _ _ h)
 pub returns-then-longest-gt8192 : goal.returns-then-longest-gt8192
 returns-then-longest-gt8192 c = too_long _ _ _ c.if-longest-gt8192.true
 
-pub enum_told-1 : goal.enum_told-1
-enum_told-1 c = search rules
-
 pub returns-then-longest-lt2 : goal.returns-then-longest-lt2
 unfolding kind_ok
-returns-then-longest-lt2 c = rw c.enum_told-1.given.1 (one-fails _ 0 (lt-leb _ _ c.if-longest-lt2.true))
+returns-then-longest-lt2 c = rw c.in-Packets.is (one-fails _ 0 (lt-leb _ _ c.if-longest-lt2.true))
 
 pub returns-in-Packets : goal.returns-in-Packets
 unfolding kind_ok
 returns-in-Packets c =
-    rw c.enum_told-1.given.1
+    rw c.in-Packets.is
     (one_passes _ _ _ (le-leb _ _ c.if-longest-lt2.false)
     (one_passes _ _ _ (le-leb _ _ c.if-longest-gt8192.false) (last_decides _)))
 
 pub returns-then-longest-lt1 : goal.returns-then-longest-lt1
 unfolding kind_ok
-returns-then-longest-lt1 c = rw c.enum_told-in-Access-1.given.1 (one-fails _ 0 (lt-leb _ _ c.if-longest-lt1.true))
+returns-then-longest-lt1 c = rw c.in-Access.is (one-fails _ 0 (lt-leb _ _ c.if-longest-lt1.true))
 
 pub returns-then-upid-lt1 : goal.returns-then-upid-lt1
 unfolding kind_ok
-returns-then-upid-lt1 c = rw c.enum_told-in-Access-1.given.1 (one-fails _ 2 (lt-leb _ _ c.if-upid-lt1.true))
+returns-then-upid-lt1 c = rw c.in-Access.is (one-fails _ 2 (lt-leb _ _ c.if-upid-lt1.true))
 
 pub returns-in-Access : goal.returns-in-Access
 unfolding kind_ok
 returns-in-Access c =
-    rw c.enum_told-in-Access-1.given.1
+    rw c.in-Access.is
     (one_passes _ _ _ (le-leb _ _ c.if-longest-lt1.false)
     (one_passes _ _ _ (le-leb _ _ c.if-longest-gt8192.false)
     (one_passes _ _ _ (le-leb _ _ c.if-upid-lt1.false) (last_decides _))))
