@@ -75,15 +75,12 @@ module _ (b : List ℕ) (i : ℕ) (m : Measure) (is : m ≡ measure (take (lengt
   here = packets-front (drop i b) ∙ ap (λ (m : Measure). whole m (drop i b) packets) (sym (rw (rest b i) at is))
 
   -- No packet, or an idle one.
-  pub none_here : OneOf (0 ∷ 2 ∷ 3 ∷ []) (tag_of measure-type.the_type m) → packets (drop i b) ≡ []
+  pub none_here : ((f : Family) (n : ℕ) → m ≡ Packet f n → ⊥) → packets (drop i b) ≡ []
   none_here o = here ∙ go m o
     where
-      go : (m : Measure) → OneOf (0 ∷ 2 ∷ 3 ∷ []) (tag_of measure-type.the_type m) → whole m (drop i b) packets ≡ []
+      go : (m : Measure) → ((f : Family) (n : ℕ) → m ≡ Packet f n → ⊥) → whole m (drop i b) packets ≡ []
       go (Lacks k) o = refl
-      go (Packet f n) o =
-          absurd
-          (⊎_elim (λ (e : ◌≡◌ {A = ℕ} 1 0). omega arith)
-          (⊎_elim (λ (e : ◌≡◌ {A = ℕ} 1 2). omega arith) (λ (e : ◌≡◌ {A = ℕ} 1 3). omega arith)) o)
+      go (Packet f n) o = absurd (o f n refl)
       go (Idle n) o = refl
       go Unreadable o = refl
 

@@ -9,6 +9,7 @@ use mathlib.Core.List.{[], ◌∷◌}
 use denote.Enum.Declared.{tag_of}
 use types.Run.{OneOf}
 use Rattle.rules.specs.contracts.Measure as measure-type
+use Rattle.rules.specs.declared.Family.{Family}
 use Rattle.rules.specs.declared.Measure.{Measure}
 use Rattle.rules.specs.declared.Measure.TheVariants.{Lacks, Packet, Idle, Unreadable}
 use Rattle.rules.specs.declared.Next.TheVariants.{Lose}
@@ -38,12 +39,12 @@ cut-long longest true n h = rw (le-leb longest n h)
 cut-long longest false n h = refl
 
 -- What is no packet, no idle one, and lacks nothing, is unreadable, and is dropped.
-pub next-lost : (longest : ℕ) (m : Measure) (n : ℕ) → OneOf (0 ∷ 2 ∷ 3 ∷ []) (tag_of measure-type.the_type m)
-    → OneOf (0 ∷ 1 ∷ 3 ∷ []) (tag_of measure-type.the_type m) → OneOf (1 ∷ 2 ∷ 3 ∷ []) (tag_of measure-type.the_type m) → Lose ≡ next_of longest m n
+pub next-lost : (longest : ℕ) (m : Measure) (n : ℕ) → ((f : Family) (k : ℕ) → m ≡ Packet f k → ⊥)
+    → ((k : ℕ) → m ≡ Idle k → ⊥) → ((k : ℕ) → m ≡ Lacks k → ⊥) → Lose ≡ next_of longest m n
 unfolding next_of
-next-lost longest (Lacks k) n p q r = absurd (none_of 0 1 2 3 (λ e. omega arith) (λ e. omega arith) (λ e. omega arith) r)
-next-lost longest (Packet f k) n p q r = absurd (none_of 1 0 2 3 (λ e. omega arith) (λ e. omega arith) (λ e. omega arith) p)
-next-lost longest (Idle k) n p q r = absurd (none_of 2 0 1 3 (λ e. omega arith) (λ e. omega arith) (λ e. omega arith) q)
+next-lost longest (Lacks k) n p q r = absurd (r k refl)
+next-lost longest (Packet f k) n p q r = absurd (p f k refl)
+next-lost longest (Idle k) n p q r = absurd (q k refl)
 next-lost longest Unreadable n p q r = refl
 
 -- A unit above the longest is dropped.
