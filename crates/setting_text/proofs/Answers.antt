@@ -13,14 +13,9 @@ use Rattle.setting_text.specs.declared.Finding.{Finding}
 use Rattle.setting_text.specs.declared.Finding.TheVariants as finds
 use Rattle.setting_text.specs.Facts.{answered}
 
-pub answered-other : (f : Finding) (s : Setting) → OneOf (1 ∷ 2 ∷ 3 ∷ 4 ∷ []) (tag_of finding-type.the_type f)
-    → record { finding = f; setting = no_setting } ≡ answered f s
+pub answered-other : (f : Finding) (s : Setting) → (f ≡ finds.Good → ⊥) → record { finding = f; setting = no_setting } ≡ answered f s
 unfolding answered
-answered-other finds.Good s o =
-    absurd
-    (⊎_elim (λ (e : ◌≡◌ {A = ℕ} 0 1). omega arith)
-    (⊎_elim (λ (e : ◌≡◌ {A = ℕ} 0 2). omega arith)
-    (⊎_elim (λ (e : ◌≡◌ {A = ℕ} 0 3). omega arith) (λ (e : ◌≡◌ {A = ℕ} 0 4). omega arith))) o)
+answered-other finds.Good s o = absurd (o refl)
 answered-other (finds.Line n k w) s o = refl
 answered-other (finds.Lacks m) s o = refl
 answered-other (finds.Zone v b) s o = refl

@@ -1,0 +1,19 @@
+-- `reader::pass` meets its contract: what was found is shown, and then it is taken, or left where the decision says so.
+use Rattle.reader.proofs.Passing.{left-passes, taken-passes}
+use borrow.Author.Rules.{rules}
+use Rattle.reader.proofs.pass.Goals as goal
+
+pub returns-then-left : goal.returns-then-left
+returns-then-left c =
+    let a = c.args in
+    left-passes a.r a.frame.now _ c.find-v.ensures.0 _ c.shown-o.ensures a.without _
+    c.left_out-left.ensures a.held.now a.units.now a.records.now c.if-left.true _ c.passed_over-t.ensures
+
+pub take_found-t-requires : goal.take_found-t-requires
+take_found-t-requires c = c.find-v.ensures
+
+pub returns : goal.returns
+returns c =
+    let a = c.args in
+    taken-passes a.r a.frame.now _ c.find-v.ensures.0 _ c.shown-o.ensures a.without _
+    c.left_out-left.ensures a.held.now a.units.now a.records.now c.if-left.false _ _ _ _ c.take_found-t.ensures

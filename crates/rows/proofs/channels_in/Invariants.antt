@@ -1,0 +1,16 @@
+-- `rows::channels_in` meets its contract. Before slot i the first i slots are as their rows say.
+use Prim.Native.Nat.{ℕ, ◌≤◌, ◌+◌, ◌-◌, ◌*◌}
+use mathlib.Core.Path.{◌≡◌, refl, ◌∙◌, ap}
+use native.Mathlib.Omega.{arith}
+use lib.ListN.{length, length-set}
+use borrow.Author.Rules.{rules}
+use Rattle.rows.proofs.Turns.{slots-turn}
+use Rattle.rules.specs.Settings.{no_channel}
+use Rattle.rows.specs.States.{channel_in, slots, channels_in}
+use Rattle.rows.proofs.channels_in.Given as goal
+
+abbrev pub invariant-loop-i : goal.invariant-loop-i
+invariant-loop-i l = (l.i ≤ 8) × (length l.r ≡ 8) × (l.r ≡ slots no_channel (λ (j : ℕ). channel_in l.s (8 * (l.k + j))) l.i)
+
+abbrev pub decreases-loop-i : goal.decreases-loop-i
+decreases-loop-i l = 8 - l.i

@@ -1,0 +1,26 @@
+use Prim.Native.Nat.{ℕ, ◌≤◌, ◌+◌, ◌-◌, ◌*◌}
+use mathlib.Core.Path.{◌≡◌, refl, ◌∙◌, ap}
+use native.Mathlib.Omega.{arith}
+use lib.ListN.{length, length-set}
+use borrow.Author.Rules.{rules}
+use Rattle.rows.proofs.Turns.{slots-turn}
+use mathlib.Core.Bool.{false}
+use Rattle.rules.specs.Tests.{◌=?◌}
+use Rattle.rows.specs.Rows.{word}
+use Rattle.rows.specs.States.{slots, known_in}
+use Rattle.rows.proofs.known_in.Goals as goal
+
+pub loop-i-init : goal.loop-i-init
+unfolding slots
+loop-i-init c = (search rules, refl, refl)
+
+pub loop-i-preserved : goal.loop-i-preserved
+loop-i-preserved c =
+    let told = ap (λ (n : ℕ). n =? 1) c.word_in-n.ensures in
+    (search rules, simp length-set c.loop-i.invariant.1, slots-turn _ _ _ _ _ c.loop-i.invariant.2 told)
+
+pub returns : goal.returns
+unfolding known_in
+returns c =
+    let e : c.loop-i.i ≡ 8 = omega arith in
+    c.loop-i.invariant.2 ∙ ap (slots _ _) e

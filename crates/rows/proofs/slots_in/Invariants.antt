@@ -1,0 +1,16 @@
+-- `rows::slots_in` meets its contract. Before slot i the first i slots are as their rows say.
+use Prim.Native.Nat.{ℕ, ◌≤◌, ◌+◌, ◌-◌, ◌*◌}
+use mathlib.Core.Path.{◌≡◌, refl, ◌∙◌, ap}
+use native.Mathlib.Omega.{arith}
+use lib.ListN.{length, length-set}
+use borrow.Author.Rules.{rules}
+use Rattle.rows.proofs.Turns.{slots-turn}
+use Rattle.rules.specs.Settings.{no_slot}
+use Rattle.rows.specs.States.{slot_in, slots, slots_in}
+use Rattle.rows.proofs.slots_in.Given as goal
+
+abbrev pub invariant-loop-i : goal.invariant-loop-i
+invariant-loop-i l = (l.i ≤ 8) × (length l.r ≡ 8) × (l.r ≡ slots no_slot (λ (j : ℕ). slot_in l.s (8 * (l.k + j))) l.i)
+
+abbrev pub decreases-loop-i : goal.decreases-loop-i
+decreases-loop-i l = 8 - l.i

@@ -1,0 +1,18 @@
+-- `setting_text::find_all` meets its contract. What was never said, or the whole setting decides.
+use mathlib.Core.Path.{sym, ◌∙◌}
+use Rattle.rules.proofs.Tests.{found_at}
+use Rattle.setting_text.specs.Facts.{lacking, missing, all_found}
+use borrow.Author.Rules.{rules}
+use Rattle.setting_text.proofs.find_all.Goals as goal
+
+pub bounds-m-k : goal.bounds-m-k
+unfolding lacking
+bounds-m-k c = let h = found_at _ _ _ (sym c.lacking_at-p.ensures ∙ c.in-At.is) in search rules
+
+pub returns-in-At : goal.returns-in-At
+unfolding all_found missing
+returns-in-At c = rw (sym c.lacking_at-p.ensures ∙ c.in-At.is)
+
+pub returns-in-Nowhere : goal.returns-in-Nowhere
+unfolding all_found
+returns-in-Nowhere c = rw (sym c.lacking_at-p.ensures ∙ c.in-Nowhere.is) c.judge.ensures
