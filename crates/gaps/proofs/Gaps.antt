@@ -15,7 +15,7 @@ use Rattle.rules.specs.declared.Slot.{Slot}
 use Rattle.rules.specs.declared.Reader.{Reader}
 use Rattle.rules.specs.Tests.{◌=?◌}
 use Rattle.rules.specs.Settings.{no_lane, no_slot, channel, lane, expect, held_by, reader_ok}
-use Rattle.rules.specs.Reading.{missing, emptied, lost, lanes_of, gap_by, gap}
+use Rattle.rules.specs.Reading.{emptied, lost, lanes_of, gap_by, gap}
 use Rattle.rules.specs.Valid.{GoodReader}
 use Rattle.rules.proofs.Valid.{good_reader}
 use Rattle.rules.specs.Areas.{held_size, part_size}

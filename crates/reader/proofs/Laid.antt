@@ -11,7 +11,7 @@ use Rattle.rules.specs.declared.Gap.{Gap}
 use Rattle.rules.specs.declared.Setting.{Setting}
 use Rattle.rules.specs.declared.Slot.{Slot}
 use Rattle.rules.specs.declared.Taken.{Taken}
-use Rattle.rules.specs.Areas.{laid, part, part_size, units_size}
+use Rattle.rules.specs.Areas.{laid, part_size, units_size}
 use Rattle.rules.specs.Reading.{held_in, Made, lane_step, info_of}
 use Rattle.rules.specs.Settings.{lane, channel_of, slot, zone_at, zone}
 use Rattle.rules.specs.Frames.{zone_in, count_in}

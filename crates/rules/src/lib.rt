@@ -2,7 +2,6 @@
 // has its wide fields first and its narrow ones last, whatever the paper's order: the gaps between them would be copied piece by piece.
 #![tactic(auto)]
 
-
 // Sizes in octets: of the held area, of a lane's part of it, of the least unit and record areas, of a record, of the longest batch.
 pub const HELD_SIZE: usize = 65536;
 

@@ -1,12 +1,5 @@
 -- An answer that is not good has a setting of zeros.
-use Prim.Native.Nat.{ℕ}
 use mathlib.Core.Path.{◌≡◌, refl}
-use mathlib.Core.Logic.{⊎_elim}
-use mathlib.Core.List.{[], ◌∷◌}
-use native.Mathlib.Omega.{arith}
-use denote.Enum.Declared.{tag_of}
-use types.Run.{OneOf}
-use Rattle.setting_text.specs.contracts.Finding as finding-type
 use Rattle.rules.specs.declared.Setting.{Setting}
 use Rattle.rules.specs.Settings.{no_setting}
 use Rattle.setting_text.specs.declared.Finding.{Finding}

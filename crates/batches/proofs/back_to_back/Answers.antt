@@ -1,6 +1,5 @@
 -- The packets before that octet, then those from it on: together they are the whole batch.
 use native.Mathlib.Omega.{arith}
-use borrow.Author.Rules.{rules}
 use Rattle.batches.specs.Starts.{Passes}
 use Rattle.batches.proofs.Batches.{stands_by}
 use Rattle.batches.proofs.back_to_back.Goals as goal

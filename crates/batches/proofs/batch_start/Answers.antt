@@ -1,6 +1,5 @@
 -- No batch is empty; the tests on the way are the rule's first ones, and the last call or comparison is the rest of it.
 use native.Mathlib.Omega.{arith}
-use borrow.Author.Rules.{rules}
 use Rattle.batches.proofs.Batches.{packets-keep, packets-above, access-above, access-ok, batch_empty}
 use Rattle.batches.proofs.batch_start.Goals as goal
 

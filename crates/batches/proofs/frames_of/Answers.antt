@@ -2,7 +2,6 @@
 use mathlib.Core.Path.{sym}
 use native.Mathlib.Omega.{arith}
 use native.Mathlib.Nat.{div-zero}
-use borrow.Author.Rules.{rules}
 use Rattle.batches.proofs.Zones.{frames-full, frames-rest, frames-below}
 use Rattle.batches.proofs.frames_of.Goals as goal
 

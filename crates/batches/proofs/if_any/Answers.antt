@@ -1,5 +1,4 @@
 -- By cases on the place.
-use borrow.Author.Rules.{rules}
 use Rattle.batches.proofs.if_any.Goals as goal
 
 pub returns-in-At : goal.returns-in-At

@@ -2,7 +2,6 @@
 use mathlib.Core.Path.{◌≡◌}
 use native.Mathlib.Nat.{mul-one}
 use native.Mathlib.Omega.{arith}
-use borrow.Author.Rules.{rules}
 use Rattle.rules.specs.Packets.{packets}
 use Rattle.rules.specs.Writing.{start_from, offset_of}
 use Rattle.batches.proofs.offset_at.Goals as goal

@@ -1,9 +1,6 @@
 use mathlib.Core.Path.{refl}
-use Prim.Native.Nat.{◌-◌}
 use native.Mathlib.Omega.{arith}
-use lib.ListN.{length}
-use borrow.Author.Rules.{rules}
-use Rattle.batches.proofs.Batches.{none_here, long-here, cut-here, more-here, Passing, passed, passed_none, passed-above, passed-more}
+use Rattle.batches.proofs.Batches.{none_here, long-here, cut-here, more-here, passed, passed_none, passed-above, passed-more}
 use Rattle.batches.proofs.packets_to.Goals as goal
 
 pub loop-i-init : goal.loop-i-init

@@ -1,11 +1,8 @@
 -- The invariant: what is asked of the octets from `from` on is what is asked of those from octet i on. A whole packet takes octets from
 -- both sides; a rest with no whole packet at its front fails the test.
-use mathlib.Core.Path.{refl}
 use Prim.Native.Nat.{◌-◌}
-use native.Mathlib.Omega.{arith}
 use lib.ListN.{length}
-use borrow.Author.Rules.{rules}
-use Rattle.batches.proofs.Batches.{none_here, long-here, cut-here, more-here, Passing, passed, passed_none, passed-above, passed-more}
+use Rattle.batches.proofs.Batches.{Passing}
 use Rattle.batches.proofs.packets_to.Given as goal
 
 abbrev pub invariant-loop-i : goal.invariant-loop-i

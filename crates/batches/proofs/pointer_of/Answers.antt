@@ -1,7 +1,6 @@
 -- The offset where it is in the zone, and the pointer to nowhere otherwise.
 use mathlib.Core.Path.{◌∙◌}
 use borrow.Author.Tests.{lt-ltb, le-ltb}
-use borrow.Author.Rules.{rules}
 use Rattle.rules.specs.Writing.{inside, pointer_of}
 use Rattle.batches.proofs.Zones.{offset_from}
 use Rattle.batches.proofs.pointer_of.Goals as goal

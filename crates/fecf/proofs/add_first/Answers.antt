@@ -1,8 +1,6 @@
-use Prim.Native.Nat.{◌-◌, ◌≤◌}
-use mathlib.Core.Path.{◌≡◌, refl}
-use lib.ListN.{length, take, length-set}
+use mathlib.Core.Path.{refl}
+use lib.ListN.{length-set}
 use borrow.Author.Rules.{rules}
-use Rattle.fecf.specs.Folds.{plus}
 use Rattle.fecf.proofs.Turns.{plus_none, plus_turn, plus-all}
 use Rattle.fecf.proofs.add_first.Goals as goal
 

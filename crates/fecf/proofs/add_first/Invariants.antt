@@ -1,10 +1,8 @@
 -- `fecf::add_first` meets its contract: after j turns the first j octets are added.
 use Prim.Native.Nat.{◌-◌, ◌≤◌}
-use mathlib.Core.Path.{◌≡◌, refl}
-use lib.ListN.{length, take, length-set}
-use borrow.Author.Rules.{rules}
+use mathlib.Core.Path.{◌≡◌}
+use lib.ListN.{length, take}
 use Rattle.fecf.specs.Folds.{plus}
-use Rattle.fecf.proofs.Turns.{plus_none, plus_turn, plus-all}
 use Rattle.fecf.proofs.add_first.Given as goal
 
 abbrev pub invariant-loop-j : goal.invariant-loop-j

@@ -1,8 +1,6 @@
-use Prim.Native.Nat.{◌-◌, ◌≤◌}
-use mathlib.Core.Path.{◌≡◌, refl}
-use lib.ListN.{length, take, drop, length-set}
+use mathlib.Core.Path.{refl}
+use lib.ListN.{drop, length-set}
 use borrow.Author.Rules.{rules}
-use Rattle.fecf.specs.Folds.{plus}
 use Rattle.fecf.proofs.Turns.{plus_none, later-turn, later-all}
 use Rattle.fecf.proofs.add_later.Goals as goal
 

@@ -1,10 +1,8 @@
 -- `fecf::add_later` meets its contract: after j turns the first j octets have theirs added.
 use Prim.Native.Nat.{◌-◌, ◌≤◌}
-use mathlib.Core.Path.{◌≡◌, refl}
-use lib.ListN.{length, take, drop, length-set}
-use borrow.Author.Rules.{rules}
+use mathlib.Core.Path.{◌≡◌}
+use lib.ListN.{length, take, drop}
 use Rattle.fecf.specs.Folds.{plus}
-use Rattle.fecf.proofs.Turns.{plus_none, later-turn, later-all}
 use Rattle.fecf.proofs.add_later.Given as goal
 
 abbrev pub invariant-loop-j : goal.invariant-loop-j

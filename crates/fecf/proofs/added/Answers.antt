@@ -3,7 +3,6 @@ use Prim.Native.Nat.{ℕ, ◌*◌, ◌%◌, ◌<◌}
 use mathlib.Core.Path.{◌≡◌, ap₂, ◌∙◌}
 use native.Mathlib.Omega.{arith}
 use lib.Bits.{bit_xor, xor_mod}
-use borrow.Author.Rules.{rules}
 use Rattle.fecf.proofs.added.Goals as goal
 
 low_half : (r e : ℕ) → e < 65536 → bit_xor (r % 16777216 * 256) e % 65536 ≡ bit_xor (r * 256 % 65536) e

@@ -1,8 +1,6 @@
-use Prim.Native.Nat.{◌-◌, ◌*◌, ◌≤◌}
-use mathlib.Core.Path.{◌≡◌, refl, ◌∙◌}
-use lib.ListN.{length, take, drop, length-set}
+use mathlib.Core.Path.{refl, ◌∙◌}
+use lib.ListN.{length-set}
 use borrow.Author.Rules.{rules}
-use Rattle.fecf.specs.Folds.{carried}
 use Rattle.fecf.proofs.Turns.{carry_turn, carry_all}
 use Rattle.fecf.proofs.carry.Goals as goal
 

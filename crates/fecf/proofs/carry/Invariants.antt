@@ -1,10 +1,8 @@
 -- `fecf::carry` meets its contract: over the octets that are left, the long register so far comes to what it has to be.
 use Prim.Native.Nat.{◌-◌, ◌*◌, ◌≤◌}
-use mathlib.Core.Path.{◌≡◌, refl, ◌∙◌}
-use lib.ListN.{length, take, drop, length-set}
-use borrow.Author.Rules.{rules}
+use mathlib.Core.Path.{◌≡◌}
+use lib.ListN.{length, take, drop}
 use Rattle.fecf.specs.Folds.{carried}
-use Rattle.fecf.proofs.Turns.{carry_turn, carry_all}
 use Rattle.fecf.proofs.carry.Given as goal
 
 abbrev pub invariant-loop-j : goal.invariant-loop-j

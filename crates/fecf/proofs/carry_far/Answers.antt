@@ -1,8 +1,5 @@
-use Prim.Native.Nat.{◌-◌, ◌≤◌}
-use mathlib.Core.Path.{◌≡◌, refl, sym, ◌∙◌}
-use lib.ListN.{length, take, drop}
+use mathlib.Core.Path.{refl, sym, ◌∙◌}
 use borrow.Author.Rules.{rules}
-use Rattle.fecf.specs.Folds.{carried}
 use Rattle.fecf.proofs.Turns.{far-turn, far-all}
 use Rattle.fecf.proofs.carry_far.Goals as goal
 

@@ -1,10 +1,8 @@
 -- `fecf::carry_far` meets its contract: over the octets that are left, the long register so far comes to what it has to be.
 use Prim.Native.Nat.{◌-◌, ◌≤◌}
-use mathlib.Core.Path.{◌≡◌, refl, sym, ◌∙◌}
+use mathlib.Core.Path.{◌≡◌}
 use lib.ListN.{length, take, drop}
-use borrow.Author.Rules.{rules}
 use Rattle.fecf.specs.Folds.{carried}
-use Rattle.fecf.proofs.Turns.{far-turn, far-all}
 use Rattle.fecf.proofs.carry_far.Given as goal
 
 abbrev pub invariant-loop-i : goal.invariant-loop-i

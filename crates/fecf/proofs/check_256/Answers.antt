@@ -6,7 +6,6 @@ use lib.ListN.{length}
 use Rattle.fecf.specs.Remainders.{from_by}
 use Rattle.fecf.specs.Folds.{preset, shorter, shortest}
 use Rattle.fecf.proofs.Turns.{part-long}
-use borrow.Author.Rules.{rules}
 use Rattle.fecf.proofs.check_256.Goals as goal
 
 pub returns : goal.returns

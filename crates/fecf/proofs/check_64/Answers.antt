@@ -6,7 +6,6 @@ use lib.ListN.{length}
 use Rattle.fecf.specs.Remainders.{from_by}
 use Rattle.fecf.specs.Folds.{preset}
 use Rattle.fecf.proofs.Turns.{placed}
-use borrow.Author.Rules.{rules}
 use Rattle.fecf.proofs.check_64.Goals as goal
 
 pub returns : goal.returns

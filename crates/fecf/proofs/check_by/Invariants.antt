@@ -1,13 +1,8 @@
 -- `fecf::check_by` meets its contract: the register after all octets is that after the rest, from the register so far.
-use Prim.Native.Nat.{ℕ, ◌+◌, ◌-◌, ◌%◌, ◌≤◌, ◌<◌}
-use mathlib.Core.Path.{◌≡◌, sym, ap, ◌∙◌}
-use mathlib.Core.List.{List}
-use native.Mathlib.Numerals.{add-one}
-use native.Mathlib.Omega.{arith}
-use lib.ListN.{length, get_or, drop, drop_of_length-le}
-use lib.Seq.{drop-cons}
-use borrow.Author.Rules.{rules}
-use Rattle.fecf.specs.Remainders.{step_by, from_by}
+use Prim.Native.Nat.{◌-◌, ◌%◌, ◌≤◌}
+use mathlib.Core.Path.{◌≡◌}
+use lib.ListN.{length, drop}
+use Rattle.fecf.specs.Remainders.{from_by}
 use Rattle.fecf.proofs.check_by.Given as goal
 
 abbrev pub invariant-loop-i : goal.invariant-loop-i

@@ -8,7 +8,6 @@ use Rattle.fecf.specs.Remainders.{from_by}
 use Rattle.fecf.specs.Folds.{preset, shortest}
 use lib.Seq.{length-take-le}
 use Rattle.fecf.proofs.Turns.{made_shorter, part-long}
-use borrow.Author.Rules.{rules}
 use Rattle.fecf.proofs.check_long.Goals as goal
 
 pub slice_bounds-carry_far-end-2 : goal.slice_bounds-carry_far-end-2

@@ -2,7 +2,6 @@
 -- same, entry for entry. The rest is a law over all inputs.
 use mathlib.Core.Path.{refl, ◌∙◌}
 use native.Mathlib.Omega.{arith}
-use borrow.Author.Rules.{rules}
 use Rattle.rules.specs.Octets.{check_bit, check_bits}
 use Rattle.rules.proofs.Octets.{octets_each}
 use Rattle.fecf.specs.Remainders.{remainder, remainders}

@@ -4,7 +4,6 @@ use native.Mathlib.Omega.{arith}
 use lib.ListN.{length}
 use borrow.Author.Tests.{le-leb, lt-leb}
 use Rattle.fecf.specs.Folds.{check_by}
-use borrow.Author.Rules.{rules}
 use Rattle.fecf.proofs.check_with.Goals as goal
 
 pub returns-then-octets-lt128 : goal.returns-then-octets-lt128

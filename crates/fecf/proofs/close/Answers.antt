@@ -1,6 +1,5 @@
 -- `fecf::close` meets its contract: three calls.
 use Rattle.fecf.specs.Folds.{closed}
-use borrow.Author.Rules.{rules}
 use Rattle.fecf.proofs.close.Goals as goal
 
 pub returns : goal.returns

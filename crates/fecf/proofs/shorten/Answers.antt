@@ -5,7 +5,6 @@ use native.Mathlib.Omega.{arith}
 use lib.ListN.{length}
 use lib.Seq.{length-take-le}
 use Rattle.fecf.proofs.Turns.{shortened}
-use borrow.Author.Rules.{rules}
 use Rattle.fecf.proofs.shorten.Goals as goal
 
 pub slice_bounds-carry-end : goal.slice_bounds-carry-end

@@ -6,7 +6,6 @@ use native.Mathlib.Omega.{arith}
 use lib.ListN.{get_or}
 use lib.Bits.{bit_xor, xor_lt}
 use lib.Pow.{mod-pow-add}
-use borrow.Author.Rules.{rules}
 use Rattle.fecf.specs.Remainders.{step_by}
 use Rattle.fecf.proofs.Agreement.{moved}
 use Rattle.fecf.proofs.taken.Goals as goal

@@ -1,10 +1,8 @@
 -- `fecf::to_front` meets its contract: after j turns the first j octets are the moved ones.
 use Prim.Native.Nat.{◌-◌, ◌≤◌}
-use mathlib.Core.Path.{◌≡◌, refl}
-use lib.ListN.{length, drop, length-set}
-use lib.Seq.{paste, paste-zero}
-use borrow.Author.Rules.{rules}
-use Rattle.fecf.proofs.Turns.{front-turn, front-all}
+use mathlib.Core.Path.{◌≡◌}
+use lib.ListN.{length, drop}
+use lib.Seq.{paste}
 use Rattle.fecf.proofs.to_front.Given as goal
 
 abbrev pub invariant-loop-j : goal.invariant-loop-j

@@ -1,10 +1,8 @@
-use Prim.Native.Nat.{◌-◌}
-use lib.ListN.{length, take, set, length-map}
+use lib.ListN.{length, set}
 use mathlib.Core.Path.{◌≡◌, ap, ◌∙◌}
-use mathlib.Core.Logic.{⊎_elim}
 use borrow.Author.Rules.{rules}
 use Rattle.rules.specs.declared.Slot.{Slot}
-use Rattle.gaps.proofs.Gaps.{Emptying, emptying-none, its, drops, keeps, emptied-now}
+use Rattle.gaps.proofs.Gaps.{emptying-none, drops, keeps, emptied-now}
 use Rattle.gaps.proofs.emptied_of.Goals as goal
 use Rattle.gaps.proofs.emptied_of.Goals.{then-a-c, else-a-c}
 

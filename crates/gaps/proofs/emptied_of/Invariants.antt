@@ -1,11 +1,7 @@
 -- `gaps::emptied_of` meets its contract: the loop keeps that the lanes below i have dropped theirs and the others are as they were.
 use Prim.Native.Nat.{◌-◌}
-use lib.ListN.{length, take, set, length-map}
-use mathlib.Core.Path.{◌≡◌, ap, ◌∙◌}
-use mathlib.Core.Logic.{⊎_elim}
-use borrow.Author.Rules.{rules}
-use Rattle.rules.specs.declared.Slot.{Slot}
-use Rattle.gaps.proofs.Gaps.{Emptying, emptying-none, its, drops, keeps, emptied-now}
+use lib.ListN.{take}
+use Rattle.gaps.proofs.Gaps.{Emptying, its}
 use Rattle.gaps.proofs.emptied_of.Given as goal
 
 abbrev pub invariant-loop-i : goal.invariant-loop-i

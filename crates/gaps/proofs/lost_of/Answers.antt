@@ -1,10 +1,7 @@
-use lib.ListN.{length-map}
-use Prim.Native.Nat.{◌-◌}
 use lib.ListN.{length}
 use mathlib.Core.Path.{◌≡◌}
-use mathlib.Core.Logic.{⊎_elim}
 use borrow.Author.Rules.{rules}
-use Rattle.gaps.proofs.Gaps.{Losing, losing_none, loses, spares, lost-now}
+use Rattle.gaps.proofs.Gaps.{losing_none, loses, spares, lost-now}
 use Rattle.gaps.proofs.lost_of.Goals as goal
 use Rattle.gaps.proofs.lost_of.Goals.{then-a-c, else-a-c}
 

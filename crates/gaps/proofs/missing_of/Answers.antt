@@ -6,7 +6,6 @@ use native.Mathlib.Omega.{arith}
 use Rattle.rules.specs.Reading.{missing}
 use Rattle.rules.proofs.Octets.{pow256_pos}
 use Rattle.gaps.proofs.Gaps.{modulus_is, modulus_small}
-use borrow.Author.Rules.{rules}
 use Rattle.gaps.proofs.missing_of.Goals as goal
 
 pub overflow_add-result : goal.overflow_add-result

@@ -8,7 +8,6 @@ use borrow.Author.Tests.{eq-eqb, ne_eqb}
 use Rattle.rules.specs.Reading.{last_taken, repeats}
 use Rattle.rules.proofs.Octets.{pow256_pos}
 use Rattle.gaps.proofs.Gaps.{modulus_is, modulus_small}
-use borrow.Author.Rules.{rules}
 use Rattle.gaps.proofs.repeats_of.Goals as goal
 
 pub overflow_add-last : goal.overflow_add-last

@@ -5,7 +5,6 @@ use native.Mathlib.Nat.{one-mul, mod-lt}
 use native.Mathlib.Omega.{arith}
 use lib.Dec.{lit<}
 use lib.Pow.{pow_pos, shl_exact}
-use borrow.Author.Rules.{rules}
 use Rattle.header.proofs.bits.Goals as goal
 
 pub nonzero_rem-result : goal.nonzero_rem-result

@@ -6,7 +6,6 @@ use native.Mathlib.Omega.{arith}
 use Rattle.rules.specs.Octets.{num}
 use Rattle.rules.specs.Frames.{count_in}
 use Rattle.rules.proofs.Octets.{octets_each, octets_drop, num-part}
-use borrow.Author.Rules.{rules}
 use Rattle.header.proofs.count_in.Goals as goal
 
 pub returns : goal.returns

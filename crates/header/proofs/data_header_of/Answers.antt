@@ -1,6 +1,5 @@
 -- `header::data_header_of` meets its contract: rule, UPID and pointer are the fields.
 use Rattle.header.specs.Heads.{data_fields}
-use borrow.Author.Rules.{rules}
 use Rattle.header.proofs.data_header_of.Goals as goal
 
 pub returns : goal.returns

@@ -2,7 +2,6 @@
 use native.Mathlib.Omega.{arith}
 use Rattle.rules.specs.Octets.{packed, widths}
 use Rattle.header.specs.Heads.{data_fields}
-use borrow.Author.Rules.{rules}
 use Rattle.header.proofs.data_number.Goals as goal
 
 pub returns : goal.returns

@@ -3,7 +3,6 @@ use Rattle.rules.specs.Octets.{bits}
 use Rattle.header.specs.Heads.{head_of}
 use lib.Dec.{lit<, lit≤}
 use mir.Facts.{Fits-bits}
-use borrow.Author.Rules.{rules}
 use Rattle.header.proofs.head_of.Goals as goal
 
 pub bits-requires : goal.bits-requires

@@ -7,7 +7,6 @@ use mathlib.Core.Path.{◌≡◌, sym, ap, ◌∙◌}
 use Prim.Native.Nat.{◌-◌}
 use Rattle.rules.specs.Octets.{num}
 use Rattle.rules.specs.Frames.{check_holds}
-use borrow.Author.Rules.{rules}
 use Rattle.judge.proofs.check_holds.Goals as goal
 
 pub slice_bounds-check_of-end : goal.slice_bounds-check_of-end

@@ -2,7 +2,6 @@
 use mathlib.Core.Path.{sym, ◌∙◌}
 use borrow.Author.Tests.{eq-eqb, ne_eqb, lt-ltb, le-ltb}
 use Rattle.judge.specs.Judging.{data_wrong_of}
-use borrow.Author.Rules.{rules}
 use Rattle.judge.proofs.data_wrong.Goals as goal
 
 pub returns-then-d-a : goal.returns-then-d-a

@@ -1,7 +1,6 @@
 -- `judge::field_refusal` meets its contract: each test on the way is one of the rule's rows.
 use borrow.Author.Tests.{eq-eqb, ne_eqb}
 use Rattle.judge.specs.Judging.{field_refusal}
-use borrow.Author.Rules.{rules}
 use Rattle.judge.proofs.field_refusal.Goals as goal
 
 pub returns-then-h-s : goal.returns-then-h-s

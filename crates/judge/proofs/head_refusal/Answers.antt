@@ -1,7 +1,6 @@
 -- `judge::head_refusal` meets its contract: each test on the way is one of the rule's rows.
 use borrow.Author.Tests.{eq-eqb, ne_eqb}
 use Rattle.judge.specs.Judging.{head_refusal}
-use borrow.Author.Rules.{rules}
 use Rattle.judge.proofs.head_refusal.Goals as goal
 
 pub returns-then-h-ne12 : goal.returns-then-h-ne12

@@ -11,7 +11,6 @@ use Rattle.header.specs.Heads.{head_of}
 use Rattle.judge.specs.Judging.{judge_channel}
 use Rattle.judge.specs.Sights.{sight_of}
 use Rattle.judge.proofs.Places.{channel-found}
-use borrow.Author.Rules.{rules}
 use Rattle.judge.proofs.judge_channel.Goals as goal
 
 pub channel_at-p-requires : goal.channel_at-p-requires

@@ -4,7 +4,6 @@ use mathlib.Core.Path.{sym, ap}
 use Rattle.judge.proofs.Places.{fits, lane-eight}
 use Rattle.judge.proofs.Sights.{refused-12, seen-is}
 use Rattle.judge.specs.Sights.{sight_of}
-use borrow.Author.Rules.{rules}
 use Rattle.judge.proofs.judge_data.Goals as goal
 
 pub offset_bounds-lanes-l : goal.offset_bounds-lanes-l

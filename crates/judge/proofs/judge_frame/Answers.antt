@@ -6,7 +6,6 @@ use Rattle.rules.proofs.Valid.{good}
 use Rattle.judge.specs.Judging.{judge_frame, judge_head, head_refusal}
 use Rattle.judge.specs.Sights.{sight_of}
 use Rattle.judge.proofs.Judging.{judge-frame}
-use borrow.Author.Rules.{rules}
 use Rattle.judge.proofs.judge_frame.Goals as goal
 
 pub returns-then-frame-s : goal.returns-then-frame-s

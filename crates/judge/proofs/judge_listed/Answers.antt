@@ -10,7 +10,6 @@ use Rattle.judge.specs.Judging.{judge_listed}
 use Rattle.judge.specs.Sights.{sight_of}
 use Rattle.judge.proofs.Places.{fits}
 use Rattle.judge.proofs.Sights.{fitting}
-use borrow.Author.Rules.{rules}
 use Rattle.judge.proofs.judge_listed.Goals as goal
 
 pub offset_bounds-channels-c : goal.offset_bounds-channels-c

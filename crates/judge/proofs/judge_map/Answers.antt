@@ -11,7 +11,6 @@ use Rattle.judge.specs.Judging.{judge_map}
 use Rattle.judge.specs.Sights.{sight_of}
 use Rattle.judge.proofs.Places.{lane-found, lane-on}
 use Rattle.judge.proofs.Sights.{counted_is}
-use borrow.Author.Rules.{rules}
 use Rattle.judge.proofs.judge_map.Goals as goal
 
 pub lane_at-p-requires : goal.lane_at-p-requires

@@ -1,6 +1,5 @@
 -- One case of the kind after another.
 use borrow.Author.Tests.{eq-eqb, ne_eqb}
-use borrow.Author.Rules.{rules}
 use Rattle.rules.specs.Refusals.{rule_fits}
 use Rattle.judge.proofs.rule_fits.Goals as goal
 

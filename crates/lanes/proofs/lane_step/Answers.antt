@@ -2,7 +2,6 @@
 use mathlib.Core.Path.{sym}
 use native.Mathlib.Omega.{arith}
 use lib.Seq.{length-take-le}
-use borrow.Author.Rules.{rules}
 use Rattle.lanes.proofs.Hands.{held-length}
 use Rattle.lanes.proofs.Parts.{opens-ready, stops-went, walks-room, walks-went, lent_ready, stepped}
 use Rattle.lanes.proofs.lane_step.Goals as goal

@@ -1,5 +1,4 @@
 -- Held octets and lead are measured together, as the rule does.
-use borrow.Author.Rules.{rules}
 use Rattle.lanes.proofs.lead_of.Goals as goal
 
 pub returns : goal.returns

@@ -2,7 +2,6 @@
 use mathlib.Core.Path.{sym, ap, ◌∙◌}
 use native.Mathlib.Omega.{arith}
 use lib.ListN.{length}
-use borrow.Author.Rules.{rules}
 use Rattle.rules.proofs.Measures.{measure-eight}
 use Rattle.lanes.proofs.Fronts.{more-length, front_length, first-laid, front-laid, front-is}
 use Rattle.lanes.proofs.measure_of.Goals as goal

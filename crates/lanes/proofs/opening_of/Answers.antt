@@ -1,6 +1,5 @@
 -- Each kind of lane has its own.
 use mathlib.Core.Path.{refl}
-use borrow.Author.Rules.{rules}
 use Rattle.rules.specs.Reading.{lane_step}
 use Rattle.lanes.proofs.opening_of.Goals as goal
 

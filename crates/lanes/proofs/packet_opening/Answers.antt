@@ -2,7 +2,6 @@
 use mathlib.Core.Path.{sym}
 use native.Mathlib.Omega.{arith}
 use lib.Seq.{length-take-le}
-use borrow.Author.Rules.{rules}
 use Rattle.lanes.proofs.Parts.{lead-at, lead-nowhere}
 use Rattle.lanes.proofs.packet_opening.Goals as goal
 

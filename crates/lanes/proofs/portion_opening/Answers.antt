@@ -1,5 +1,4 @@
 -- Octets that begin a unit leave those held to be dropped; others follow them.
-use borrow.Author.Rules.{rules}
 use Rattle.lanes.specs.Steps.{portion_opening}
 use Rattle.lanes.proofs.portion_opening.Goals as goal
 

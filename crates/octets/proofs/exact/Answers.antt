@@ -1,6 +1,5 @@
 -- `octets::exact` meets its contract: what eight octets spell is below 2^64.
 use Rattle.octets.proofs.Turns.{exact_number}
-use borrow.Author.Rules.{rules}
 use native.Mathlib.Omega.{arith}
 use Rattle.octets.proofs.exact.Goals as goal
 

@@ -1,10 +1,8 @@
 -- `octets::fill` meets its contract: after i turns the first i octets are x.
 use Prim.Native.Nat.{◌≤◌, ◌-◌}
-use mathlib.Core.Path.{◌≡◌, refl}
+use mathlib.Core.Path.{◌≡◌}
 use mathlib.Core.List.{◌++◌}
-use lib.ListN.{length, drop, replicate, length-set}
-use borrow.Author.Rules.{rules}
-use Rattle.octets.proofs.Turns.{fill-turn, fill-full}
+use lib.ListN.{length, drop, replicate}
 use Rattle.octets.proofs.fill.Given as goal
 
 abbrev pub invariant-loop-i : goal.invariant-loop-i

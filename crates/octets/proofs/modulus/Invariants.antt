@@ -1,9 +1,6 @@
 -- `octets::modulus` meets its contract: m is 256^i after i turns, and from 256^8 on nothing is left modulo 2^64.
 use Prim.Native.Nat.{◌≤◌, ◌<◌, ◌-◌, ◌^◌}
-use mathlib.Core.Path.{◌≡◌, refl}
-use borrow.Author.Rules.{rules}
-use native.Mathlib.Omega.{arith}
-use Rattle.octets.proofs.Turns.{none_left, modulus_turn, small, modulus_all}
+use mathlib.Core.Path.{◌≡◌}
 use Rattle.octets.proofs.modulus.Given as goal
 
 abbrev pub invariant-loop-i : goal.invariant-loop-i

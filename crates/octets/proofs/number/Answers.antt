@@ -1,6 +1,4 @@
-use Prim.Native.Nat.{◌≤◌, ◌-◌, ◌%◌, ◌^◌}
-use mathlib.Core.Path.{◌≡◌, refl}
-use lib.ListN.{length, take}
+use mathlib.Core.Path.{refl}
 use Rattle.rules.specs.Octets.{num}
 use borrow.Author.Rules.{rules}
 use native.Mathlib.Omega.{arith}

@@ -1,11 +1,8 @@
 -- `octets::number` meets its contract: after i turns v is what the first i octets spell, modulo 2^64.
 use Prim.Native.Nat.{◌≤◌, ◌-◌, ◌%◌, ◌^◌}
-use mathlib.Core.Path.{◌≡◌, refl}
+use mathlib.Core.Path.{◌≡◌}
 use lib.ListN.{length, take}
 use Rattle.rules.specs.Octets.{num}
-use borrow.Author.Rules.{rules}
-use native.Mathlib.Omega.{arith}
-use Rattle.octets.proofs.Turns.{number-turn, number-all}
 use Rattle.octets.proofs.number.Given as goal
 
 abbrev pub invariant-loop-i : goal.invariant-loop-i

@@ -1,6 +1,5 @@
-use borrow.Author.Rules.{rules}
 use native.Mathlib.Omega.{arith}
-use Rattle.octets.proofs.Turns.{Spelled, spell_none, spell_turn, spell_all, spelled-long}
+use Rattle.octets.proofs.Turns.{spell_none, spell_turn, spell_all, spelled-long}
 use Rattle.octets.proofs.spell.Goals as goal
 
 pub loop-i-init : goal.loop-i-init

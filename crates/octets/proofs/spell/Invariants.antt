@@ -1,7 +1,5 @@
 -- `octets::spell` meets its contract: what is left of the number is spelled by the octets not written yet.
-use borrow.Author.Rules.{rules}
-use native.Mathlib.Omega.{arith}
-use Rattle.octets.proofs.Turns.{Spelled, spell_none, spell_turn, spell_all, spelled-long}
+use Rattle.octets.proofs.Turns.{Spelled}
 use Rattle.octets.proofs.spell.Given as goal
 
 abbrev pub invariant-loop-i : goal.invariant-loop-i

@@ -5,7 +5,6 @@ use native.Mathlib.Omega.{arith}
 use mathlib.Core.List.{List}
 use lib.ListN.{take, drop, length-take}
 use borrow.Author.Tests.{eq-eqb, ne_eqb, lt-ltb, le-ltb}
-use borrow.Author.Rules.{rules}
 use Rattle.rules.specs.Octets.{num}
 use Rattle.rules.specs.Packets.{protocol, length_of_length, header_size, length_size, total_in, totalled, encapsulated, headed}
 use Rattle.rules.proofs.Measures.{Fits, entry_fits}

@@ -2,7 +2,6 @@
 use mathlib.Core.Path.{sym, ◌∙◌}
 use native.Mathlib.Omega.{arith}
 use borrow.Author.Tests.{eq-eqb}
-use borrow.Author.Rules.{rules}
 use Rattle.rules.specs.Packets.{measured}
 use Rattle.rules.proofs.Measures.{measure-empty, measure-first}
 use Rattle.packets.proofs.measure_at.Goals as goal

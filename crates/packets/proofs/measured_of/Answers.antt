@@ -1,7 +1,6 @@
 -- The code's tests are the rule's, in its order.
 use mathlib.Core.Path.{◌∙◌}
 use borrow.Author.Tests.{eq-eqb, ne_eqb}
-use borrow.Author.Rules.{rules}
 use Rattle.rules.specs.Packets.{measured}
 use Rattle.packets.proofs.measured_of.Goals as goal
 

@@ -1,6 +1,5 @@
 -- One test, that of the rule; sums of octets fit.
 use borrow.Author.Tests.{eq-eqb, ne_eqb}
-use borrow.Author.Rules.{rules}
 use Rattle.rules.specs.Packets.{sized}
 use Rattle.packets.proofs.sized_of.Goals as goal
 

@@ -1,7 +1,6 @@
 -- Octets of the header are lacking, or octets 0, 1, 4 and 5 are there.
 use mathlib.Core.Path.{◌∙◌}
 use borrow.Author.Tests.{lt-ltb, le-ltb}
-use borrow.Author.Rules.{rules}
 use Rattle.rules.specs.Packets.{space_packet, headed}
 use Rattle.packets.proofs.space_at.Goals as goal
 

@@ -3,7 +3,6 @@ use mathlib.Core.Path.{refl, sym, ◌∙◌}
 use Rattle.rules.specs.Calls.{on_verdict}
 use Rattle.judge.proofs.Sights.{refused-sight, idle-sight, repeat-sight}
 use Rattle.reader.proofs.Verdicts.{said, gone, areas-kept}
-use borrow.Author.Rules.{rules}
 use Rattle.reader.proofs.act_on.Goals as goal
 
 pub take_seen-requires : goal.take_seen-requires

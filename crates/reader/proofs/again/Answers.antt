@@ -1,19 +1,11 @@
 -- `reader::again` meets its contract: what was not seen stays as it is.
 -- Of what was seen the channel decides: the frame is a repeat where its count is the last one taken there.
-use Prim.Native.Nat.{ℕ}
 use mathlib.Core.Path.{◌≡◌, refl, sym, ◌∙◌}
-use mathlib.Core.Logic.{⊎_elim}
-use mathlib.Core.List.{[], ◌∷◌}
-use native.Mathlib.Omega.{arith}
-use denote.Enum.Declared.{tag_of}
-use types.Run.{OneOf}
-use Rattle.judge.specs.contracts.Sighting as sighting-type
 use Rattle.rules.specs.declared.Reader.{Reader}
 use Rattle.judge.specs.declared.Sight.{Sight}
 use Rattle.judge.specs.declared.Sighting.{Sighting}
 use Rattle.judge.specs.declared.Sighting.TheVariants.{Refused, Idle, Seen, Repeat}
 use Rattle.reader.specs.Finds.{again_of}
-use borrow.Author.Rules.{rules}
 use Rattle.reader.proofs.again.Goals as goal
 
 not_seen : (r : Reader) (v : Sighting) → ((x : Sight) → v ≡ Seen x → ⊥) → v ≡ again_of r v

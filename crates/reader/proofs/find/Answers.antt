@@ -2,7 +2,6 @@
 use mathlib.Core.Path.{ap, ◌∙◌}
 use Rattle.reader.specs.Finds.{missing_for, found_of}
 use Rattle.reader.proofs.Verdicts.{missing-found}
-use borrow.Author.Rules.{rules}
 use Rattle.reader.proofs.find.Goals as goal
 
 pub returns : goal.returns

@@ -1,7 +1,6 @@
 -- `reader::look` meets its contract: what was found, shown, is the rule's look.
 use Rattle.rules.proofs.Promises.{look-by}
 use Rattle.reader.proofs.Passing.{is-look}
-use borrow.Author.Rules.{rules}
 use Rattle.reader.proofs.look.Goals as goal
 
 pub returns : goal.returns

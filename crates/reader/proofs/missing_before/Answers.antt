@@ -1,7 +1,6 @@
 -- `reader::missing_before` meets its contract: of a frame that was seen, the channel's missing; of any other, none.
 use mathlib.Core.Path.{sym, ap, ◌∙◌}
 use Rattle.reader.specs.Finds.{missing_for}
-use borrow.Author.Rules.{rules}
 use Rattle.reader.proofs.missing_before.Goals as goal
 
 pub missing_at-requires : goal.missing_at-requires

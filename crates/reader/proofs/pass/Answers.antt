@@ -1,6 +1,5 @@
 -- `reader::pass` meets its contract: what was found is shown, and then it is taken, or left where the decision says so.
 use Rattle.reader.proofs.Passing.{left-passes, taken-passes}
-use borrow.Author.Rules.{rules}
 use Rattle.reader.proofs.pass.Goals as goal
 
 pub returns-then-left : goal.returns-then-left

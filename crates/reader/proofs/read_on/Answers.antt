@@ -4,7 +4,6 @@ use mathlib.Core.Path.{◌≡◌}
 use Prim.Native.Nat.{◌+◌, ◌-◌, ◌*◌}
 use Rattle.rules.specs.Areas.{part_size}
 use Rattle.reader.proofs.Laid.{eight, channel-eight, inside, lent-here, few-dropped, laid-here}
-use borrow.Author.Rules.{rules}
 use Rattle.reader.proofs.read_on.Goals as goal
 
 pub terms_for-terms-requires : goal.terms_for-terms-requires

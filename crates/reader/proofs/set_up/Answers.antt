@@ -2,7 +2,6 @@
 use mathlib.Core.Path.{sym, ◌∙◌}
 use Rattle.rules.specs.Calls.{set_up_reader}
 use Rattle.rules.proofs.Promises.{reader-starts-by}
-use borrow.Author.Rules.{rules}
 use Rattle.reader.proofs.set_up.Goals as goal
 
 pub returns-then-ok : goal.returns-then-ok

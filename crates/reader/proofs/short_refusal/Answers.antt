@@ -1,6 +1,5 @@
 -- `reader::short_refusal` meets its contract: by whether the state is valid.
 use mathlib.Core.Path.{sym, ◌∙◌}
-use borrow.Author.Rules.{rules}
 use Rattle.reader.proofs.short_refusal.Goals as goal
 
 pub returns-then-valid : goal.returns-then-valid

@@ -2,7 +2,6 @@
 use mathlib.Core.Path.{sym, ap, ◌∙◌}
 use Rattle.judge.specs.declared.Sighting.{Sighting}
 use Rattle.reader.specs.Finds.{shown_by}
-use borrow.Author.Rules.{rules}
 use Rattle.reader.proofs.shown.Goals as goal
 
 pub returns-in-Refused : goal.returns-in-Refused

@@ -9,7 +9,6 @@ use Rattle.rules.proofs.Looks.{looked-cond}
 use Rattle.judge.specs.Sights.{sight_of}
 use Rattle.reader.specs.Finds.{again_of}
 use Rattle.reader.proofs.Verdicts.{sound, sound-again, again-sight}
-use borrow.Author.Rules.{rules}
 use Rattle.reader.proofs.sight_of.Goals as goal
 
 pub judge_frame-v-requires : goal.judge_frame-v-requires

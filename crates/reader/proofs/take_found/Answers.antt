@@ -2,7 +2,6 @@
 use mathlib.Core.Path.{refl, sym, ◌∙◌}
 use Rattle.rules.specs.Calls.{on_verdict}
 use Rattle.reader.proofs.Verdicts.{found-lent, found-short, areas-kept}
-use borrow.Author.Rules.{rules}
 use Rattle.reader.proofs.take_found.Goals as goal
 
 pub returns-then-short : goal.returns-then-short

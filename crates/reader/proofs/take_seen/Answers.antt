@@ -1,6 +1,5 @@
 -- `reader::take_seen` meets its contract: the count is taken, and what the sight says of the lane decides.
 use Rattle.reader.proofs.Verdicts.{counted-kept, on-lane, lane-kept}
-use borrow.Author.Rules.{rules}
 use Rattle.reader.proofs.take_seen.Goals as goal
 
 pub gap_of-g-requires : goal.gap_of-g-requires

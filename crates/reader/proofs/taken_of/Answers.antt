@@ -1,5 +1,4 @@
 -- `reader::taken_of` meets its contract: the lane's slot is what it holds now, all others are as they were.
-use borrow.Author.Rules.{rules}
 use Rattle.reader.proofs.taken_of.Goals as goal
 
 pub returns : goal.returns

@@ -3,7 +3,6 @@ use mathlib.Core.Path.{sym, ap, ◌∙◌}
 use Rattle.rules.specs.declared.Class.{Class}
 use Rattle.rules.specs.declared.Verdict.{Verdict}
 use Rattle.rules.specs.Passes.{whose, whose_of}
-use borrow.Author.Rules.{rules}
 use Rattle.reader.proofs.whose.Goals as goal
 
 pub returns-in-Idle : goal.returns-in-Idle

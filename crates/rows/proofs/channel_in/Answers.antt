@@ -1,6 +1,5 @@
 -- `rows::channel_in` meets its contract. Each number of the channel is where the row has it.
 use Rattle.rows.specs.States.{channel_in}
-use borrow.Author.Rules.{rules}
 use Rattle.rows.proofs.channel_in.Goals as goal
 
 pub returns : goal.returns

@@ -1,6 +1,5 @@
 -- `rows::channel_row` meets its contract. Number by number.
 use Rattle.rows.specs.States.{channel_row}
-use borrow.Author.Rules.{rules}
 use Rattle.rows.proofs.channel_row.Goals as goal
 
 pub returns : goal.returns

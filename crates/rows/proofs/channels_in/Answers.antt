@@ -1,11 +1,9 @@
-use Prim.Native.Nat.{ℕ, ◌≤◌, ◌+◌, ◌-◌, ◌*◌}
 use mathlib.Core.Path.{◌≡◌, refl, ◌∙◌, ap}
 use native.Mathlib.Omega.{arith}
-use lib.ListN.{length, length-set}
+use lib.ListN.{length-set}
 use borrow.Author.Rules.{rules}
 use Rattle.rows.proofs.Turns.{slots-turn}
-use Rattle.rules.specs.Settings.{no_channel}
-use Rattle.rows.specs.States.{channel_in, slots, channels_in}
+use Rattle.rows.specs.States.{slots, channels_in}
 use Rattle.rows.proofs.channels_in.Goals as goal
 
 pub loop-i-init : goal.loop-i-init

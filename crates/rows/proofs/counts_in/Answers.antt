@@ -1,10 +1,8 @@
-use Prim.Native.Nat.{ℕ, ◌≤◌, ◌+◌, ◌-◌, ◌*◌}
 use mathlib.Core.Path.{◌≡◌, refl, ◌∙◌, ap}
 use native.Mathlib.Omega.{arith}
-use lib.ListN.{length, length-set}
+use lib.ListN.{length-set}
 use borrow.Author.Rules.{rules}
 use Rattle.rows.proofs.Turns.{slots-turn}
-use Rattle.rows.specs.Rows.{word}
 use Rattle.rows.specs.States.{slots, counts_in}
 use Rattle.rows.proofs.counts_in.Goals as goal
 

@@ -1,12 +1,9 @@
 -- `rows::counts_in` meets its contract. Before slot i the first i slots are as their rows say.
 use Prim.Native.Nat.{ℕ, ◌≤◌, ◌+◌, ◌-◌, ◌*◌}
-use mathlib.Core.Path.{◌≡◌, refl, ◌∙◌, ap}
-use native.Mathlib.Omega.{arith}
-use lib.ListN.{length, length-set}
-use borrow.Author.Rules.{rules}
-use Rattle.rows.proofs.Turns.{slots-turn}
+use mathlib.Core.Path.{◌≡◌}
+use lib.ListN.{length}
 use Rattle.rows.specs.Rows.{word}
-use Rattle.rows.specs.States.{slots, counts_in}
+use Rattle.rows.specs.States.{slots}
 use Rattle.rows.proofs.counts_in.Given as goal
 
 abbrev pub invariant-loop-i : goal.invariant-loop-i

@@ -1,6 +1,5 @@
 -- `rows::front_row` meets its contract. Number by number.
 use Rattle.rows.specs.States.{front_row}
-use borrow.Author.Rules.{rules}
 use Rattle.rows.proofs.front_row.Goals as goal
 
 pub returns : goal.returns

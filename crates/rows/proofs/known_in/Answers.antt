@@ -1,12 +1,10 @@
-use Prim.Native.Nat.{ℕ, ◌≤◌, ◌+◌, ◌-◌, ◌*◌}
+use Prim.Native.Nat.{ℕ}
 use mathlib.Core.Path.{◌≡◌, refl, ◌∙◌, ap}
 use native.Mathlib.Omega.{arith}
-use lib.ListN.{length, length-set}
+use lib.ListN.{length-set}
 use borrow.Author.Rules.{rules}
 use Rattle.rows.proofs.Turns.{slots-turn}
-use mathlib.Core.Bool.{false}
 use Rattle.rules.specs.Tests.{◌=?◌}
-use Rattle.rows.specs.Rows.{word}
 use Rattle.rows.specs.States.{slots, known_in}
 use Rattle.rows.proofs.known_in.Goals as goal
 

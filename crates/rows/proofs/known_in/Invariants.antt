@@ -1,14 +1,11 @@
 -- `rows::known_in` meets its contract. Before slot i the first i slots are as their rows say.
 use Prim.Native.Nat.{ℕ, ◌≤◌, ◌+◌, ◌-◌, ◌*◌}
-use mathlib.Core.Path.{◌≡◌, refl, ◌∙◌, ap}
-use native.Mathlib.Omega.{arith}
-use lib.ListN.{length, length-set}
-use borrow.Author.Rules.{rules}
-use Rattle.rows.proofs.Turns.{slots-turn}
+use mathlib.Core.Path.{◌≡◌}
+use lib.ListN.{length}
 use mathlib.Core.Bool.{false}
 use Rattle.rules.specs.Tests.{◌=?◌}
 use Rattle.rows.specs.Rows.{word}
-use Rattle.rows.specs.States.{slots, known_in}
+use Rattle.rows.specs.States.{slots}
 use Rattle.rows.proofs.known_in.Given as goal
 
 abbrev pub invariant-loop-i : goal.invariant-loop-i

@@ -1,6 +1,5 @@
 -- `rows::lane_in` meets its contract. Each number of the lane is where the row has it.
 use Rattle.rows.specs.States.{lane_in}
-use borrow.Author.Rules.{rules}
 use Rattle.rows.proofs.lane_in.Goals as goal
 
 pub returns : goal.returns

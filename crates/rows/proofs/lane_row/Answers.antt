@@ -1,6 +1,5 @@
 -- `rows::lane_row` meets its contract. Number by number.
 use Rattle.rows.specs.States.{lane_row}
-use borrow.Author.Rules.{rules}
 use Rattle.rows.proofs.lane_row.Goals as goal
 
 pub returns : goal.returns

@@ -1,6 +1,5 @@
 -- `rows::next_in` meets its contract. Number by number.
 use Rattle.rows.specs.States.{slots, counts_in}
-use borrow.Author.Rules.{rules}
 use Rattle.rows.proofs.next_in.Goals as goal
 
 pub returns : goal.returns

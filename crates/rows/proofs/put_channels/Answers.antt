@@ -1,10 +1,6 @@
-use Prim.Native.Nat.{ℕ, ◌≤◌, ◌-◌, ◌*◌}
-use mathlib.Core.Path.{◌≡◌, ◌∙◌, sym, ap}
+use mathlib.Core.Path.{◌∙◌, sym, ap}
 use native.Mathlib.Omega.{arith}
-use lib.ListN.{length, get_or}
 use borrow.Author.Rules.{rules}
-use Rattle.rules.specs.Areas.{laid}
-use Rattle.rules.specs.Settings.{no_channel, expect_on}
 use Rattle.rules.proofs.Areas.{laid_nil}
 use Rattle.rows.specs.States.{channel_row, rows, channel_rows}
 use Rattle.rows.proofs.Rows.{rows-turn, rows_all, channel-long}

@@ -1,12 +1,8 @@
-use Prim.Native.Nat.{ℕ, ◌≤◌, ◌-◌, ◌*◌}
-use mathlib.Core.Path.{◌≡◌, ◌∙◌, sym}
+use mathlib.Core.Path.{◌∙◌, sym}
 use native.Mathlib.Omega.{arith}
-use lib.ListN.{length, get_or}
 use borrow.Author.Rules.{rules}
-use Rattle.rules.specs.Areas.{laid}
-use Rattle.rules.specs.Settings.{no_lane}
 use Rattle.rules.proofs.Areas.{laid_nil}
-use Rattle.rows.specs.States.{no_tail, lane_row, rows, lane_rows}
+use Rattle.rows.specs.States.{rows, lane_rows}
 use Rattle.rows.proofs.Rows.{rows-turn, rows_all, lane-long}
 use Rattle.rows.proofs.put_lanes.Goals as goal
 

@@ -1,14 +1,10 @@
 -- `rows::put_lanes` meets its contract. Before row i the first i rows stand in the area.
 use Prim.Native.Nat.{ℕ, ◌≤◌, ◌-◌, ◌*◌}
-use mathlib.Core.Path.{◌≡◌, ◌∙◌, sym}
-use native.Mathlib.Omega.{arith}
+use mathlib.Core.Path.{◌≡◌}
 use lib.ListN.{length, get_or}
-use borrow.Author.Rules.{rules}
 use Rattle.rules.specs.Areas.{laid}
 use Rattle.rules.specs.Settings.{no_lane}
-use Rattle.rules.proofs.Areas.{laid_nil}
-use Rattle.rows.specs.States.{no_tail, lane_row, rows, lane_rows}
-use Rattle.rows.proofs.Rows.{rows-turn, rows_all, lane-long}
+use Rattle.rows.specs.States.{no_tail, lane_row, rows}
 use Rattle.rows.proofs.put_lanes.Given as goal
 
 abbrev pub invariant-loop-i : goal.invariant-loop-i

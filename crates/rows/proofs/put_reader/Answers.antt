@@ -5,7 +5,6 @@ use Prim.Native.Nat.{◌*◌}
 use Rattle.rules.specs.Areas.{laid}
 use Rattle.rows.specs.declared.Tail.{Tail}
 use Rattle.rows.specs.States.{state_octets, reader_octets}
-use borrow.Author.Rules.{rules}
 use Rattle.rows.proofs.put_reader.Goals as goal
 
 pub returns : goal.returns

@@ -1,8 +1,6 @@
 use mathlib.Core.Path.{sym}
-use Prim.Native.Nat.{◌≤◌, ◌-◌, ◌*◌}
-use mathlib.Core.Path.{◌≡◌, ◌∙◌}
-use lib.ListN.{length, take}
-use Rattle.rules.specs.Areas.{laid}
+use Prim.Native.Nat.{◌*◌}
+use mathlib.Core.Path.{◌∙◌}
 use Rattle.rules.proofs.Areas.{laid_nil}
 use Rattle.rows.specs.Rows.{spelled}
 use Rattle.rows.proofs.Rows.{row-turn, row-all}

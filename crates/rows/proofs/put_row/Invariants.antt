@@ -1,13 +1,9 @@
 -- `rows::put_row` meets its contract. Before number i the first i numbers stand in the area.
-use mathlib.Core.Path.{sym}
 use Prim.Native.Nat.{◌≤◌, ◌-◌, ◌*◌}
-use mathlib.Core.Path.{◌≡◌, ◌∙◌}
+use mathlib.Core.Path.{◌≡◌}
 use lib.ListN.{length, take}
 use Rattle.rules.specs.Areas.{laid}
-use Rattle.rules.proofs.Areas.{laid_nil}
 use Rattle.rows.specs.Rows.{spelled}
-use Rattle.rows.proofs.Rows.{row-turn, row-all}
-use borrow.Author.Rules.{rules}
 use Rattle.rows.proofs.put_row.Given as goal
 
 abbrev pub invariant-loop-i : goal.invariant-loop-i

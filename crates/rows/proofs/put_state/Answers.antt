@@ -1,6 +1,5 @@
 -- `rows::put_state` meets its contract. Front, channels and lanes are laid one after another.
 use Rattle.rows.proofs.Rows.{state-laid}
-use borrow.Author.Rules.{rules}
 use Rattle.rows.proofs.put_state.Goals as goal
 
 pub returns : goal.returns

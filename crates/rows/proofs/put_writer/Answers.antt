@@ -7,7 +7,6 @@ use Rattle.rows.specs.declared.Tail.{Tail}
 use Rattle.rules.specs.Areas.{laid}
 use Prim.Native.Nat.{◌*◌}
 use Rattle.rows.specs.States.{state_octets, writer_octets}
-use borrow.Author.Rules.{rules}
 use Rattle.rows.proofs.put_writer.Goals as goal
 
 pub returns : goal.returns

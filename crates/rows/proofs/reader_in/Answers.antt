@@ -1,7 +1,6 @@
 -- `rows::reader_in` meets its contract. The state is its setting, its expected counts and its slots.
 use Rattle.rows.specs.States.{reader_in}
 use native.Mathlib.Omega.{arith}
-use borrow.Author.Rules.{rules}
 use Rattle.rows.proofs.reader_in.Goals as goal
 
 pub setting_in-setting-requires : goal.setting_in-setting-requires

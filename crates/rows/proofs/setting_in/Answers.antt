@@ -1,6 +1,5 @@
 -- `rows::setting_in` meets its contract. The setting is its first numbers, its channels and its lanes.
 use Rattle.rows.specs.States.{setting_in}
-use borrow.Author.Rules.{rules}
 use Rattle.rows.proofs.setting_in.Goals as goal
 
 pub returns : goal.returns

@@ -1,6 +1,5 @@
 -- `rows::slot_in` meets its contract. What is held and its span stand where the row has them.
 use Rattle.rows.specs.States.{slot_in}
-use borrow.Author.Rules.{rules}
 use Rattle.rows.proofs.slot_in.Goals as goal
 
 pub returns : goal.returns

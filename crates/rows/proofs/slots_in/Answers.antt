@@ -1,11 +1,9 @@
-use Prim.Native.Nat.{ℕ, ◌≤◌, ◌+◌, ◌-◌, ◌*◌}
 use mathlib.Core.Path.{◌≡◌, refl, ◌∙◌, ap}
 use native.Mathlib.Omega.{arith}
-use lib.ListN.{length, length-set}
+use lib.ListN.{length-set}
 use borrow.Author.Rules.{rules}
 use Rattle.rows.proofs.Turns.{slots-turn}
-use Rattle.rules.specs.Settings.{no_slot}
-use Rattle.rows.specs.States.{slot_in, slots, slots_in}
+use Rattle.rows.specs.States.{slots, slots_in}
 use Rattle.rows.proofs.slots_in.Goals as goal
 
 pub loop-i-init : goal.loop-i-init

@@ -1,12 +1,9 @@
 -- `rows::slots_in` meets its contract. Before slot i the first i slots are as their rows say.
 use Prim.Native.Nat.{ℕ, ◌≤◌, ◌+◌, ◌-◌, ◌*◌}
-use mathlib.Core.Path.{◌≡◌, refl, ◌∙◌, ap}
-use native.Mathlib.Omega.{arith}
-use lib.ListN.{length, length-set}
-use borrow.Author.Rules.{rules}
-use Rattle.rows.proofs.Turns.{slots-turn}
+use mathlib.Core.Path.{◌≡◌}
+use lib.ListN.{length}
 use Rattle.rules.specs.Settings.{no_slot}
-use Rattle.rows.specs.States.{slot_in, slots, slots_in}
+use Rattle.rows.specs.States.{slot_in, slots}
 use Rattle.rows.proofs.slots_in.Given as goal
 
 abbrev pub invariant-loop-i : goal.invariant-loop-i

@@ -1,7 +1,6 @@
 -- `rows::tail_of` meets its contract. Number by number.
 use mathlib.Core.Path.{refl}
 use Rattle.rows.specs.States.{tail_of}
-use borrow.Author.Rules.{rules}
 use Rattle.rows.proofs.tail_of.Goals as goal
 
 pub returns : goal.returns

@@ -1,6 +1,5 @@
 -- `rows::tails_of` meets its contract. Slot by slot.
 use Rattle.rows.specs.States.{slots, tails_of}
-use borrow.Author.Rules.{rules}
 use Rattle.rows.proofs.tails_of.Goals as goal
 
 pub returns : goal.returns

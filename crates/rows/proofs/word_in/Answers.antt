@@ -5,7 +5,6 @@ use mathlib.Core.Path.{◌≡◌, ap, ◌∙◌}
 use Rattle.rules.specs.Octets.{num}
 use native.Mathlib.Omega.{arith}
 use Rattle.rows.specs.Rows.{word}
-use borrow.Author.Rules.{rules}
 use Rattle.rows.proofs.word_in.Goals as goal
 
 pub returns : goal.returns

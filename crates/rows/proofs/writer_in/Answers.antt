@@ -1,6 +1,5 @@
 -- `rows::writer_in` meets its contract. The state is its setting, its counts and its next frame numbers.
 use Rattle.rows.specs.States.{writer_in}
-use borrow.Author.Rules.{rules}
 use Rattle.rows.proofs.writer_in.Goals as goal
 
 pub returns : goal.returns

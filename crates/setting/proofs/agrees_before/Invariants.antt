@@ -1,11 +1,8 @@
 -- `setting::agrees_before` meets its contract: the loop keeps that each channel before j agrees with channel i.
 use Prim.Native.Nat.{ℕ, ◌-◌, ◌<◌}
 use mathlib.Core.Bool.{true}
-use mathlib.Core.Path.{◌≡◌, sym, ◌∙◌}
-use borrow.Author.Rules.{rules}
-use borrow.Author.Count.{below_none, below_more}
+use mathlib.Core.Path.{◌≡◌}
 use Rattle.rules.specs.Settings.{channel, channels_agree}
-use Rattle.setting.proofs.Loops.{stops, ends}
 use Rattle.setting.proofs.agrees_before.Given as goal
 
 abbrev pub invariant-loop-j : goal.invariant-loop-j

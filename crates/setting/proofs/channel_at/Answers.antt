@@ -1,11 +1,5 @@
-use Prim.Native.Nat.{ℕ, ◌-◌, ◌<◌}
-use mathlib.Core.Bool.{false, ◌&&◌}
-use mathlib.Core.Path.{◌≡◌, sym, ◌∙◌}
-use lib.ListN.{get_or}
-use borrow.Author.Rules.{rules}
+use mathlib.Core.Path.{sym, ◌∙◌}
 use borrow.Author.Count.{below_none, below_more}
-use Rattle.rules.specs.Tests.{◌=?◌}
-use Rattle.rules.specs.Settings.{no_channel}
 use Rattle.rules.specs.Refusals.{channel_at}
 use Rattle.setting.proofs.Loops.{finds, misses}
 use Rattle.setting.proofs.channel_at.Goals as goal

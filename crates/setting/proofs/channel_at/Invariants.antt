@@ -1,14 +1,10 @@
 -- `setting::channel_at` meets its contract: the loop keeps that no channel before i has this virtual channel and service.
 use Prim.Native.Nat.{ℕ, ◌-◌, ◌<◌}
 use mathlib.Core.Bool.{false, ◌&&◌}
-use mathlib.Core.Path.{◌≡◌, sym, ◌∙◌}
+use mathlib.Core.Path.{◌≡◌}
 use lib.ListN.{get_or}
-use borrow.Author.Rules.{rules}
-use borrow.Author.Count.{below_none, below_more}
 use Rattle.rules.specs.Tests.{◌=?◌}
 use Rattle.rules.specs.Settings.{no_channel}
-use Rattle.rules.specs.Refusals.{channel_at}
-use Rattle.setting.proofs.Loops.{finds, misses}
 use Rattle.setting.proofs.channel_at.Given as goal
 
 abbrev pub invariant-loop-i : goal.invariant-loop-i

@@ -1,7 +1,6 @@
 -- `setting::channel_ok` meets its contract: each early return is at one test of the rule that fails, and at the end all but the
 -- last pass.
 use borrow.Author.Tests.{le-leb, lt-leb}
-use borrow.Author.Rules.{rules}
 use Rattle.rules.specs.Settings.{channel_ok}
 use Rattle.setting.proofs.Alls.{one-fails, one_passes, last_decides}
 use Rattle.setting.proofs.channel_ok.Goals as goal

@@ -2,7 +2,6 @@
 -- last pass.
 use mathlib.Core.Path.{sym, ◌∙◌}
 use borrow.Author.Tests.{le-leb, lt-leb}
-use borrow.Author.Rules.{rules}
 use Rattle.rules.specs.Settings.{channels_ok}
 use Rattle.setting.proofs.Alls.{one-fails, one_passes, last_decides}
 use Rattle.setting.proofs.channels_ok.Goals as goal

@@ -3,7 +3,6 @@
 use mathlib.Core.Path.{refl, sym, ap, ◌∙◌}
 use native.Mathlib.Omega.{arith}
 use lib.Dec.{ltb}
-use borrow.Author.Rules.{rules}
 use Rattle.rules.proofs.Valid.{good}
 use Rattle.octets.proofs.Turns.{modulus_all}
 use Rattle.setting.proofs.count_ok.Goals as goal

@@ -1,12 +1,6 @@
-use Prim.Native.Nat.{ℕ, ◌^◌, ◌-◌, ◌≤◌, ◌<◌}
-use mathlib.Core.Path.{◌≡◌, sym, ◌∙◌}
-use mathlib.Core.Bool.{true}
-use lib.ListN.{get_or}
-use borrow.Author.Rules.{rules}
+use mathlib.Core.Path.{sym, ◌∙◌}
 use borrow.Author.Count.{below_none, below_more}
-use Rattle.rules.specs.Tests.{◌<?◌}
 use Rattle.rules.proofs.Valid.{good}
-use Rattle.rules.specs.Settings.{channel}
 use Rattle.setting.proofs.Loops.{stops, ends}
 use Rattle.setting.proofs.counts_ok.Goals as goal
 

@@ -1,15 +1,11 @@
 -- `setting::counts_ok` meets its contract: the loop keeps that each channel before i has a count below its 256^n. A valid
 -- setting has at most 8 channels.
 use Prim.Native.Nat.{ℕ, ◌^◌, ◌-◌, ◌≤◌, ◌<◌}
-use mathlib.Core.Path.{◌≡◌, sym, ◌∙◌}
+use mathlib.Core.Path.{◌≡◌}
 use mathlib.Core.Bool.{true}
 use lib.ListN.{get_or}
-use borrow.Author.Rules.{rules}
-use borrow.Author.Count.{below_none, below_more}
 use Rattle.rules.specs.Tests.{◌<?◌}
-use Rattle.rules.proofs.Valid.{good}
 use Rattle.rules.specs.Settings.{channel}
-use Rattle.setting.proofs.Loops.{stops, ends}
 use Rattle.setting.proofs.counts_ok.Given as goal
 
 abbrev pub invariant-loop-i : goal.invariant-loop-i

@@ -1,9 +1,5 @@
-use Prim.Native.Nat.{ℕ, ◌-◌, ◌<◌}
-use mathlib.Core.Path.{◌≡◌, sym, ◌∙◌}
-use mathlib.Core.Bool.{true}
-use borrow.Author.Rules.{rules}
+use mathlib.Core.Path.{sym, ◌∙◌}
 use borrow.Author.Count.{below_none, below_more}
-use Rattle.rules.specs.Settings.{lane, lanes_differ}
 use Rattle.setting.proofs.Loops.{stops, ends}
 use Rattle.setting.proofs.differs_before.Goals as goal
 

@@ -1,11 +1,8 @@
 -- `setting::differs_before` meets its contract: the loop keeps that each lane before k differs from lane i.
 use Prim.Native.Nat.{ℕ, ◌-◌, ◌<◌}
-use mathlib.Core.Path.{◌≡◌, sym, ◌∙◌}
+use mathlib.Core.Path.{◌≡◌}
 use mathlib.Core.Bool.{true}
-use borrow.Author.Rules.{rules}
-use borrow.Author.Count.{below_none, below_more}
 use Rattle.rules.specs.Settings.{lane, lanes_differ}
-use Rattle.setting.proofs.Loops.{stops, ends}
 use Rattle.setting.proofs.differs_before.Given as goal
 
 abbrev pub invariant-loop-k : goal.invariant-loop-k

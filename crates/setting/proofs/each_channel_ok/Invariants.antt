@@ -1,11 +1,8 @@
 -- `setting::each_channel_ok` meets its contract: the loop keeps that each channel before i is in its ranges.
 use Prim.Native.Nat.{ℕ, ◌-◌, ◌<◌}
 use mathlib.Core.Bool.{true}
-use mathlib.Core.Path.{◌≡◌, sym, ◌∙◌}
-use borrow.Author.Rules.{rules}
-use borrow.Author.Count.{below_none, below_more}
+use mathlib.Core.Path.{◌≡◌}
 use Rattle.rules.specs.Settings.{channel, channel_ok}
-use Rattle.setting.proofs.Loops.{stops, ends}
 use Rattle.setting.proofs.each_channel_ok.Given as goal
 
 abbrev pub invariant-loop-i : goal.invariant-loop-i

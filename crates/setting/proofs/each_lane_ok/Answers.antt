@@ -1,9 +1,5 @@
-use Prim.Native.Nat.{ℕ, ◌-◌, ◌<◌}
-use mathlib.Core.Bool.{true}
-use mathlib.Core.Path.{◌≡◌, sym, ◌∙◌}
-use borrow.Author.Rules.{rules}
+use mathlib.Core.Path.{sym, ◌∙◌}
 use borrow.Author.Count.{below_none, below_more}
-use Rattle.rules.specs.Settings.{lane, lane_ok}
 use Rattle.setting.proofs.Loops.{stops, ends}
 use Rattle.setting.proofs.each_lane_ok.Goals as goal
 

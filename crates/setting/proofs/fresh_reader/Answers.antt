@@ -1,5 +1,4 @@
 -- `setting::fresh_reader` meets its contract: nothing is expected, and no slot holds octets.
-use borrow.Author.Rules.{rules}
 use Rattle.rules.specs.Settings.{fresh_reader}
 use Rattle.setting.proofs.fresh_reader.Goals as goal
 

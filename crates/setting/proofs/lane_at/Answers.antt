@@ -1,10 +1,5 @@
-use Prim.Native.Nat.{ℕ, ◌-◌, ◌<◌}
-use mathlib.Core.Bool.{false, ◌&&◌}
-use mathlib.Core.Path.{◌≡◌, sym, ◌∙◌}
-use borrow.Author.Rules.{rules}
+use mathlib.Core.Path.{sym, ◌∙◌}
 use borrow.Author.Count.{below_none, below_more}
-use Rattle.rules.specs.Tests.{◌=?◌}
-use Rattle.rules.specs.Settings.{lane}
 use Rattle.rules.specs.Refusals.{lane_at}
 use Rattle.setting.proofs.Loops.{finds, misses}
 use Rattle.setting.proofs.lane_at.Goals as goal

@@ -1,13 +1,9 @@
 -- `setting::lane_at` meets its contract: the loop keeps that no lane before i has this channel and map.
 use Prim.Native.Nat.{ℕ, ◌-◌, ◌<◌}
 use mathlib.Core.Bool.{false, ◌&&◌}
-use mathlib.Core.Path.{◌≡◌, sym, ◌∙◌}
-use borrow.Author.Rules.{rules}
-use borrow.Author.Count.{below_none, below_more}
+use mathlib.Core.Path.{◌≡◌}
 use Rattle.rules.specs.Tests.{◌=?◌}
 use Rattle.rules.specs.Settings.{lane}
-use Rattle.rules.specs.Refusals.{lane_at}
-use Rattle.setting.proofs.Loops.{finds, misses}
 use Rattle.setting.proofs.lane_at.Given as goal
 
 abbrev pub invariant-loop-i : goal.invariant-loop-i

@@ -1,6 +1,5 @@
 -- `setting::lane_is` meets its contract: the second test is made only where the first passes.
 use borrow.Author.Tests.{eq-eqb, ne_eqb}
-use borrow.Author.Rules.{rules}
 use Rattle.setting.proofs.lane_is.Goals as goal
 
 pub returns-then-l-c : goal.returns-then-l-c

@@ -2,7 +2,6 @@
 -- last pass.
 use mathlib.Core.Path.{◌∙◌}
 use borrow.Author.Tests.{le-leb, lt-leb, lt-ltb, le-ltb}
-use borrow.Author.Rules.{rules}
 use Rattle.rules.specs.Settings.{lane_ok}
 use Rattle.setting.proofs.Alls.{one-fails, one_passes, last_decides}
 use Rattle.setting.proofs.lane_ok.Goals as goal

@@ -1,7 +1,6 @@
 -- `setting::lanes_differ` meets its contract: the rule is the other answer of `lane_is`.
 use mathlib.Core.Path.{ap}
 use mathlib.Core.Bool.{not}
-use borrow.Author.Rules.{rules}
 use Rattle.rules.specs.Settings.{lanes_differ}
 use Rattle.setting.proofs.lanes_differ.Goals as goal
 

@@ -1,5 +1,4 @@
 -- `setting::no_reader` meets its contract: it is the fresh reader of the setting of zeros.
-use borrow.Author.Rules.{rules}
 use Rattle.rules.specs.Settings.{fresh_reader, no_reader}
 use Rattle.setting.proofs.no_reader.Goals as goal
 

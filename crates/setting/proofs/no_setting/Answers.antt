@@ -1,5 +1,4 @@
 -- `setting::no_setting` meets its contract: both lists are eight times the slot of zeros.
-use borrow.Author.Rules.{rules}
 use Rattle.rules.specs.Settings.{no_setting}
 use Rattle.setting.proofs.no_setting.Goals as goal
 

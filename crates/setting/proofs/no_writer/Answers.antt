@@ -1,5 +1,4 @@
 -- `setting::no_writer` meets its contract: it is the fresh writer of the setting of zeros.
-use borrow.Author.Rules.{rules}
 use Rattle.rules.specs.Settings.{fresh_writer, no_writer}
 use Rattle.setting.proofs.no_writer.Goals as goal
 

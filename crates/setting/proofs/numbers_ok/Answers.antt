@@ -1,11 +1,5 @@
-use Prim.Native.Nat.{ℕ, ◌-◌, ◌<◌}
-use mathlib.Core.Bool.{true}
-use mathlib.Core.Path.{◌≡◌}
 use borrow.Author.Tests.{le-leb, lt-leb}
-use borrow.Author.Rules.{rules}
 use borrow.Author.Count.{below_none, below_more}
-use Rattle.rules.specs.Tests.{◌≤?◌}
-use Rattle.rules.specs.Settings.{number}
 use Rattle.setting.proofs.Loops.{stops, ends}
 use Rattle.setting.proofs.numbers_ok.Goals as goal
 

@@ -1,12 +1,9 @@
 -- `setting::pairs_agree` meets its contract: the loop keeps that each channel before i agrees with those before it.
 use Prim.Native.Nat.{ℕ, ◌-◌, ◌<◌}
 use mathlib.Core.Bool.{true}
-use mathlib.Core.Path.{◌≡◌, sym, ◌∙◌}
-use borrow.Author.Rules.{rules}
-use borrow.Author.Count.{below_none, below_more}
+use mathlib.Core.Path.{◌≡◌}
 use Rattle.rules.specs.Tests.{every}
 use Rattle.rules.specs.Settings.{channel, channels_agree}
-use Rattle.setting.proofs.Loops.{stops, ends}
 use Rattle.setting.proofs.pairs_agree.Given as goal
 
 abbrev pub invariant-loop-i : goal.invariant-loop-i

@@ -1,12 +1,9 @@
 -- `setting::pairs_differ` meets its contract: the loop keeps that each lane before i differs from those before it.
 use Prim.Native.Nat.{ℕ, ◌-◌, ◌<◌}
 use mathlib.Core.Bool.{true}
-use mathlib.Core.Path.{◌≡◌, sym, ◌∙◌}
-use borrow.Author.Rules.{rules}
-use borrow.Author.Count.{below_none, below_more}
+use mathlib.Core.Path.{◌≡◌}
 use Rattle.rules.specs.Tests.{every}
 use Rattle.rules.specs.Settings.{lane, lanes_differ}
-use Rattle.setting.proofs.Loops.{stops, ends}
 use Rattle.setting.proofs.pairs_differ.Given as goal
 
 abbrev pub invariant-loop-i : goal.invariant-loop-i

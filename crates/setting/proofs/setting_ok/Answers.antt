@@ -1,7 +1,6 @@
 -- `setting::setting_ok` meets its contract: the answer is false at the first part that is not valid, and the last part decides
 -- where the others are.
 use mathlib.Core.Path.{sym, ◌∙◌}
-use borrow.Author.Rules.{rules}
 use Rattle.rules.specs.Settings.{setting_ok}
 use Rattle.setting.proofs.Alls.{one-fails, one_passes, last_decides}
 use Rattle.setting.proofs.setting_ok.Goals as goal

@@ -1,7 +1,6 @@
 -- `setting::slot_ok` meets its contract: each early return is at one test of the rule that fails, and at the end all of them pass.
 use mathlib.Core.Path.{ap}
 use mathlib.Core.Bool.{not, not-not}
-use borrow.Author.Rules.{rules}
 use borrow.Author.Tests.{lt-ltb, le-ltb, eq-eqb, ne_eqb}
 use Rattle.rules.specs.Settings.{slot_ok}
 use Rattle.setting.proofs.Alls.{one-fails, one_passes, last_decides}

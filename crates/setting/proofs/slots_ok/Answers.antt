@@ -1,10 +1,5 @@
-use Prim.Native.Nat.{ℕ, ◌-◌, ◌<◌}
-use mathlib.Core.Bool.{true}
-use mathlib.Core.Path.{◌≡◌, sym, ◌∙◌}
-use lib.ListN.{get_or}
-use borrow.Author.Rules.{rules}
+use mathlib.Core.Path.{sym, ◌∙◌}
 use borrow.Author.Count.{below_none, below_more}
-use Rattle.rules.specs.Settings.{no_lane, no_slot, slot_ok}
 use Rattle.setting.proofs.Loops.{stops, ends}
 use Rattle.setting.proofs.slots_ok.Goals as goal
 

@@ -1,12 +1,9 @@
 -- `setting::slots_ok` meets its contract: the loop keeps that each slot before i is valid.
 use Prim.Native.Nat.{ℕ, ◌-◌, ◌<◌}
 use mathlib.Core.Bool.{true}
-use mathlib.Core.Path.{◌≡◌, sym, ◌∙◌}
+use mathlib.Core.Path.{◌≡◌}
 use lib.ListN.{get_or}
-use borrow.Author.Rules.{rules}
-use borrow.Author.Count.{below_none, below_more}
 use Rattle.rules.specs.Settings.{no_lane, no_slot, slot_ok}
-use Rattle.setting.proofs.Loops.{stops, ends}
 use Rattle.setting.proofs.slots_ok.Given as goal
 
 abbrev pub invariant-loop-i : goal.invariant-loop-i

@@ -1,7 +1,6 @@
 -- `setting::writer_ok` meets its contract: the answer is false at the first part that is not valid, and the last part decides
 -- where the others are. A valid setting has at most 8 lanes.
 use mathlib.Core.Path.{sym, ◌∙◌}
-use borrow.Author.Rules.{rules}
 use Rattle.rules.proofs.Valid.{good}
 use Rattle.rules.specs.Settings.{writer_ok}
 use Rattle.setting.proofs.Alls.{one-fails, one_passes, last_decides}

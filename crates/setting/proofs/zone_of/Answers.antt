@@ -1,5 +1,4 @@
 -- `setting::zone_of` meets its contract: the zone of a frame of F octets.
-use borrow.Author.Rules.{rules}
 use Rattle.rules.specs.Settings.{zone}
 use Rattle.setting.proofs.zone_of.Goals as goal
 

@@ -1,7 +1,6 @@
 -- `setting_text::add_fact` meets its contract. A fact said twice is refused; another is set in its field.
 use mathlib.Core.Path.{sym}
 use Rattle.setting_text.specs.Facts.{add_fact}
-use borrow.Author.Rules.{rules}
 use Rattle.setting_text.proofs.add_fact.Goals as goal
 
 pub returns-then-f-fact : goal.returns-then-f-fact

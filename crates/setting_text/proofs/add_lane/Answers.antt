@@ -2,7 +2,6 @@
 use mathlib.Core.Path.{sym, ◌∙◌}
 use borrow.Author.Tests.{le-leb, lt-leb}
 use Rattle.setting_text.specs.Facts.{add_lane}
-use borrow.Author.Rules.{rules}
 use Rattle.setting_text.proofs.add_lane.Goals as goal
 
 pub returns-in_default : goal.returns-in_default

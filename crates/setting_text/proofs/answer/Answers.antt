@@ -2,7 +2,6 @@
 use Rattle.rules.specs.Settings.{no_reader}
 use Rattle.setting_text.specs.Facts.{answered}
 use Rattle.setting_text.proofs.Answers.{answered-other}
-use borrow.Author.Rules.{rules}
 use Rattle.setting_text.proofs.answer.Goals as goal
 
 pub returns-in-Good : goal.returns-in-Good

@@ -1,6 +1,5 @@
 -- `setting_text::find` meets its contract. A line that does not fit, or what all lines come to.
 use Rattle.setting_text.specs.Facts.{found, lacking}
-use borrow.Author.Rules.{rules}
 use Rattle.setting_text.proofs.find.Goals as goal
 
 pub returns-then-d : goal.returns-then-d

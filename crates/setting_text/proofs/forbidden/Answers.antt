@@ -1,6 +1,5 @@
 -- `setting_text::forbidden` meets its contract. No word of the line is at fault.
 use Rattle.setting_text.specs.Facts.{forbid}
-use borrow.Author.Rules.{rules}
 use Rattle.setting_text.proofs.forbidden.Goals as goal
 
 pub returns : goal.returns

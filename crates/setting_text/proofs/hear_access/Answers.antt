@@ -1,7 +1,6 @@
 -- `setting_text::hear_access` meets its contract. What a lane carries, and then the longest.
 use Rattle.rules.specs.Listing.{text}
 use Rattle.setting_text.specs.Table.{word, follow, access_end}
-use borrow.Author.Rules.{rules}
 use Rattle.setting_text.proofs.hear_access.Goals as goal
 
 pub returns : goal.returns

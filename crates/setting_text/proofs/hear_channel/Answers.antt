@@ -1,7 +1,6 @@
 -- `setting_text::hear_channel` meets its contract. One word after another.
 use Rattle.rules.specs.Listing.{text}
 use Rattle.setting_text.specs.Table.{word, follow, channel_line}
-use borrow.Author.Rules.{rules}
 use Rattle.setting_text.proofs.hear_channel.Goals as goal
 
 pub returns : goal.returns

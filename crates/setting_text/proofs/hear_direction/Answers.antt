@@ -1,7 +1,6 @@
 -- `setting_text::hear_direction` meets its contract. One of the two words, and then the end.
 use Rattle.rules.specs.Listing.{text}
 use Rattle.setting_text.specs.Table.{one, follow}
-use borrow.Author.Rules.{rules}
 use Rattle.setting_text.proofs.hear_direction.Goals as goal
 
 pub returns : goal.returns

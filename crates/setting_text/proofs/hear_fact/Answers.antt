@@ -1,6 +1,5 @@
 -- `setting_text::hear_fact` meets its contract. The word and its number, and then the end.
 use Rattle.setting_text.specs.Table.{follow}
-use borrow.Author.Rules.{rules}
 use Rattle.setting_text.proofs.hear_fact.Goals as goal
 
 pub returns : goal.returns

@@ -1,7 +1,6 @@
 -- `setting_text::hear_lane` meets its contract. One word after another.
 use Rattle.rules.specs.Listing.{text}
 use Rattle.setting_text.specs.Table.{word, follow, lane_head}
-use borrow.Author.Rules.{rules}
 use Rattle.setting_text.proofs.hear_lane.Goals as goal
 
 pub returns : goal.returns

@@ -1,6 +1,5 @@
 -- `setting_text::hear_lanes` meets its contract. One part of the table after another.
 use Rattle.setting_text.specs.Table.{through}
-use borrow.Author.Rules.{rules}
 use Rattle.setting_text.proofs.hear_lanes.Goals as goal
 
 pub returns : goal.returns

@@ -1,6 +1,5 @@
 -- `setting_text::hear_line` meets its contract. One part of the table after another.
 use Rattle.setting_text.proofs.Table.{hears}
-use borrow.Author.Rules.{rules}
 use Rattle.setting_text.proofs.hear_line.Goals as goal
 
 pub returns : goal.returns

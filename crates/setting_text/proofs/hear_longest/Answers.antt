@@ -1,7 +1,6 @@
 -- `setting_text::hear_longest` meets its contract. The word and its number, and then the end.
 use Rattle.rules.specs.Listing.{text}
 use Rattle.setting_text.specs.Table.{word, follow}
-use borrow.Author.Rules.{rules}
 use Rattle.setting_text.proofs.hear_longest.Goals as goal
 
 pub returns : goal.returns

@@ -1,7 +1,6 @@
 -- `setting_text::hear_name` meets its contract. The virtual channel, and then the service.
 use Rattle.rules.specs.Listing.{text}
 use Rattle.setting_text.specs.Table.{word, follow}
-use borrow.Author.Rules.{rules}
 use Rattle.setting_text.proofs.hear_name.Goals as goal
 
 pub returns : goal.returns

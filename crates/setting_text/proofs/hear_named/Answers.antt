@@ -1,6 +1,5 @@
 -- `setting_text::hear_named` meets its contract. The word, and then the number.
 use Rattle.setting_text.specs.Table.{follow}
-use borrow.Author.Rules.{rules}
 use Rattle.setting_text.proofs.hear_named.Goals as goal
 
 pub returns : goal.returns

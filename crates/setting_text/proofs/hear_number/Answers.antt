@@ -1,6 +1,5 @@
 -- `setting_text::hear_number` meets its contract. It is that of a word.
 use Rattle.setting_text.specs.Table.{from}
-use borrow.Author.Rules.{rules}
 use Rattle.setting_text.proofs.hear_number.Goals as goal
 
 pub returns : goal.returns

@@ -1,7 +1,6 @@
 -- `setting_text::hear_packets` meets its contract. What a lane carries, and then the longest.
 use Rattle.rules.specs.Listing.{text}
 use Rattle.setting_text.specs.Table.{one, follow, packets_end}
-use borrow.Author.Rules.{rules}
 use Rattle.setting_text.proofs.hear_packets.Goals as goal
 
 pub returns : goal.returns

@@ -1,7 +1,6 @@
 -- `setting_text::hear_word` meets its contract. The next word, its number, what is heard then, and the next place.
 use Rattle.setting_text.specs.Table.{item}
 use Rattle.setting_text.proofs.Steps.{seen_step}
-use borrow.Author.Rules.{rules}
 use Rattle.setting_text.proofs.hear_word.Goals as goal
 
 pub returns : goal.returns

@@ -1,12 +1,8 @@
 -- `setting_text::lacking_at` meets its contract. Each before i was said.
-use borrow.Author.Rules.{rules}
 use Prim.Native.Nat.{ℕ, ◌-◌, ◌<◌}
 use mathlib.Core.Bool.{false, not}
 use mathlib.Core.Path.{◌≡◌}
 use lib.ListN.{get_or}
-use borrow.Author.Count.{below_none, below_more}
-use Rattle.setting.proofs.Loops.{finds, misses}
-use Rattle.setting_text.specs.Facts.{lacking}
 use Rattle.setting_text.proofs.lacking_at.Given as goal
 
 abbrev pub invariant-loop-i : goal.invariant-loop-i

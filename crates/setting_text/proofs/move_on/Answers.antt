@@ -2,7 +2,6 @@
 use borrow.Author.Tests.{eq-eqb, ne_eqb, lt-ltb, le-ltb}
 use Rattle.setting_text.specs.Table.{further}
 use Rattle.setting_text.specs.Places.{moved}
-use borrow.Author.Rules.{rules}
 use Rattle.setting_text.proofs.move_on.Goals as goal
 
 pub returns-then-field-ne-END : goal.returns-then-field-ne-END

@@ -1,7 +1,6 @@
 -- `setting_text::no_draft` meets its contract. The setting is the one of a reader of zeros.
 use Rattle.setting_text.specs.Facts.{nothing}
 use Rattle.rules.specs.Settings.{no_reader}
-use borrow.Author.Rules.{rules}
 use Rattle.setting_text.proofs.no_draft.Goals as goal
 
 pub returns : goal.returns

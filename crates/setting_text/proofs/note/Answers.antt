@@ -1,7 +1,6 @@
 -- `setting_text::note` meets its contract. None fitted before, the word does not fit, or it does.
 use borrow.Author.Tests.{eq-eqb, ne_eqb, not-true, not-false}
 use Rattle.setting_text.specs.Table.{noted}
-use borrow.Author.Rules.{rules}
 use Rattle.setting_text.proofs.note.Goals as goal
 
 pub returns-then-not-h : goal.returns-then-not-h

@@ -1,7 +1,6 @@
 -- `setting_text::number_in` meets its contract. Two tests, one after the other.
 use mathlib.Core.Path.{sym}
 use borrow.Author.Tests.{le-leb, lt-leb}
-use borrow.Author.Rules.{rules}
 use Rattle.setting_text.proofs.number_in.Goals as goal
 
 pub returns-then-n-low : goal.returns-then-n-low

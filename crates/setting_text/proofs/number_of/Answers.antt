@@ -1,10 +1,6 @@
-use Prim.Native.Nat.{◌≤◌, ◌-◌}
-use mathlib.Core.Path.{◌≡◌, sym, ◌∙◌}
+use mathlib.Core.Path.{sym, ◌∙◌}
 use native.Mathlib.Numerals.{add-one}
-use lib.ListN.{length, drop}
 use borrow.Author.Rules.{rules}
-use Rattle.setting_text.specs.Texts.{number_of}
-use Rattle.setting_text.specs.Places.{number_from}
 use Rattle.setting_text.proofs.Texts.{number-turn, number-low, number-high, number_large, number-end, number-some, number-none}
 use Rattle.setting_text.proofs.number_of.Goals as goal
 

@@ -1,12 +1,9 @@
 -- `setting_text::number_of` meets its contract. The digits before i stand for v, and v is at most 65,535.
 use Prim.Native.Nat.{◌≤◌, ◌-◌}
-use mathlib.Core.Path.{◌≡◌, sym, ◌∙◌}
-use native.Mathlib.Numerals.{add-one}
+use mathlib.Core.Path.{◌≡◌}
 use lib.ListN.{length, drop}
-use borrow.Author.Rules.{rules}
 use Rattle.setting_text.specs.Texts.{number_of}
 use Rattle.setting_text.specs.Places.{number_from}
-use Rattle.setting_text.proofs.Texts.{number-turn, number-low, number-high, number_large, number-end, number-some, number-none}
 use Rattle.setting_text.proofs.number_of.Given as goal
 
 abbrev pub invariant-loop-i : goal.invariant-loop-i

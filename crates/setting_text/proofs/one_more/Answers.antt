@@ -1,7 +1,6 @@
 -- `setting_text::one_more` meets its contract. One test decides.
 use borrow.Author.Tests.{lt-ltb, le-ltb}
 use Rattle.setting_text.specs.Table.{counted}
-use borrow.Author.Rules.{rules}
 use Rattle.setting_text.proofs.one_more.Goals as goal
 
 pub returns-then-n-lt255 : goal.returns-then-n-lt255

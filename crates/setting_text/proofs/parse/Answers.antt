@@ -1,7 +1,6 @@
 -- `setting_text::parse` meets its contract. The lines, what they come to, and the answer.
 use mathlib.Core.Path.{sym}
 use Rattle.setting_text.specs.Facts.{parsed}
-use borrow.Author.Rules.{rules}
 use Rattle.setting_text.proofs.parse.Goals as goal
 
 pub find-f-requires : goal.find-f-requires

@@ -1,12 +1,9 @@
 -- `setting_text::place_of` meets its contract. The words before octet `at` are n, and it is none of them.
-use borrow.Author.Rules.{rules}
 use Prim.Native.Nat.{◌≤◌, ◌-◌}
-use mathlib.Core.Path.{◌≡◌, refl, sym, ◌∙◌}
-use native.Mathlib.Omega.{arith}
-use lib.ListN.{length, drop, drop_of_length-le}
-use Rattle.setting_text.specs.Texts.{words, cut, full}
+use mathlib.Core.Path.{◌≡◌}
+use lib.ListN.{length, drop}
+use Rattle.setting_text.specs.Texts.{words}
 use Rattle.setting_text.specs.Table.{place}
-use Rattle.setting_text.proofs.Steps.{place_none, place-some}
 use Rattle.setting_text.proofs.place_of.Given as goal
 
 abbrev pub invariant-loop-at : goal.invariant-loop-at

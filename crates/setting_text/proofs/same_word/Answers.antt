@@ -1,9 +1,6 @@
-use Prim.Native.Nat.{◌≤◌, ◌-◌}
-use mathlib.Core.Path.{◌≡◌, refl, sym, ◌∙◌}
+use mathlib.Core.Path.{refl, sym, ◌∙◌}
 use native.Mathlib.Numerals.{add-one}
-use lib.ListN.{length, drop}
 use borrow.Author.Rules.{rules}
-use Rattle.setting_text.specs.Texts.{same}
 use Rattle.setting_text.proofs.Texts.{same-unlike, same_turn, same_not, same_end}
 use Rattle.setting_text.proofs.same_word.Goals as goal
 

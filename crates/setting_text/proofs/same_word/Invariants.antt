@@ -1,11 +1,8 @@
 -- `setting_text::same_word` meets its contract. The first i octets are the same, so the words are where their rests are.
 use Prim.Native.Nat.{◌≤◌, ◌-◌}
-use mathlib.Core.Path.{◌≡◌, refl, sym, ◌∙◌}
-use native.Mathlib.Numerals.{add-one}
+use mathlib.Core.Path.{◌≡◌}
 use lib.ListN.{length, drop}
-use borrow.Author.Rules.{rules}
 use Rattle.setting_text.specs.Texts.{same}
-use Rattle.setting_text.proofs.Texts.{same-unlike, same_turn, same_not, same_end}
 use Rattle.setting_text.proofs.same_word.Given as goal
 
 abbrev pub invariant-loop-i : goal.invariant-loop-i

@@ -2,7 +2,6 @@
 use mathlib.Core.Bool.{not}
 use mathlib.Core.Path.{ap}
 use Rattle.setting_text.specs.Texts.{stops}
-use borrow.Author.Rules.{rules}
 use Rattle.setting_text.proofs.stops_at.Goals as goal
 
 pub returns-in-Word : goal.returns-in-Word

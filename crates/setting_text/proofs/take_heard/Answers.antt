@@ -2,7 +2,6 @@
 use mathlib.Core.Path.{subst}
 use Rattle.setting_text.specs.Facts.{take_asked}
 use Rattle.setting_text.specs.Places.{Asked}
-use borrow.Author.Rules.{rules}
 use Rattle.setting_text.proofs.take_heard.Goals as goal
 
 pub returns-in-Word : goal.returns-in-Word

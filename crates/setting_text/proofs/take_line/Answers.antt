@@ -1,7 +1,6 @@
 -- `setting_text::take_line` meets its contract. The part before the comment is held against the table.
 use mathlib.Core.Path.{sym}
 use lib.Seq.{length-take-le}
-use borrow.Author.Rules.{rules}
 use Rattle.setting_text.specs.Texts.{said}
 use Rattle.setting_text.specs.Facts.{take_line}
 use Rattle.setting_text.proofs.Table.{heard-sound}

@@ -1,9 +1,8 @@
-use Prim.Native.Nat.{◌-◌}
 use mathlib.Core.Path.{sym}
 use borrow.Author.Rules.{rules}
-use lib.ListN.{length, length-take, length-drop}
+use lib.ListN.{length-take, length-drop}
 use lib.Seq.{length-take-le}
-use Rattle.setting_text.proofs.Gathers.{Taking, begins, turn, ends, stops-here}
+use Rattle.setting_text.proofs.Gathers.{begins, turn, ends, stops-here}
 use Rattle.setting_text.proofs.take_lines.Goals as goal
 
 pub loop-at-init : goal.loop-at-init

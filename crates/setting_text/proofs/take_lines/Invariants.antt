@@ -1,10 +1,7 @@
 -- `setting_text::take_lines` meets its contract. The lines before octet `at` were taken.
 use Prim.Native.Nat.{◌-◌}
-use mathlib.Core.Path.{sym}
-use borrow.Author.Rules.{rules}
-use lib.ListN.{length, length-take, length-drop}
-use lib.Seq.{length-take-le}
-use Rattle.setting_text.proofs.Gathers.{Taking, begins, turn, ends, stops-here}
+use lib.ListN.{length}
+use Rattle.setting_text.proofs.Gathers.{Taking}
 use Rattle.setting_text.proofs.take_lines.Given as goal
 
 abbrev pub invariant-loop-at : goal.invariant-loop-at

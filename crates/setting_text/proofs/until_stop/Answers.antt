@@ -1,10 +1,8 @@
-use Prim.Native.Nat.{◌≤◌, ◌-◌, ◌+◌}
-use mathlib.Core.Path.{◌≡◌, sym, ◌∙◌}
+use mathlib.Core.Path.{sym, ◌∙◌}
 use native.Mathlib.Omega.{arith}
 use native.Mathlib.Numerals.{add-one}
-use lib.ListN.{length, drop}
 use borrow.Author.Rules.{rules}
-use Rattle.setting_text.specs.Texts.{stops, until}
+use Rattle.setting_text.specs.Texts.{stops}
 use Rattle.setting_text.proofs.Texts.{until-turn, until-found, until_none}
 use Rattle.setting_text.proofs.until_stop.Goals as goal
 

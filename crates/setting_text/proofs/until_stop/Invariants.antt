@@ -1,12 +1,8 @@
 -- `setting_text::until_stop` meets its contract. No octet before i is one of these, so what is counted is i and what is counted from there.
 use Prim.Native.Nat.{◌≤◌, ◌-◌, ◌+◌}
-use mathlib.Core.Path.{◌≡◌, sym, ◌∙◌}
-use native.Mathlib.Omega.{arith}
-use native.Mathlib.Numerals.{add-one}
+use mathlib.Core.Path.{◌≡◌}
 use lib.ListN.{length, drop}
-use borrow.Author.Rules.{rules}
 use Rattle.setting_text.specs.Texts.{stops, until}
-use Rattle.setting_text.proofs.Texts.{until-turn, until-found, until_none}
 use Rattle.setting_text.proofs.until_stop.Given as goal
 
 abbrev pub invariant-loop-i : goal.invariant-loop-i

@@ -1,7 +1,6 @@
 -- `setting_text::worth_of` meets its contract. What is asked decides.
 use Rattle.setting_text.specs.Table.{worth}
 use Rattle.setting_text.proofs.Texts.{same-empty, same_some}
-use borrow.Author.Rules.{rules}
 use Rattle.setting_text.proofs.worth_of.Goals as goal
 
 pub returns-in-Word : goal.returns-in-Word

@@ -1,11 +1,6 @@
-use Prim.Native.Nat.{ℕ, ◌-◌, ◌<◌}
-use mathlib.Core.Bool.{false}
-use mathlib.Core.Path.{◌≡◌, sym, ◌∙◌}
-use borrow.Author.Rules.{rules}
+use mathlib.Core.Path.{sym, ◌∙◌}
 use borrow.Author.Tests.{eq-eqb, ne_eqb}
 use borrow.Author.Count.{below_none, below_more}
-use Rattle.rules.specs.Tests.{◌=?◌}
-use Rattle.rules.specs.Settings.{channel, zone}
 use Rattle.setting.proofs.Loops.{finds, misses}
 use Rattle.setting_text.specs.Facts.{zoneless}
 use Rattle.setting_text.proofs.zoneless_at.Goals as goal

@@ -1,14 +1,9 @@
 -- `setting_text::zoneless_at` meets its contract. Each channel before i has a zone.
 use Prim.Native.Nat.{ℕ, ◌-◌, ◌<◌}
 use mathlib.Core.Bool.{false}
-use mathlib.Core.Path.{◌≡◌, sym, ◌∙◌}
-use borrow.Author.Rules.{rules}
-use borrow.Author.Tests.{eq-eqb, ne_eqb}
-use borrow.Author.Count.{below_none, below_more}
+use mathlib.Core.Path.{◌≡◌}
 use Rattle.rules.specs.Tests.{◌=?◌}
 use Rattle.rules.specs.Settings.{channel, zone}
-use Rattle.setting.proofs.Loops.{finds, misses}
-use Rattle.setting_text.specs.Facts.{zoneless}
 use Rattle.setting_text.proofs.zoneless_at.Given as goal
 
 abbrev pub invariant-loop-i : goal.invariant-loop-i

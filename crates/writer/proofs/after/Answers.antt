@@ -3,7 +3,6 @@ use native.Mathlib.Omega.{arith}
 use Rattle.writer.specs.Lookups.{upcoming_of}
 use Rattle.rules.specs.Writing.{frames}
 use Rattle.writer.proofs.Lookups.{counting, after_is}
-use borrow.Author.Rules.{rules}
 use Rattle.writer.proofs.after.Goals as goal
 
 pub number_after-k-requires : goal.number_after-k-requires

@@ -1,6 +1,5 @@
 -- `writer::batch_refusal` meets its contract: what was looked up is the lane's, so the batch rule is the row's.
 use Rattle.writer.proofs.Lookups.{begins-small, judged-kept, judged_broken}
-use borrow.Author.Rules.{rules}
 use Rattle.writer.proofs.batch_refusal.Goals as goal
 
 pub overflow_mul-x : goal.overflow_mul-x

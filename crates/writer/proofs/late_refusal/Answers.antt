@@ -4,7 +4,6 @@ use borrow.Author.Tests.{eq-eqb, ne_eqb, le-leb, lt-leb}
 use Rattle.rules.specs.Tests.{given}
 use Rattle.rules.specs.Writing.{frames}
 use Rattle.writer.specs.Lookups.{late_refusals}
-use borrow.Author.Rules.{rules}
 use Rattle.writer.proofs.late_refusal.Goals as goal
 
 pub returns-then-insert-s : goal.returns-then-insert-s

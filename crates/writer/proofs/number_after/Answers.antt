@@ -1,7 +1,6 @@
 -- `writer::number_after` meets its contract: the number is 0 after the last frame and one more before.
 use borrow.Author.Tests.{eq-eqb, ne_eqb}
 use Rattle.rules.specs.Writing.{number_after}
-use borrow.Author.Rules.{rules}
 use Rattle.writer.proofs.number_after.Goals as goal
 
 pub returns-then-i-n : goal.returns-then-i-n

@@ -6,7 +6,6 @@ use Rattle.rules.specs.Tests.{given}
 use Rattle.rules.specs.Calls.{write_refusals}
 use Rattle.writer.specs.Lookups.{upcoming_of, late_refusals, batch_refusals}
 use Rattle.writer.proofs.Lookups.{judged-refused, judged-same}
-use borrow.Author.Rules.{rules}
 use Rattle.writer.proofs.refusal.Goals as goal
 
 pub returns-then-area-s : goal.returns-then-area-s

@@ -2,7 +2,6 @@
 use native.Mathlib.Omega.{arith}
 use Rattle.writer.specs.Lookups.{upcoming_of}
 use Rattle.writer.proofs.Lookups.{slots}
-use borrow.Author.Rules.{rules}
 use Rattle.writer.proofs.upcoming_of.Goals as goal
 
 pub offset_bounds-lanes-l : goal.offset_bounds-lanes-l

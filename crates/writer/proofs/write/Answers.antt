@@ -5,7 +5,6 @@ use Rattle.rules.proofs.Promises.{write-by}
 use Rattle.rules.proofs.States.{writer-ok}
 use Rattle.writer.specs.Lookups.{upcoming_of}
 use Rattle.writer.proofs.Lookups.{ready, written_is, refused_is}
-use borrow.Author.Rules.{rules}
 use Rattle.writer.proofs.write.Goals as goal
 
 pub upcoming_of-x-requires : goal.upcoming_of-x-requires

@@ -3,7 +3,6 @@ use mathlib.Core.Path.{sym}
 use Prim.Native.Nat.{◌+◌, ◌<◌}
 use native.Mathlib.Omega.{arith}
 use borrow.Author.Tests.{lt-leb}
-use borrow.Author.Rules.{rules}
 use Rattle.rules.specs.Reading.{cut_fate}
 use Rattle.lanes.proofs.Deciding.{cut-long}
 use Rattle.lanes.proofs.fates.cut_fate.Goals as goal

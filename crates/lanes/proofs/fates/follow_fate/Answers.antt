@@ -3,7 +3,6 @@ use mathlib.Core.Path.{◌∙◌}
 use Prim.Native.Nat.{◌+◌}
 use native.Mathlib.Omega.{arith}
 use borrow.Author.Tests.{eq-eqb, ne_eqb}
-use borrow.Author.Rules.{rules}
 use Rattle.rules.specs.Reading.{follow_fate}
 use Rattle.lanes.proofs.Deciding.{unit-over, unit-after}
 use Rattle.lanes.proofs.fates.follow_fate.Goals as goal

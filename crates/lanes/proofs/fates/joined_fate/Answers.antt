@@ -1,6 +1,5 @@
 -- One case of the measure after another.
 use mathlib.Core.Path.{◌∙◌}
-use borrow.Author.Rules.{rules}
 use Rattle.rules.specs.Reading.{joined_fate}
 use Rattle.lanes.proofs.fates.joined_fate.Goals as goal
 

@@ -1,7 +1,6 @@
 -- The code's tests are the rule's, in its order.
 use mathlib.Core.Path.{◌∙◌}
 use borrow.Author.Tests.{eq-eqb, ne_eqb}
-use borrow.Author.Rules.{rules}
 use Rattle.rules.specs.Reading.{lead_fate}
 use Rattle.lanes.proofs.fates.lead_fate.Goals as goal
 

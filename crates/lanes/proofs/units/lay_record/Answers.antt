@@ -1,5 +1,4 @@
 -- Whose the unit is and four numbers are laid one after another, as the rule's record has them.
-use borrow.Author.Rules.{rules}
 use Rattle.lanes.proofs.Hands.{record_laid}
 use Rattle.lanes.proofs.units.lay_record.Goals as goal
 

@@ -1,7 +1,6 @@
 -- The measure is the rule's, and each case of it is decided as the rule does; what is left after three of them is unreadable.
 use mathlib.Core.Path.{◌∙◌}
 use lib.ListN.{length}
-use borrow.Author.Rules.{rules}
 use Rattle.rules.specs.Reading.{next_of}
 use Rattle.lanes.proofs.Deciding.{next-lost}
 use Rattle.lanes.proofs.walks.next_at.Goals as goal

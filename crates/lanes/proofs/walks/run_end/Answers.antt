@@ -1,7 +1,3 @@
-use Prim.Native.Nat.{◌-◌}
-use lib.ListN.{length}
-use borrow.Author.Rules.{rules}
-use Rattle.lanes.specs.Ends.{Run}
 use Rattle.lanes.proofs.Walking.{run_none, run_on}
 use Rattle.lanes.proofs.walks.run_end.Goals as goal
 

@@ -1,9 +1,7 @@
 -- The invariant: up to octet i there are E0 octets only.
 use Prim.Native.Nat.{◌-◌}
 use lib.ListN.{length}
-use borrow.Author.Rules.{rules}
 use Rattle.lanes.specs.Ends.{Run}
-use Rattle.lanes.proofs.Walking.{run_none, run_on}
 use Rattle.lanes.proofs.walks.run_end.Given as goal
 
 abbrev pub invariant-loop-i : goal.invariant-loop-i

@@ -1,9 +1,7 @@
 use mathlib.Core.Path.{refl}
-use Prim.Native.Nat.{◌-◌}
 use native.Mathlib.Omega.{arith}
-use lib.ListN.{length}
 use borrow.Author.Rules.{rules}
-use Rattle.lanes.proofs.Walking.{Walking, starts, finished, given, some-left-out, skipped, kept, lost, turn-room, turn_on, turn-to}
+use Rattle.lanes.proofs.Walking.{starts, finished, given, some-left-out, skipped, kept, lost, turn-room, turn_on, turn-to}
 use Rattle.lanes.proofs.Hands.{begun-units, begun-records, only_counted}
 use Rattle.lanes.proofs.walks.walk_on.Goals as goal
 

@@ -1,6 +1,5 @@
 -- `reader::choices::is_stray` meets its contract: of a channel that is to be left out, whether it is listed.
 use mathlib.Core.Path.{sym, ◌∙◌}
-use borrow.Author.Rules.{rules}
 use Rattle.reader.proofs.choices.is_stray.Goals as goal
 
 pub returns-then-named : goal.returns-then-named

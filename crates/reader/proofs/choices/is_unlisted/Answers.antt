@@ -1,6 +1,5 @@
 -- `reader::choices::is_unlisted` meets its contract: it is listed where one of the services finds it.
 use mathlib.Core.Path.{sym, ◌∙◌}
-use borrow.Author.Rules.{rules}
 use Rattle.reader.proofs.choices.is_unlisted.Goals as goal
 
 pub returns-in-At : goal.returns-in-At

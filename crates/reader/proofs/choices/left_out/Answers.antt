@@ -7,7 +7,6 @@ use Rattle.rules.specs.declared.Place.{Place}
 use Rattle.rules.specs.Tests.{at}
 use Rattle.rules.specs.Settings.{channel}
 use Rattle.rules.specs.Passes.{left_out}
-use borrow.Author.Rules.{rules}
 use Rattle.reader.proofs.choices.left_out.Goals as goal
 
 pub returns-in-Nowhere : goal.returns-in-Nowhere

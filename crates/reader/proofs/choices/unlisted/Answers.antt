@@ -1,13 +1,7 @@
-use mathlib.Core.Path.{◌≡◌, sym, ◌∙◌}
-use mathlib.Core.Bool.{false, ◌&&◌}
-use Prim.Native.Nat.{ℕ, ◌-◌, ◌<◌}
-use lib.ListN.{get_or}
+use mathlib.Core.Path.{sym, ◌∙◌}
 use borrow.Author.Count.{below_none, below_more}
-use Rattle.rules.specs.Tests.{none}
-use Rattle.rules.specs.Refusals.{channel_at}
 use Rattle.rules.specs.Passes.{unlisted}
 use Rattle.setting.proofs.Loops.{finds, misses}
-use borrow.Author.Rules.{rules}
 use Rattle.reader.proofs.choices.unlisted.Goals as goal
 
 pub loop-v-init : goal.loop-v-init

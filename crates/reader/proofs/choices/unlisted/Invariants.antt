@@ -1,14 +1,10 @@
 -- `reader::choices::unlisted` meets its contract: the loop keeps that no virtual channel below v is one.
-use mathlib.Core.Path.{◌≡◌, sym, ◌∙◌}
+use mathlib.Core.Path.{◌≡◌}
 use mathlib.Core.Bool.{false, ◌&&◌}
 use Prim.Native.Nat.{ℕ, ◌-◌, ◌<◌}
 use lib.ListN.{get_or}
-use borrow.Author.Count.{below_none, below_more}
 use Rattle.rules.specs.Tests.{none}
 use Rattle.rules.specs.Refusals.{channel_at}
-use Rattle.rules.specs.Passes.{unlisted}
-use Rattle.setting.proofs.Loops.{finds, misses}
-use borrow.Author.Rules.{rules}
 use Rattle.reader.proofs.choices.unlisted.Given as goal
 
 abbrev pub invariant-loop-v : goal.invariant-loop-v

@@ -1,7 +1,7 @@
 -- `reader::choices::vc_at` meets its contract: past the eight slots there is no channel.
 use mathlib.Core.Path.{◌≡◌, sym, ap}
 use native.Mathlib.Omega.{arith}
-use lib.ListN.{length, length-map, get_or-eq_default}
+use lib.ListN.{length, get_or-eq_default}
 use Rattle.rules.specs.declared.Channel.{Channel}
 use Rattle.rules.specs.Settings.{no_channel}
 use borrow.Author.Rules.{rules}

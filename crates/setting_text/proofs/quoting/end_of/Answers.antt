@@ -1,9 +1,6 @@
-use Prim.Native.Nat.{◌-◌, ◌≤◌}
-use mathlib.Core.Path.{◌≡◌, refl, sym, ◌∙◌}
+use mathlib.Core.Path.{refl, sym, ◌∙◌}
 use native.Mathlib.Numerals.{add-one}
 use borrow.Author.Rules.{rules}
-use lib.ListN.{length, drop}
-use Rattle.setting_text.specs.Quotes.{last_end}
 use Rattle.setting_text.proofs.Quotes.{end-gap, end-word, end_none}
 use Rattle.setting_text.proofs.quoting.end_of.Goals as goal
 

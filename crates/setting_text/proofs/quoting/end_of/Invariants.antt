@@ -1,11 +1,8 @@
 -- `setting_text::quoting::end_of` meets its contract. Of the first i octets, the last that is no blank ends at `end`.
 use Prim.Native.Nat.{◌-◌, ◌≤◌}
-use mathlib.Core.Path.{◌≡◌, refl, sym, ◌∙◌}
-use native.Mathlib.Numerals.{add-one}
-use borrow.Author.Rules.{rules}
+use mathlib.Core.Path.{◌≡◌}
 use lib.ListN.{length, drop}
 use Rattle.setting_text.specs.Quotes.{last_end}
-use Rattle.setting_text.proofs.Quotes.{end-gap, end-word, end_none}
 use Rattle.setting_text.proofs.quoting.end_of.Given as goal
 
 abbrev pub invariant-loop-i : goal.invariant-loop-i

@@ -2,7 +2,6 @@
 use mathlib.Core.Path.{sym, ◌∙◌}
 use Rattle.setting_text.specs.Quotes.{fault_of}
 use Rattle.setting_text.proofs.Quotes.{part_none, part-some}
-use borrow.Author.Rules.{rules}
 use Rattle.setting_text.proofs.quoting.fault_of.Goals as goal
 
 pub returns-then-mark : goal.returns-then-mark

@@ -1,6 +1,5 @@
 -- `setting_text::quoting::is_lone` meets its contract. The first carriage return stands before the end of the last word.
 use Rattle.setting_text.specs.Quotes.{lone}
-use borrow.Author.Rules.{rules}
 use Rattle.setting_text.proofs.quoting.is_lone.Goals as goal
 
 pub returns : goal.returns

@@ -1,7 +1,6 @@
 -- `setting_text::quoting::is_lone_line` meets its contract. The line's octets are looked at.
 use mathlib.Core.Path.{sym, ap, ◌∙◌}
 use Rattle.setting_text.specs.Quotes.{lone}
-use borrow.Author.Rules.{rules}
 use Rattle.setting_text.proofs.quoting.is_lone_line.Goals as goal
 
 pub returns : goal.returns

@@ -1,5 +1,4 @@
 -- `setting_text::quoting::is_marked` meets its contract. Three octets decide, where there are three.
-use borrow.Author.Rules.{rules}
 use borrow.Author.Tests.{lt-ltb, le-ltb, eq-eqb, ne_eqb}
 use Rattle.setting_text.specs.Quotes.{marked}
 use Rattle.setting_text.proofs.quoting.is_marked.Goals as goal

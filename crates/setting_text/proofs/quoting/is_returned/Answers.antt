@@ -1,7 +1,6 @@
 -- `setting_text::quoting::is_returned` meets its contract. A line that fits is not asked.
 use borrow.Author.Tests.{eq-eqb, ne_eqb}
 use Rattle.setting_text.specs.Quotes.{returned}
-use borrow.Author.Rules.{rules}
 use Rattle.setting_text.proofs.quoting.is_returned.Goals as goal
 
 pub returns-then-word-eq-NO_WORD : goal.returns-then-word-eq-NO_WORD

@@ -1,10 +1,6 @@
-use Prim.Native.Nat.{◌-◌, ◌≤◌}
-use mathlib.Core.Path.{◌≡◌, refl, ◌∙◌}
-use mathlib.Core.List.{[]}
+use mathlib.Core.Path.{refl, ◌∙◌}
 use native.Mathlib.Omega.{arith}
 use borrow.Author.Rules.{rules}
-use lib.ListN.{drop, get_or}
-use Rattle.setting_text.specs.Texts.{lines}
 use Rattle.setting_text.specs.Quotes.{line_of}
 use Rattle.setting_text.proofs.Quotes.{line-further, line-here, part_same}
 use Rattle.setting_text.proofs.quoting.line_at.Goals as goal

@@ -1,13 +1,10 @@
 -- `setting_text::quoting::line_at` meets its contract. Line n is line n - k + 1 of those from octet `at` on.
 use Prim.Native.Nat.{◌-◌, ◌≤◌}
-use mathlib.Core.Path.{◌≡◌, refl, ◌∙◌}
+use mathlib.Core.Path.{◌≡◌}
 use mathlib.Core.List.{[]}
-use native.Mathlib.Omega.{arith}
-use borrow.Author.Rules.{rules}
 use lib.ListN.{drop, get_or}
 use Rattle.setting_text.specs.Texts.{lines}
 use Rattle.setting_text.specs.Quotes.{line_of}
-use Rattle.setting_text.proofs.Quotes.{line-further, line-here, part_same}
 use Rattle.setting_text.proofs.quoting.line_at.Given as goal
 
 abbrev pub invariant-loop-k : goal.invariant-loop-k

@@ -3,7 +3,6 @@ use mathlib.Core.Path.{sym}
 use lib.Seq.{length-take-le}
 use Rattle.setting_text.specs.Texts.{said}
 use Rattle.setting_text.proofs.Quotes.{part-front}
-use borrow.Author.Rules.{rules}
 use Rattle.setting_text.proofs.quoting.quote_at.Goals as goal
 
 pub slice_bounds-quote_in-end : goal.slice_bounds-quote_in-end

@@ -1,6 +1,5 @@
 -- `setting_text::quoting::quote_in` meets its contract. All words, or one.
 use borrow.Author.Tests.{eq-eqb, ne_eqb}
-use borrow.Author.Rules.{rules}
 use Rattle.setting_text.proofs.quoting.quote_in.Goals as goal
 
 pub returns-then-word-eq-NO_WORD : goal.returns-then-word-eq-NO_WORD

@@ -1,8 +1,4 @@
-use Prim.Native.Nat.{◌-◌}
-use mathlib.Core.Path.{◌≡◌, ◌∙◌}
-use mathlib.Core.List.{[]}
-use borrow.Author.Rules.{rules}
-use lib.ListN.{drop, get_or}
+use mathlib.Core.Path.{◌∙◌}
 use Rattle.setting_text.specs.Texts.{words}
 use Rattle.setting_text.proofs.Quotes.{begins, word-further, word-here, part_same}
 use Rattle.setting_text.proofs.quoting.word_at.Goals as goal

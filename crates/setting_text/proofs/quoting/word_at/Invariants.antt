@@ -1,11 +1,9 @@
 -- `setting_text::quoting::word_at` meets its contract. Word n is word n - k of those from octet `at` on.
 use Prim.Native.Nat.{◌-◌}
-use mathlib.Core.Path.{◌≡◌, ◌∙◌}
+use mathlib.Core.Path.{◌≡◌}
 use mathlib.Core.List.{[]}
-use borrow.Author.Rules.{rules}
 use lib.ListN.{drop, get_or}
 use Rattle.setting_text.specs.Texts.{words}
-use Rattle.setting_text.proofs.Quotes.{begins, word-further, word-here, part_same}
 use Rattle.setting_text.proofs.quoting.word_at.Given as goal
 
 abbrev pub invariant-loop-k : goal.invariant-loop-k

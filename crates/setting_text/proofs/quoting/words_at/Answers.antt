@@ -1,6 +1,5 @@
 -- `setting_text::quoting::words_at` meets its contract. From the first octet that is no blank to the end of the last.
 use Rattle.setting_text.proofs.Quotes.{words-none, words-some}
-use borrow.Author.Rules.{rules}
 use Rattle.setting_text.proofs.quoting.words_at.Goals as goal
 
 pub returns-then-to-from : goal.returns-then-to-from

@@ -10,7 +10,6 @@ use Rattle.rules.specs.Areas.{laid}
 use Rattle.rules.specs.Frames.{primary, data_header}
 use Rattle.rules.specs.Writing.{zone_of, rule_of, pointer_of}
 use Rattle.writer.proofs.Laying.{frame-laid, frame_is, primary-length, data_length}
-use borrow.Author.Rules.{rules}
 use Rattle.writer.proofs.frames.put_frame.Goals as goal
 
 pub returns : goal.returns

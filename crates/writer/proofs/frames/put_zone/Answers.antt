@@ -6,7 +6,6 @@ use mathlib.Core.List.{List}
 use lib.ListN.{length, replicate}
 use Rattle.rules.specs.Areas.{laid}
 use Rattle.rules.proofs.Areas.{laid-laid}
-use borrow.Author.Rules.{rules}
 use Rattle.writer.proofs.frames.put_zone.Goals as goal
 
 pub returns : goal.returns
