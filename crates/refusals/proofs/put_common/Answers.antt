@@ -1,0 +1,19 @@
+-- A word, and the commonest.
+use native.Mathlib.Omega.{arith}
+use Rattle.rules.specs.Listing.{text}
+use Rattle.refusals.specs.Words.{common_text}
+use Rattle.unpack_text.proofs.Writes.{wrote_text, wrote_then}
+use Rattle.refusals.proofs.put_common.Goals as goal
+
+pub offset_bounds-counts-n : goal.offset_bounds-counts-n
+offset_bounds-counts-n c = omega (arith, c.commonest_of-n.ensures.1)
+
+pub bounds-counts-n : goal.bounds-counts-n
+bounds-counts-n c = omega (arith, c.commonest_of-n.ensures.1)
+
+pub returns : goal.returns
+unfolding common_text text
+returns c =
+    rw (← c.commonest_of-n.ensures.0)
+    (wrote_then (wrote_text c.put_text-at.ensures) c.put_naming.ensures
+    (omega (arith, c.requires)))
