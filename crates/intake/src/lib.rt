@@ -3,8 +3,33 @@
 // Proved: what the area held is as it was, and what came stands behind it. Left open: that what came is what stands in the file.
 #![tactic(auto)]
 
-ghost use Rattle.std.specs.Prelude.{◌≡◌, ◌≤◌, min, length};
+ghost use Rattle.std.specs.Prelude.{◌≡◌, ◌≤◌, min, length, IfSome};
 ghost use Rattle.intake.specs.Windows.{Refilled};
+
+use std::cell::Cell;
+use std::fs::File;
+use std::io;
+use std::io::{Read, Stdin};
+
+// The number that the system has for a descriptor that is not open, and for octets that are no text.
+const NOT_OPEN: i32 = 9;
+
+const NO_TEXT: i32 = 84;
+
+// The system, and the number of what it had against the call that failed last; 0 before the first.
+#[derive(Drop)]
+pub struct System {
+    pub rt: HostRuntime,
+    failed: Cell<i32>,
+}
+
+// Where octets come from: standard input, an open file, or a file that could not be opened.
+#[derive(Drop)]
+pub enum Source {
+    Input(Stdin),
+    Of(File),
+    Nothing,
+}
 
 // What an area holds of a file: how many octets at its front, which octet of the file the first is, and whether all reads went well.
 #[derive(Clone, Copy)]
@@ -12,6 +37,82 @@ pub struct Window {
     pub have: usize,
     pub at: u64,
     pub good: bool,
+}
+
+// The system, before its first call.
+pub fn system_of(rt: HostRuntime) -> System {
+    System {
+        rt: rt,
+        failed: Cell::new(0),
+    }
+}
+
+// Keeps what the system had against a call.
+pub fn keep_failure(system: &System, e: io::Error) {
+    let number = e.raw_os_error().unwrap_or(0);
+    system.failed.set(number);
+}
+
+// Keeps a number of the system's: 0 where a call went well.
+pub fn keep_number(system: &System, number: i32) {
+    system.failed.set(number);
+}
+
+// What the system had against the call that failed last.
+pub fn last_failure(system: &System) -> i32 {
+    system.failed.get()
+}
+
+// A path as the library takes it, which is text. The system takes others too: such a one leads to no file here.
+pub fn path_of<'a>(system: &System, path: &'a [u8]) -> Option<&'a str> {
+    match str::from_utf8(path) {
+        Ok(text) => Some(text),
+        Err(_) => {
+            system.failed.set(NO_TEXT);
+            None
+        }
+    }
+}
+
+// Opens a file to read it; nothing, where that fails.
+pub fn open_read(system: &System, path: &[u8]) -> Source {
+    let Some(text) = path_of(system, path) else {
+        return Source::Nothing;
+    };
+    match File::open(&system.rt, text) {
+        Ok(file) => Source::Of(file),
+        Err(e) => {
+            keep_failure(system, e);
+            Source::Nothing
+        }
+    }
+}
+
+// Whether there is something to read from.
+pub fn is_open(from: &Source) -> bool {
+    match from {
+        Source::Input(_) => true,
+        Source::Of(_) => true,
+        Source::Nothing => false,
+    }
+}
+
+// One read into the whole area: how many octets came at its front, 0 at the end; none where it failed.
+pub fn read_once(system: &System, from: &mut Source, area: &mut [u8]) -> Option<usize>
+    ensures { IfSome result (λ n. n ≤ length area.new) }
+{
+    let got = match from {
+        Source::Input(input) => input.read(area),
+        Source::Of(file) => file.read(area),
+        Source::Nothing => Err(io::Error::from_raw_os_error(NOT_OPEN)),
+    };
+    match got {
+        Ok(n) => Some(n),
+        Err(e) => {
+            keep_failure(system, e);
+            None
+        }
+    }
 }
 
 // The lesser of two numbers.
@@ -25,38 +126,38 @@ pub fn least(a: usize, b: usize) -> usize
 }
 
 // Reads once, behind what the area holds.
-fn refill(fd: i32, area: &mut [u8], w: Window) -> Window
+fn refill(system: &System, source: &mut Source, area: &mut [u8], w: Window) -> Window
     requires { w.have ≤ length area.old }
     ensures { Refilled w area.old result area.new }
 {
     let from = w.have;
     let end = area.len();
-    let got = libc::read(fd, &mut area[from..end]);
-    if got < 0 {
-        return Window {
+    match read_once(system, source, &mut area[from..end]) {
+        None => Window {
             have: from,
             at: w.at,
             good: false,
-        };
-    }
-    let came = io::count(got, area);
-    let n = least(came, end - from);
-    Window {
-        have: from + n,
-        at: w.at,
-        good: true,
+        },
+        Some(came) => {
+            let n = least(came, end - from);
+            Window {
+                have: from + n,
+                at: w.at,
+                good: true,
+            }
+        }
     }
 }
 
 // Fills the area up, to its end or the file's.
-pub fn fill_up(fd: i32, area: &mut [u8], w: Window) -> Window
+pub fn fill_up(system: &System, source: &mut Source, area: &mut [u8], w: Window) -> Window
     requires { w.have ≤ length area.old }
     ensures { Refilled w area.old result area.new }
 {
     let mut window = w;
     while window.have < area.len() {
         let before = window.have;
-        window = refill(fd, area, window);
+        window = refill(system, source, area, window);
         if window.have == before {
             return window;
         }
