@@ -1,7 +1,11 @@
 -- Which file a file is.
-use Rattle.std.specs.Prelude.{ℕ, ◌/◌, ◌%◌, Bool, true, false, cond, not, ℤ, pos, negsuc}
+use Rattle.std.specs.Prelude.{ℕ, ◌/◌, ◌%◌, ◌≡◌, Bool, true, false, cond, not, ℤ, pos, negsuc, List, slice_index_or}
 use Rattle.rules.specs.Tests.{◌=?◌}
 use Rattle.files.specs.declared.Known.{Known}
+
+-- The last of a path's 4096 octets is 0.
+abbrev pub Ended : List ℕ → Type 0
+Ended bytes = slice_index_or bytes 4095 1 ≡ 0
 
 -- A size, which the system gives with a sign: one below 0 counts as 0.
 unfoldable pub whole_of : ℤ → ℕ

@@ -1,12 +1,27 @@
 // Which file a descriptor or a name leads to, so that no program writes over what it reads. The system's answer goes along as a value; all that
-// is decided by it has a definition. Two functions ask the system, and their proofs are by hand: the struct that it fills is lent to it.
+// is decided by it has a definition. Three functions ask the system.
 #![tactic(auto)]
 
-ghost use Rattle.std.specs.Prelude.{◌≡◌};
-ghost use Rattle.libc.specs.Io.{Ended};
-ghost use Rattle.files.specs.Known.{whole_of, known_of, same_file, is_regular, is_folder, spoils};
+ghost use Rattle.std.specs.Prelude.{◌≡◌, ◌≤◌};
+ghost use Rattle.files.specs.Known.{Ended, whole_of, known_of, same_file, is_regular, is_folder, spoils};
 
-use libc::types;
+use intake::{Source, System};
+use std::fs::Metadata;
+use std::os::fd::{AsFd, OwnedFd};
+use std::os::unix::fs::MetadataExt;
+use std::{fs, io};
+
+// The number that the system has for a descriptor that is not open.
+const NOT_OPEN: i32 = 9;
+
+// What is taken of the system's answer, under the system's names.
+#[derive(Clone, Copy)]
+struct Stat {
+    st_dev: u64,
+    st_ino: u64,
+    st_mode: u32,
+    st_size: i64,
+}
 
 // A file as the system knows it: whether there is one, its device and inode, its mode, and its size.
 #[derive(Clone, Copy)]
@@ -19,42 +34,97 @@ pub struct Known {
 }
 
 // What stands where the system was not asked, or does not answer: zeros. No file has mode 0.
-fn nothing() -> types::stat {
-    let t = types::timespec {
-        tv_sec: 0,
-        tv_nsec: 0,
-    };
-    types::stat {
+fn nothing() -> Stat {
+    Stat {
         st_dev: 0,
         st_ino: 0,
-        st_nlink: 0,
         st_mode: 0,
-        st_uid: 0,
-        st_gid: 0,
-        __pad: 0,
-        st_rdev: 0,
         st_size: 0,
-        st_blksize: 0,
-        st_blocks: 0,
-        st_atim: t,
-        st_mtim: t,
-        st_ctim: t,
-        __unused: [0i64; 3],
+    }
+}
+
+// The system's answer, where it says something; what was handed in, where it says nothing.
+fn answer(system: &System, got: io::Result<Metadata>, s: Stat) -> Stat {
+    match got {
+        Ok(m) => Stat {
+            st_dev: m.dev(),
+            st_ino: m.ino(),
+            st_mode: m.mode(),
+            st_size: m.size().cast_signed(),
+        },
+        Err(e) => {
+            intake::keep_failure(system, e);
+            s
+        }
+    }
+}
+
+// Another descriptor of a standard stream's open file: 0, 1 or 2.
+fn again(system: &System, n: i32) -> io::Result<OwnedFd> {
+    if n == 0 {
+        return system.rt.stdin().as_fd().try_clone_to_owned();
+    }
+    if n == 1 {
+        return system.rt.stdout().as_fd().try_clone_to_owned();
+    }
+    system.rt.stderr().as_fd().try_clone_to_owned()
+}
+
+// The name under which the system has a standard stream's open file.
+fn stream_name(n: i32) -> &'static str {
+    if n == 0 {
+        return "/proc/self/fd/0";
+    }
+    if n == 1 {
+        return "/proc/self/fd/1";
+    }
+    "/proc/self/fd/2"
+}
+
+// What the system says of a standard stream; what was handed in, where it says nothing. Of one that is closed it says so, and there is no such name.
+fn look_at_stream(system: &System, n: i32, s: Stat) -> Stat {
+    match again(system, n) {
+        Ok(_) => answer(system, fs::metadata(&system.rt, stream_name(n)), s),
+        Err(e) => {
+            intake::keep_failure(system, e);
+            s
+        }
     }
 }
 
 // What the system says of an open file; what was handed in, where it says nothing.
-fn look(fd: i32, mut s: types::stat) -> types::stat {
-    libc::fstat(fd, &mut s);
-    s
+fn look(system: &System, from: &Source, s: Stat) -> Stat {
+    match from {
+        Source::Input(_) => look_at_stream(system, 0, s),
+        Source::Of(file) => answer(system, file.metadata(), s),
+        Source::Nothing => {
+            intake::keep_number(system, NOT_OPEN);
+            s
+        }
+    }
+}
+
+// How many octets a name has, which is ended by a 0.
+fn name_size(path: &[u8; 4096]) -> usize
+    ensures { result ≤ 4096 }
+{
+    for n in 0..4096 {
+        if path[n] == 0 {
+            return n;
+        }
+    }
+    4096
 }
 
 // The same of the file that a name leads to, through links.
-fn look_at(path: &[u8; 4096], mut s: types::stat) -> types::stat
+fn look_at(system: &System, path: &[u8; 4096], s: Stat) -> Stat
     requires { Ended path.now }
 {
-    libc::stat(path, &mut s);
-    s
+    let n = name_size(path);
+    match intake::path_of(system, &path[..n]) {
+        Some(text) => answer(system, fs::metadata(&system.rt, text), s),
+        None => s,
+    }
 }
 
 // A size, which the system gives as a number with a sign; none has less than 0.
@@ -68,7 +138,7 @@ fn whole(size: i64) -> u64
 }
 
 // What is kept of the system's answer.
-fn known_of(s: types::stat) -> Known
+fn known_of(s: Stat) -> Known
     ensures { result ≡ known_of s.st_dev s.st_ino s.st_mode (whole_of s.st_size) }
 {
     let size = whole(s.st_size);
@@ -98,25 +168,33 @@ fn ended(path: &[u8]) -> [u8; 4096]
     name
 }
 
-// The file of an open descriptor.
-pub fn of_descriptor(fd: i32) -> Known {
+// The file of a standard stream: 0, 1 or 2.
+pub fn of_descriptor(system: &System, n: i32) -> Known {
     let s = nothing();
-    let t = look(fd, s);
+    let t = look_at_stream(system, n, s);
+    known_of(t)
+}
+
+// The file that is read.
+pub fn of_source(system: &System, from: &Source) -> Known {
+    let s = nothing();
+    let t = look(system, from, s);
     known_of(t)
 }
 
 // The file that a name leads to. A name that the system does not take, of 4,096 octets or more, leads to none.
-pub fn of_name(path: &[u8]) -> Known {
+pub fn of_name(system: &System, path: &[u8]) -> Known {
     let s = nothing();
     if 4096 <= path.len() {
         return known_of(s);
     }
     let name = ended(path);
-    let t = look_at(&name, s);
+    let t = look_at(system, &name, s);
     known_of(t)
 }
 
 // Whether two are one file: both are there, on the same device with the same inode.
+#[tactic(auto, unfolding(crate::specs::Known::same_file))]
 pub fn same(a: Known, b: Known) -> bool
     ensures { result ≡ same_file a b }
 {
@@ -131,6 +209,7 @@ pub fn same(a: Known, b: Known) -> bool
 }
 
 // Whether it is a regular file.
+#[tactic(auto, unfolding(crate::specs::Known::is_regular))]
 pub fn regular(k: Known) -> bool
     ensures { result ≡ is_regular k }
 {
@@ -138,6 +217,7 @@ pub fn regular(k: Known) -> bool
 }
 
 // Whether it is a folder.
+#[tactic(auto, unfolding(crate::specs::Known::is_folder))]
 pub fn folder(k: Known) -> bool
     ensures { result ≡ is_folder k }
 {

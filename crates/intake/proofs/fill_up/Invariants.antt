@@ -1,5 +1,5 @@
 -- What was read stands behind what the area held, which is as it was.
-use Rattle.std.proofs.Common.{length, ◌-◌, ◌≡◌}
+use Rattle.std.proofs.Common.{length, ◌-◌}
 use Rattle.intake.specs.Windows.{Refilled}
 use Rattle.intake.proofs.fill_up.Given as goal
 
