@@ -6,10 +6,19 @@ pub mod progress;
 
 ghost use Rattle.std.specs.Prelude.{◌≡◌, ◌≤◌, length, take, cond};
 ghost use Rattle.rules.specs.Tests.{◌<?◌};
+ghost use Rattle.io.specs.Counts.{IsPrefixLen};
 ghost use Rattle.console.specs.Shown.{plain_of, shown};
 
 use files::Known;
+use intake::System;
+use std::env::{Env, FillError};
+use std::io::{Cursor, Error, Write};
 use words::{Asked, Program};
+
+// The numbers that the system has for a word that is not there, and for one that is too long.
+const MISSING: i32 = 22;
+
+const TOO_LONG: i32 = 36;
 
 // The octet that stands for one of a name: a question mark for those that would end the line or do something to a terminal.
 fn plain(x: u8) -> u8
@@ -100,13 +109,58 @@ pub fn say_at(program: &[u8], about: &[u8], place: &[u8], n: u64, what: &[u8]) {
     io::write_all(2, b"\n");
 }
 
+// How many octets of a text stand before its last bracket and the blank before that: the library has a number there.
+fn before_bracket(text: &[u8]) -> usize
+    ensures { result ≤ length text.now }
+{
+    let n = text.len();
+    for k in 0..n {
+        let i = n - 1 - k;
+        if text[i] == b'(' {
+            return i.saturating_sub(1);
+        }
+    }
+    n
+}
+
+// Says the system's word for this number.
+fn say_number(number: i32) {
+    let e = Error::from_raw_os_error(number);
+    let mut text = Cursor::new([0u8; 128]);
+    if write!(text, "{e}").is_ok() {
+        let area = text.into_inner();
+        let n = before_bracket(&area);
+        io::write_all(2, &area[..n]);
+    }
+}
+
 // A line to standard error that ends in the system's word for the call that failed last.
-pub fn say_failed(program: &[u8], about: &[u8]) {
+pub fn say_failed(system: &System, program: &[u8], about: &[u8]) {
     let mut area = io::buffer();
     let n = put_name(&mut area, about);
     io::write_all(2, program);
     io::write_all(2, b": ");
-    os::fail(&area[..n]);
+    io::write_all(2, &area[..n]);
+    io::write_all(2, b": ");
+    say_number(intake::last_failure(system));
+    io::write_all(2, b"\n");
+}
+
+// Writes all octets to standard output; stops at the first write that takes none or fails.
+pub fn write_out(system: &System, octets: &[u8]) -> bool {
+    let mut output = system.rt.stdout();
+    let mut done: usize = 0;
+    while done < octets.len() {
+        match output.write(&octets[done..]) {
+            Ok(0) => return false,
+            Ok(n) => done += n,
+            Err(e) => {
+                intake::keep_failure(system, e);
+                return false;
+            }
+        }
+    }
+    true
 }
 
 // A line to standard error: how far the program is, or that it is done.
@@ -121,20 +175,52 @@ pub fn say_count(program: &[u8], word: &[u8], n: u64, what: &[u8]) {
 
 // ---- the command line
 
+// Puts word i of the command line at the front of an area: how many octets it has there, 0 where it is missing or longer. What the system has
+// against it is kept: nothing, where the word is whole.
+pub fn arg(system: &System, i: usize, area: &mut [u8]) -> usize
+    ensures { IsPrefixLen result area.new }
+{
+    match system.rt.arg(i, area) {
+        Ok(n) => {
+            intake::keep_number(system, 0);
+            n
+        }
+        Err(FillError::NotPresent) => {
+            intake::keep_number(system, MISSING);
+            0
+        }
+        Err(FillError::TooLong) => {
+            intake::keep_number(system, TOO_LONG);
+            0
+        }
+    }
+}
+
+// How many words the command line has, the program's own name among them.
+pub fn arg_count(system: &System) -> usize {
+    let mut front = [0u8; 1];
+    for i in 0..usize::MAX {
+        if let Err(FillError::NotPresent) = system.rt.arg(i, &mut front) {
+            return i;
+        }
+    }
+    usize::MAX
+}
+
 // With word i more.
-fn add_word(program: Program, q: Asked, i: usize) -> Asked {
+fn add_word(system: &System, program: Program, q: Asked, i: usize) -> Asked {
     let mut word = io::buffer();
-    let n = os::arg(i, &mut word);
+    let n = arg(system, i, &mut word);
     let w = words::word_to(program, &word[..n]);
     words::next_word(q, i, w)
 }
 
 // What n words of a program's command line ask for.
-pub fn read_words(program: Program, n: usize) -> Asked {
+pub fn read_words(system: &System, program: Program, n: usize) -> Asked {
     let mut q = words::no_asked();
     let mut i: usize = 1;
     while i < n {
-        q = add_word(program, q, i);
+        q = add_word(system, program, q, i);
         i += 1;
     }
     q
@@ -143,21 +229,21 @@ pub fn read_words(program: Program, n: usize) -> Asked {
 // ---- whether something may be said
 
 // Whether what is said would go into the file of word i, or into that of what stands behind its `=`.
-fn is_word_spoiled(e: Known, i: usize) -> bool {
+fn is_word_spoiled(system: &System, e: Known, i: usize) -> bool {
     let mut word = io::buffer();
-    let n = os::arg(i, &mut word);
+    let n = arg(system, i, &mut word);
     let at = words::behind(&word[..n]);
-    let a = files::of_name(&word[..n]);
-    let b = files::of_name(&word[at..n]);
+    let a = files::of_name(system, &word[..n]);
+    let b = files::of_name(system, &word[at..n]);
     files::is_spoiled(e, a, b)
 }
 
 // Whether what is said would go into the file of one of n words, but for word `but`, which names no input.
-fn is_any_spoiled(e: Known, n: usize, but: usize) -> bool {
+fn is_any_spoiled(system: &System, e: Known, n: usize, but: usize) -> bool {
     let mut i: usize = 1;
     while i < n {
         if i != but {
-            let spoiled = is_word_spoiled(e, i);
+            let spoiled = is_word_spoiled(system, e, i);
             if spoiled {
                 return true;
             }
@@ -168,41 +254,41 @@ fn is_any_spoiled(e: Known, n: usize, but: usize) -> bool {
 }
 
 // The file, beside standard input, into which nothing may be said: standard output where octets go there that nothing else may stand between.
-fn guarded(i: Known, apart: bool) -> Known {
+fn guarded(system: &System, i: Known, apart: bool) -> Known {
     if apart {
-        return files::of_descriptor(1);
+        return files::of_descriptor(system, 1);
     }
     i
 }
 
 // Whether what is said would go into standard input or, with `apart`, into standard output: a regular file.
-fn is_own_spoiled(e: Known, apart: bool) -> bool {
-    let i = files::of_descriptor(0);
-    let o = guarded(i, apart);
+fn is_own_spoiled(system: &System, e: Known, apart: bool) -> bool {
+    let i = files::of_descriptor(system, 0);
+    let o = guarded(system, i, apart);
     files::is_spoiled(e, i, o)
 }
 
 // Whether a program may say something: what is said goes neither into standard input nor, with `apart`, into standard output, nor into the file of one
 // of its n words, but for word `but`. Where it may not, there is no place to say so.
-pub fn may_say(apart: bool, n: usize, but: usize) -> bool {
-    let e = files::of_descriptor(2);
-    let own = is_own_spoiled(e, apart);
+pub fn may_say(system: &System, apart: bool, n: usize, but: usize) -> bool {
+    let e = files::of_descriptor(system, 2);
+    let own = is_own_spoiled(system, e, apart);
     if own {
         return false;
     }
-    let any = is_any_spoiled(e, n, but);
+    let any = is_any_spoiled(system, e, n, but);
     !any
 }
 
 // The same of a program that reads standard input alone, and whether it may print: standard output is not that file either, which is said.
-pub fn may_print(program: &[u8], apart: bool) -> bool {
-    let e = files::of_descriptor(2);
-    let own = is_own_spoiled(e, apart);
+pub fn may_print(system: &System, program: &[u8], apart: bool) -> bool {
+    let e = files::of_descriptor(system, 2);
+    let own = is_own_spoiled(system, e, apart);
     if own {
         return false;
     }
-    let o = files::of_descriptor(1);
-    let spoiled = is_own_spoiled(o, false);
+    let o = files::of_descriptor(system, 1);
+    let spoiled = is_own_spoiled(system, o, false);
     if spoiled {
         say(program, b"standard input", b"standard output is this file");
     }

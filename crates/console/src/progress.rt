@@ -3,6 +3,9 @@ ghost use Rattle.std.specs.Prelude.{◌≡◌, ◌%◌};
 ghost use Rattle.rules.specs.Tests.{◌=?◌};
 ghost use Rattle.console.specs.Progress.{percent_of};
 
+use intake::System;
+use std::io::IsTerminal;
+
 // Whether it is to be said after this many frames.
 pub fn is_due(count: u64) -> bool
     ensures { result ≡ (count % 65536) =? 0 }
@@ -56,7 +59,6 @@ pub fn say_far(program: &[u8], count: u64, hundredth: u64, done: u64, live: bool
 }
 
 // Whether standard error is a terminal.
-pub fn is_live() -> bool {
-    let terminal = libc::isatty(2);
-    terminal == 1
+pub fn is_live(system: &System) -> bool {
+    system.rt.stderr().is_terminal()
 }

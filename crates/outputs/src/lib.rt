@@ -4,11 +4,22 @@
 // is called, and in which order they are taken is promised; what the system then does with a name is shown by runs.
 #![tactic(auto)]
 
-ghost use Rattle.std.specs.Prelude.{◌≡◌, ◌+◌, ◌≤◌, ◌<◌, length, take, drop};
+ghost use Rattle.std.specs.Prelude.{◌≡◌, ◌+◌, ◌≤◌, ◌<◌, length, take, drop, IfSome};
 ghost use Rattle.unpack_text.specs.Lines.{Wrote};
 ghost use Rattle.outputs.specs.Names.{has_output, ending, mark, Named, plain_fit, fit_of, aside_turn, no_stage, put_aside, gave, last_slash};
 
 use files::Known;
+use intake::{Source, System};
+use std::fs;
+use std::fs::{File, OpenOptions};
+use std::io;
+use std::io::Write;
+
+// The number that the system has for a descriptor that is not open.
+const NOT_OPEN: i32 = 9;
+
+// The number that it has for a file that is not there.
+const NOT_THERE: i32 = 2;
 
 // How many lanes a run has, whether it writes a table of units, and the number that its unfinished files have in their names.
 #[derive(Clone, Copy)]
@@ -114,16 +125,16 @@ fn name_of(prefix: &[u8], number: u64, i: usize, old: bool) -> Name
 }
 
 // Says that the last call of the system failed on this name.
-fn say_failed(name: &[u8]) {
-    console::say_failed(b"unpack", name);
+fn say_failed(system: &System, name: &[u8]) {
+    console::say_failed(system, b"unpack", name);
 }
 
 // Says that it failed on output i's unfinished file.
-pub fn say_part(p: Plan, prefix: &[u8], i: usize) {
+pub fn say_part(system: &System, p: Plan, prefix: &[u8], i: usize) {
     let w = name_of(prefix, p.number, i, false);
     let name = w.octets;
     let end = w.end;
-    say_failed(&name[..end]);
+    say_failed(system, &name[..end]);
 }
 
 // ---- what is there already
@@ -188,14 +199,14 @@ fn say_fit(f: Fit, name: &[u8]) -> bool {
 }
 
 // Whether an output may take this name; says why where it may not.
-fn is_free(name: &[u8], f: Kept) -> bool {
-    let k = files::of_name(name);
+fn is_free(system: &System, name: &[u8], f: Kept) -> bool {
+    let k = files::of_name(system, name);
     let fit = fit_of(k, f);
     say_fit(fit, name)
 }
 
 // Whether output i, if there is one, may take its name.
-fn may_take(p: Plan, prefix: &[u8], i: usize, f: Kept) -> bool {
+fn may_take(system: &System, p: Plan, prefix: &[u8], i: usize, f: Kept) -> bool {
     let wanted = has(p, i);
     if !wanted {
         return true;
@@ -203,14 +214,14 @@ fn may_take(p: Plan, prefix: &[u8], i: usize, f: Kept) -> bool {
     let w = name_of(prefix, p.number, i, false);
     let name = w.octets;
     let at = w.at;
-    is_free(&name[..at], f)
+    is_free(system, &name[..at], f)
 }
 
 // Whether each output may take its name: none leads to a file that nothing may replace, by link or by name, and what is there is a regular file.
-pub fn may_take_all(p: Plan, prefix: &[u8], f: Kept) -> bool {
+pub fn may_take_all(system: &System, p: Plan, prefix: &[u8], f: Kept) -> bool {
     let mut i: usize = 0;
     while i < 10 {
-        let good = may_take(p, prefix, i, f);
+        let good = may_take(system, p, prefix, i, f);
         if !good {
             return false;
         }
@@ -221,42 +232,70 @@ pub fn may_take_all(p: Plan, prefix: &[u8], f: Kept) -> bool {
 
 // ---- making and keeping
 
-// Makes a file of this name. A name that is taken is refused: nothing is opened over.
-fn make_new(name: &[u8]) -> i32 {
-    let fd = os::create(name);
-    if fd < 0 {
-        say_failed(name);
+// Keeps what the system had against a call; whether it had nothing.
+fn went(system: &System, done: io::Result<()>) -> bool {
+    match done {
+        Ok(()) => true,
+        Err(e) => {
+            intake::keep_failure(system, e);
+            false
+        }
     }
-    fd
+}
+
+// Makes a file of this name. A name that is taken is refused: nothing is opened over.
+fn make_new(system: &System, name: &[u8]) -> Option<File> {
+    let file = create(system, name);
+    if file.is_none() {
+        say_failed(system, name);
+    }
+    file
+}
+
+// Creates a file of this name, if there is none.
+fn create(system: &System, name: &[u8]) -> Option<File> {
+    let path = intake::path_of(system, name)?;
+    match OpenOptions::new()
+        .write(true)
+        .create_new(true)
+        .open(&system.rt, path)
+    {
+        Ok(file) => Some(file),
+        Err(e) => {
+            intake::keep_failure(system, e);
+            None
+        }
+    }
 }
 
 // Makes the unfinished file of output i.
-fn make(p: Plan, prefix: &[u8], i: usize) -> i32 {
+fn make(system: &System, p: Plan, prefix: &[u8], i: usize) -> Option<File> {
     let w = name_of(prefix, p.number, i, false);
     let name = w.octets;
     let end = w.end;
-    make_new(&name[..end])
+    make_new(system, &name[..end])
 }
 
-// The descriptors of unfinished files, -1 where none was made, and whether all that are wanted were.
-#[derive(Clone, Copy)]
+// The unfinished files, none where none was made, and whether all that are wanted were.
+#[derive(Drop)]
 pub struct Made {
-    pub fds: [i32; 10],
+    pub files: [Option<File>; 10],
     pub good: bool,
 }
 
 // Makes each unfinished file, up to the first failure.
-pub fn make_all(p: Plan, prefix: &[u8]) -> Made {
-    let mut fds = [-1i32; 10];
+pub fn make_all(system: &System, p: Plan, prefix: &[u8]) -> Made {
+    let mut files = [None, None, None, None, None, None, None, None, None, None];
     let mut i: usize = 0;
     while i < 10 {
         let wanted = has(p, i);
         if wanted {
-            let fd = make(p, prefix, i);
-            fds[i] = fd;
-            if fd < 0 {
+            let file = make(system, p, prefix, i);
+            let made = file.is_some();
+            files[i] = file;
+            if !made {
                 return Made {
-                    fds: fds,
+                    files: files,
                     good: false,
                 };
             }
@@ -264,31 +303,66 @@ pub fn make_all(p: Plan, prefix: &[u8]) -> Made {
         i += 1;
     }
     Made {
-        fds: fds,
+        files: files,
         good: true,
     }
 }
 
-// Puts an output on its device and closes it.
-fn keep(fd: i32) -> bool {
-    let synced = libc::fsync(fd);
-    if synced < 0 {
-        return false;
+// One write to an output that was made: how many octets it took; none where it failed.
+fn write_some(system: &System, file: &Option<File>, octets: &[u8]) -> Option<usize>
+    ensures { IfSome result (λ n. n ≤ length octets.now) }
+{
+    let Some(file) = file else {
+        intake::keep_number(system, NOT_OPEN);
+        return None;
+    };
+    let mut to: &File = file;
+    match to.write(octets) {
+        Ok(n) => Some(n),
+        Err(e) => {
+            intake::keep_failure(system, e);
+            None
+        }
     }
-    let closed = libc::close(fd);
-    0 <= closed
 }
 
-// Puts each output on its device and closes it.
-pub fn keep_all(p: Plan, fds: [i32; 10], prefix: &[u8]) -> bool {
+// Writes all octets to an output that was made; stops at the first write that takes none or fails.
+pub fn write_all(system: &System, file: &Option<File>, octets: &[u8]) -> bool {
+    let mut done: usize = 0;
+    while done < octets.len() {
+        match write_some(system, file, &octets[done..]) {
+            None => return false,
+            Some(n) => {
+                if n == 0 {
+                    return false;
+                }
+                done += n;
+            }
+        }
+    }
+    true
+}
+
+// Puts an output on its device.
+fn keep(system: &System, file: &Option<File>) -> bool {
+    match file {
+        Some(file) => went(system, file.sync_all()),
+        None => {
+            intake::keep_number(system, NOT_OPEN);
+            false
+        }
+    }
+}
+
+// Puts each output on its device.
+pub fn keep_all(system: &System, p: Plan, files: &[Option<File>; 10], prefix: &[u8]) -> bool {
     let mut i: usize = 0;
     while i < 10 {
         let wanted = has(p, i);
         if wanted {
-            let fd = fds[i];
-            let kept = keep(fd);
+            let kept = keep(system, &files[i]);
             if !kept {
-                say_part(p, prefix, i);
+                say_part(system, p, prefix, i);
                 return false;
             }
         }
@@ -315,49 +389,60 @@ struct Stage {
     well: bool,
 }
 
+// A file gets another name; whether it did.
+fn rename(system: &System, from: &[u8], to: &[u8]) -> bool {
+    let Some(old) = intake::path_of(system, from) else {
+        return false;
+    };
+    let Some(new) = intake::path_of(system, to) else {
+        return false;
+    };
+    went(system, fs::rename(&system.rt, old, new))
+}
+
 // A file leaves its finished name, the front of the other up to the mark, for that other.
-fn move_off(number: u64, old: bool, long: &[u8], at: usize) -> Moved
+fn move_off(system: &System, number: u64, old: bool, long: &[u8], at: usize) -> Moved
     requires { (at ≤ length long.now) × (drop at long.now ≡ mark old number) }
 {
-    let gone = os::rename(&long[..at], long);
-    if gone < 0 {
-        if os::errno() == libc::ENOENT {
+    let gone = rename(system, &long[..at], long);
+    if !gone {
+        if intake::last_failure(system) == NOT_THERE {
             return Moved::Nothing;
         }
-        say_failed(&long[..at]);
+        say_failed(system, &long[..at]);
         return Moved::Failed;
     }
     Moved::Done
 }
 
 // A file takes its finished name, the front of the one that it has, up to the mark.
-fn move_on(number: u64, old: bool, long: &[u8], at: usize) -> bool
+fn move_on(system: &System, number: u64, old: bool, long: &[u8], at: usize) -> bool
     requires { (at ≤ length long.now) × (drop at long.now ≡ mark old number) }
 {
-    let given = os::rename(long, &long[..at]);
-    if given < 0 {
-        say_failed(long);
+    let given = rename(system, long, &long[..at]);
+    if !given {
+        say_failed(system, long);
         return false;
     }
     true
 }
 
 // What has the name of output i leaves it: for the name of one put aside, or of an unfinished one.
-fn leave_name(p: Plan, prefix: &[u8], i: usize, old: bool) -> Moved {
+fn leave_name(system: &System, p: Plan, prefix: &[u8], i: usize, old: bool) -> Moved {
     let w = name_of(prefix, p.number, i, old);
     let name = w.octets;
     let at = w.at;
     let end = w.end;
-    move_off(p.number, old, &name[..end], at)
+    move_off(system, p.number, old, &name[..end], at)
 }
 
 // The unfinished file of output i, or the one that was put aside, takes its name.
-fn take_name(p: Plan, prefix: &[u8], i: usize, old: bool) -> bool {
+fn take_name(system: &System, p: Plan, prefix: &[u8], i: usize, old: bool) -> bool {
     let w = name_of(prefix, p.number, i, old);
     let name = w.octets;
     let at = w.at;
     let end = w.end;
-    move_on(p.number, old, &name[..end], at)
+    move_on(system, p.number, old, &name[..end], at)
 }
 
 // The output that is put aside in turn k: the records first, so that none stand beside lanes of another run.
@@ -418,24 +503,24 @@ fn after_given(s: Stage, i: usize, good: bool) -> Stage
 }
 
 // Puts what has the name of output i aside, if there is such an output.
-fn put_aside(p: Plan, prefix: &[u8], i: usize, s: Stage) -> Stage
+fn put_aside(system: &System, p: Plan, prefix: &[u8], i: usize, s: Stage) -> Stage
     requires { i < 10 }
 {
     let wanted = has(p, i);
     if !wanted {
         return s;
     }
-    let m = leave_name(p, prefix, i, true);
+    let m = leave_name(system, p, prefix, i, true);
     after_aside(s, i, m)
 }
 
 // Puts what has the names of outputs aside, the records first, up to the first failure.
-fn put_all_aside(p: Plan, prefix: &[u8]) -> Stage {
+fn put_all_aside(system: &System, p: Plan, prefix: &[u8]) -> Stage {
     let mut s = no_stage();
     let mut k: usize = 0;
     while k < 10 {
         let i = aside_turn(k);
-        s = put_aside(p, prefix, i, s);
+        s = put_aside(system, p, prefix, i, s);
         if s.well {} else {
             return s;
         }
@@ -445,26 +530,26 @@ fn put_all_aside(p: Plan, prefix: &[u8]) -> Stage {
 }
 
 // Gives output i its name, if there is such an output.
-fn give_name(p: Plan, prefix: &[u8], i: usize, s: Stage) -> Stage
+fn give_name(system: &System, p: Plan, prefix: &[u8], i: usize, s: Stage) -> Stage
     requires { i < 10 }
 {
     let wanted = has(p, i);
     if !wanted {
         return s;
     }
-    let good = take_name(p, prefix, i, false);
+    let good = take_name(system, p, prefix, i, false);
     after_given(s, i, good)
 }
 
 // Puts what has the names aside, and then gives each output its name, the records last, up to the first failure.
-fn give_each(p: Plan, prefix: &[u8]) -> Stage {
-    let mut s = put_all_aside(p, prefix);
+fn give_each(system: &System, p: Plan, prefix: &[u8]) -> Stage {
+    let mut s = put_all_aside(system, p, prefix);
     let mut i: usize = 0;
     while i < 10 {
         if s.well {} else {
             return s;
         }
-        s = give_name(p, prefix, i, s);
+        s = give_name(system, p, prefix, i, s);
         i += 1;
     }
     s
@@ -487,105 +572,112 @@ fn folder_size(prefix: &[u8]) -> usize
 }
 
 // Puts the names of a folder on its device.
-fn keep_folder(folder: &[u8]) -> bool {
-    let fd = os::open_read(folder);
-    if 0 <= fd {
-        let kept = keep(fd);
+fn keep_folder(system: &System, folder: &[u8]) -> bool {
+    let from = intake::open_read(system, folder);
+    if let Source::Of(file) = from {
+        let kept = keep(system, &Some(file));
         if kept {
             return true;
         }
     }
-    say_failed(folder);
+    say_failed(system, folder);
     false
 }
 
 // Puts the names that begin with a prefix on their device.
-fn keep_names(prefix: &[u8]) -> bool {
+fn keep_names(system: &System, prefix: &[u8]) -> bool {
     let k = folder_size(prefix);
     if k == 0 {
-        return keep_folder(b".");
+        return keep_folder(system, b".");
     }
-    keep_folder(&prefix[..k])
+    keep_folder(system, &prefix[..k])
+}
+
+// Removes a name, where that can be done.
+fn unlink(system: &System, name: &[u8]) {
+    if let Some(path) = intake::path_of(system, name) {
+        went(system, fs::remove_file(&system.rt, path));
+    }
 }
 
 // Removes output i's unfinished file, or the earlier one that was put aside, if there is one, where that can be done.
-fn remove(p: Plan, prefix: &[u8], i: usize, old: bool, there: bool) {
+fn remove(system: &System, p: Plan, prefix: &[u8], i: usize, old: bool, there: bool) {
     if !there {
         return;
     }
     let w = name_of(prefix, p.number, i, old);
     let name = w.octets;
     let end = w.end;
-    os::unlink(&name[..end]);
+    unlink(system, &name[..end]);
 }
 
 // Removes what was put aside.
-fn forget_all(p: Plan, prefix: &[u8], s: Stage) {
+fn forget_all(system: &System, p: Plan, prefix: &[u8], s: Stage) {
     let aside = s.aside;
     let mut i: usize = 0;
     while i < 10 {
         let a = aside[i];
-        remove(p, prefix, i, true, a);
+        remove(system, p, prefix, i, true, a);
         i += 1;
     }
 }
 
 // Takes the name of output i back, if it was given.
-fn take_back(p: Plan, prefix: &[u8], i: usize, given: bool) {
+fn take_back(system: &System, p: Plan, prefix: &[u8], i: usize, given: bool) {
     if given {
-        leave_name(p, prefix, i, false);
+        leave_name(system, p, prefix, i, false);
     }
 }
 
 // Gives what was put aside the name of output i again, if it was.
-fn put_back(p: Plan, prefix: &[u8], i: usize, aside: bool) {
+fn put_back(system: &System, p: Plan, prefix: &[u8], i: usize, aside: bool) {
     if aside {
-        take_name(p, prefix, i, true);
+        take_name(system, p, prefix, i, true);
     }
 }
 
 // Takes names back, and gives them to what had them, the records last.
-fn undo_all(p: Plan, prefix: &[u8], s: Stage) {
+fn undo_all(system: &System, p: Plan, prefix: &[u8], s: Stage) {
     let given = s.given;
     let aside = s.aside;
     let mut i: usize = 0;
     while i < 10 {
         let g = given[i];
         let a = aside[i];
-        take_back(p, prefix, i, g);
-        put_back(p, prefix, i, a);
+        take_back(system, p, prefix, i, g);
+        put_back(system, p, prefix, i, a);
         i += 1;
     }
 }
 
 // Whether all outputs have their names, and these are on their device.
-fn settled(s: Stage, prefix: &[u8]) -> bool {
+fn settled(system: &System, s: Stage, prefix: &[u8]) -> bool {
     if s.well {
-        return keep_names(prefix);
+        return keep_names(system, prefix);
     }
     false
 }
 
 // Gives each output its name. What had the names is put aside first and removed at the end, or gets them again where something fails.
-pub fn give_names(p: Plan, prefix: &[u8]) -> bool {
-    let s = give_each(p, prefix);
-    let good = settled(s, prefix);
+pub fn give_names(system: &System, p: Plan, prefix: &[u8]) -> bool {
+    let s = give_each(system, p, prefix);
+    let good = settled(system, s, prefix);
     if good {
-        forget_all(p, prefix, s);
+        forget_all(system, p, prefix, s);
         return true;
     }
-    undo_all(p, prefix, s);
+    undo_all(system, p, prefix, s);
     false
 }
 
 // ---- a run that fails
 
 // Removes the unfinished files that this run made, where that still can be done. The program ends then, and closes them.
-pub fn remove_all(p: Plan, fds: [i32; 10], prefix: &[u8]) {
+pub fn remove_all(system: &System, p: Plan, files: &[Option<File>; 10], prefix: &[u8]) {
     let mut i: usize = 0;
     while i < 10 {
-        let fd = fds[i];
-        remove(p, prefix, i, false, 0 <= fd);
+        let made = files[i].is_some();
+        remove(system, p, prefix, i, false, made);
         i += 1;
     }
 }

@@ -7,6 +7,7 @@ ghost use Rattle.setting_text.specs.Quotes.{quoted};
 ghost use Rattle.setting_file.specs.Files.{none, text_found, judged};
 
 use files::Known;
+use intake::{Source, System};
 use rules::Setting;
 use setting_text::quoting::Fault;
 use setting_text::{Finding, Missing, Wanted};
@@ -228,30 +229,28 @@ fn say_finding(program: &[u8], path: &[u8], octets: &[u8], f: Finding) {
 }
 
 // One read, and how many octets it gave; none at the file's end.
-fn read_some(fd: i32, part: &mut [u8]) -> Filled
+fn read_some(system: &System, from: &mut Source, part: &mut [u8]) -> Filled
     ensures { result.size ≤ length part.new }
 {
-    let got = libc::read(fd, part);
-    if got < 0 {
-        return Filled {
+    match intake::read_once(system, from, part) {
+        None => Filled {
             read: false,
             size: 0,
-        };
-    }
-    let n = io::count(got, part);
-    Filled {
-        read: true,
-        size: n,
+        },
+        Some(n) => Filled {
+            read: true,
+            size: n,
+        },
     }
 }
 
 // Reads until the area is full, the file ends or a read fails.
-fn fill(fd: i32, area: &mut [u8]) -> Filled
+fn fill(system: &System, from: &mut Source, area: &mut [u8]) -> Filled
     ensures { result.size ≤ length area.new }
 {
     let mut n: usize = 0;
     while n < area.len() {
-        let f = read_some(fd, &mut area[n..]);
+        let f = read_some(system, from, &mut area[n..]);
         let k = f.size;
         if k == 0 {
             return Filled {
@@ -268,16 +267,16 @@ fn fill(fd: i32, area: &mut [u8]) -> Filled
 }
 
 // The same from a file that was opened, or could not be.
-fn fill_from(fd: i32, area: &mut [u8]) -> Filled
+fn fill_from(system: &System, from: &mut Source, area: &mut [u8]) -> Filled
     ensures { result.size ≤ length area.new }
 {
-    if fd < 0 {
+    if !intake::is_open(from) {
         return Filled {
             read: false,
             size: 0,
         };
     }
-    fill(fd, area)
+    fill(system, from, area)
 }
 
 // No setting, but one of zeros.
@@ -324,33 +323,36 @@ fn judge(filled: Filled, area: &[u8]) -> Judged
 }
 
 // Says what is wrong with a file that has these octets, if anything is.
-fn say_found(program: &[u8], path: &[u8], octets: &[u8], found: Found) {
+fn say_found(system: &System, program: &[u8], path: &[u8], octets: &[u8], found: Found) {
     match found {
-        Found::Unread => console::say_failed(program, path),
+        Found::Unread => console::say_failed(system, program, path),
         Found::TooLong => console::say(program, path, b"more than 65536 octets"),
         Found::Text(f) => say_finding(program, path, octets, f),
     }
 }
 
 // Closes a file that was opened.
-fn close(fd: i32) {
-    if fd < 0 {
-        return;
-    }
-    libc::close(fd);
+fn close(from: Source) {
+    drop(from);
 }
 
 // Reads a setting from an open file of this name, or one that could not be opened, into the area, which should have room for more octets than a
 // text may have. Where there is no setting, a message of this program says why.
-pub fn load_open(program: &[u8], name: &[u8], fd: i32, area: &mut [u8]) -> Loaded
+pub fn load_open(
+    system: &System,
+    program: &[u8],
+    name: &[u8],
+    from: &mut Source,
+    area: &mut [u8],
+) -> Loaded
     ensures { result.judged ≡ judged result.filled area.new }
 {
-    let filled = fill_from(fd, area);
+    let filled = fill_from(system, from, area);
     let j = judge(filled, area);
     let found = j.found;
     let n = filled.size;
-    say_found(program, name, &area[..n], found);
-    let file = files::of_descriptor(fd);
+    say_found(system, program, name, &area[..n], found);
+    let file = files::of_source(system, from);
     Loaded {
         filled: filled,
         judged: j,
@@ -359,11 +361,11 @@ pub fn load_open(program: &[u8], name: &[u8], fd: i32, area: &mut [u8]) -> Loade
 }
 
 // The same from the file that a path leads to.
-pub fn load(program: &[u8], path: &[u8], area: &mut [u8]) -> Loaded
+pub fn load(system: &System, program: &[u8], path: &[u8], area: &mut [u8]) -> Loaded
     ensures { result.judged ≡ judged result.filled area.new }
 {
-    let fd = os::open_read(path);
-    let l = load_open(program, path, fd, area);
-    close(fd);
+    let mut from = intake::open_read(system, path);
+    let l = load_open(system, program, path, &mut from, area);
+    close(from);
     l
 }

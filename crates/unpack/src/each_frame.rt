@@ -13,8 +13,10 @@ ghost use Rattle.refusals.specs.Words.{totals_text};
 ghost use Rattle.unit_table.specs.Rows.{table_title, rows_text};
 ghost use Rattle.unpack.specs.Stages.{totals_after, step_of, AreasFit, Gave, Handed, Handled, Turned, Finished, taken_turn, first_turn, ending_of, halted_turn, output_of, well_gone, goes_on};
 
+use intake::{Source, System};
 use refusals::Totals;
 use rules::{Answer, Passed, Reader, Setting, Verdict};
+use std::fs::File;
 use unit_table::Origin;
 
 // What came of a frame: how many octets, and whether the system failed.
@@ -33,11 +35,11 @@ pub enum Went {
     NotWritten(usize),
 }
 
-// Where a run's octets go, and what it says on the way: the descriptors of its outputs, how many frames are a hundredth of the recording (0 where
+// Where a run's octets go, and what it says on the way: the files of its outputs, how many frames are a hundredth of the recording (0 where
 // that is not known), whether no line a frame is printed, and whether there is a table of units.
 #[derive(Clone, Copy)]
-pub struct Sinks {
-    pub fds: [i32; 10],
+pub struct Sinks<'a> {
+    pub files: &'a [Option<File>; 10],
     pub hundredth: u64,
     pub quiet: bool,
     pub table: bool,
@@ -68,20 +70,19 @@ pub struct Turn {
 // ---- reading
 
 // Reads a frame of `size` octets, fewer where the recording ends.
-fn read_frame(fd: i32, frame: &mut [u8], size: usize) -> Came
+fn read_frame(system: &System, from: &mut Source, frame: &mut [u8], size: usize) -> Came
     requires { size ≤ length frame.old }
     ensures { result.octets ≤ size }
 {
     let mut done: usize = 0;
     while done < size {
-        let got = libc::read(fd, &mut frame[done..size]);
-        if got < 0 {
+        let got = intake::read_once(system, from, &mut frame[done..size]);
+        let Some(n) = got else {
             return Came {
                 octets: done,
                 failed: true,
             };
-        }
-        let n = io::count(got, &frame[done..size]);
+        };
         if n == 0 {
             break;
         }
@@ -128,10 +129,9 @@ fn take_frame(k: u64, r: Reader, t: Totals, w: Passed, frame: &[u8]) -> Step
 // ---- writing
 
 // Writes octets to output i. There is no output past the ten, and no frame gives units for one (`output_of`).
-fn write_to(fds: [i32; 10], i: usize, octets: &[u8]) -> Went {
+fn write_to(system: &System, files: &[Option<File>; 10], i: usize, octets: &[u8]) -> Went {
     if i < 10 {
-        let fd = fds[i];
-        let given = io::write_all(fd, octets);
+        let given = outputs::write_all(system, &files[i], octets);
         if given {
             return Went::Well;
         }
@@ -140,12 +140,12 @@ fn write_to(fds: [i32; 10], i: usize, octets: &[u8]) -> Went {
 }
 
 // Writes text to standard output, and says so where that fails.
-pub fn print(octets: &[u8]) -> bool {
-    let good = io::write_all(1, octets);
+pub fn print(system: &System, octets: &[u8]) -> bool {
+    let good = console::write_out(system, octets);
     if good {
         return true;
     }
-    console::say_failed(b"unpack", b"standard output");
+    console::say_failed(system, b"unpack", b"standard output");
     false
 }
 
@@ -163,60 +163,82 @@ fn output_of(v: Verdict) -> usize
 }
 
 // Writes units to output i and records to theirs.
-fn put_units(fds: [i32; 10], i: usize, units: &[u8], records: &[u8]) -> Went {
-    let given = write_to(fds, i, units);
+fn put_units(
+    system: &System,
+    files: &[Option<File>; 10],
+    i: usize,
+    units: &[u8],
+    records: &[u8],
+) -> Went {
+    let given = write_to(system, files, i, units);
     let good = well(given);
     if good {
-        return write_to(fds, 9, records);
+        return write_to(system, files, 9, records);
     }
     given
 }
 
 // Writes text to the table of units.
-fn write_table(fds: [i32; 10], text: &[u8]) -> Went {
-    write_to(fds, 8, text)
+fn write_table(system: &System, files: &[Option<File>; 10], text: &[u8]) -> Went {
+    write_to(system, files, 8, text)
 }
 
 // Writes the lines of n units, which come from there, to the table.
-fn hand_rows(g: Origin, n: usize, fds: [i32; 10], units: &[u8], records: &[u8], text: &[u8]) -> Went
+fn hand_rows(
+    system: &System,
+    g: Origin,
+    n: usize,
+    files: &[Option<File>; 10],
+    units: &[u8],
+    records: &[u8],
+    text: &[u8],
+) -> Went
     requires { text.now ≡ rows_text g n units.now records.now }
 {
-    write_table(fds, text)
+    write_table(system, files, text)
 }
 
 // Puts the lines of n units, all of them, and writes them to the table at once.
 fn put_lines(
+    system: &System,
     area: &mut [u8],
     g: Origin,
     n: usize,
-    fds: [i32; 10],
+    files: &[Option<File>; 10],
     units: &[u8],
     records: &[u8],
 ) -> Went
     requires { (n ≤ 2048) × (174 * n ≤ length area.old) }
 {
     let end = unit_table::put_rows(area, g, n, units, records);
-    hand_rows(g, n, fds, units, records, &area[..end])
+    hand_rows(system, g, n, files, units, records, &area[..end])
 }
 
 // Writes the lines of n units to the table. Most reads give few, and an area is cleared before it is lent: the large one only where it is needed.
-fn put_table(g: Origin, n: usize, fds: [i32; 10], units: &[u8], records: &[u8]) -> Went
+fn put_table(
+    system: &System,
+    g: Origin,
+    n: usize,
+    files: &[Option<File>; 10],
+    units: &[u8],
+    records: &[u8],
+) -> Went
     requires { n ≤ 2048 }
 {
     if n <= 64 {
         let mut area = [0u8; 11136];
-        return put_lines(&mut area, g, n, fds, units, records);
+        return put_lines(system, &mut area, g, n, files, units, records);
     }
     let mut area = [0u8; 356352];
-    put_lines(&mut area, g, n, fds, units, records)
+    put_lines(system, &mut area, g, n, files, units, records)
 }
 
 // Prints a frame's line, where lines are printed.
-fn print_line(quiet: bool, line: &[u8]) -> bool {
+fn print_line(system: &System, quiet: bool, line: &[u8]) -> bool {
     if quiet {
         return true;
     }
-    io::write_all(1, line)
+    console::write_out(system, line)
 }
 
 // Whether all went well.
@@ -243,17 +265,18 @@ fn goes_on(whole: bool, went: Went) -> bool
 
 // Prints a frame's line, and writes the units and the records that it gave, if there are any, and their lines of the table, if there is one.
 fn put_out(
+    system: &System,
     g: Origin,
     v: Verdict,
     a: Answer,
-    o: Sinks,
+    o: Sinks<'_>,
     line: &[u8],
     units: &[u8],
     records: &[u8],
 ) -> Went
     requires { Handed g v a line.now units.now records.now }
 {
-    let printed = print_line(o.quiet, line);
+    let printed = print_line(system, o.quiet, line);
     if !printed {
         return Went::NotPrinted;
     }
@@ -261,17 +284,17 @@ fn put_out(
         return Went::Well;
     }
     let i = output_of(v);
-    let fds = o.fds;
-    let went = put_units(fds, i, units, records);
+    let files = o.files;
+    let went = put_units(system, files, i, units, records);
     let more = goes_on(o.table, went);
     if more {
-        return put_table(g, a.units, fds, units, records);
+        return put_table(system, g, a.units, files, units, records);
     }
     went
 }
 
 // Puts a frame's line, and hands it out with what the frame gave, out of the areas as they were left.
-fn give_out(p: Step, o: Sinks, units: &[u8], records: &[u8]) -> Went
+fn give_out(system: &System, p: Step, o: Sinks<'_>, units: &[u8], records: &[u8]) -> Went
     requires { Gave p.origin p.left p.verdict p.answer units.now records.now }
 {
     let g = p.origin;
@@ -281,16 +304,16 @@ fn give_out(p: Step, o: Sinks, units: &[u8], records: &[u8]) -> Went
     let end = unpack_text::put_line(&mut area, 0, g.frame, p.left, v, a);
     let n = a.octets;
     let c = rules::RECORD_SIZE * a.units;
-    put_out(g, v, a, o, &area[..end], &units[..n], &records[..c])
+    put_out(system, g, v, a, o, &area[..end], &units[..n], &records[..c])
 }
 
 // Says how far the program is, where that is due and all went well.
-fn say_progress(went: Went, count: u64, o: Sinks) {
+fn say_progress(system: &System, went: Went, count: u64, o: Sinks<'_>) {
     let good = well(went);
     if good {
         let due = console::progress::is_due(count);
         if due {
-            let live = console::progress::is_live();
+            let live = console::progress::is_live(system);
             console::progress::say_far(b"unpack", count, o.hundredth, count, live);
         }
     }
@@ -318,10 +341,11 @@ fn turn_after(u: Turn, came: Came, p: Step, went: Went) -> Turn
 
 // Passes the frame that came, prints its line, and writes what it gave.
 fn handle(
+    system: &System,
     without: [bool; 63],
     u: Turn,
     came: Came,
-    o: Sinks,
+    o: Sinks<'_>,
     frame: &[u8],
     held: &mut [u8],
     units: &mut [u8],
@@ -334,9 +358,9 @@ fn handle(
     let t = u.totals;
     let w = reader::pass(without, r, frame, held, units, records);
     let p = take_frame(u.count, r, t, w, frame);
-    let went = give_out(p, o, units, records);
+    let went = give_out(system, p, o, units, records);
     let v = turn_after(u, came, p, went);
-    say_progress(went, v.count, o);
+    say_progress(system, went, v.count, o);
     v
 }
 
@@ -369,10 +393,11 @@ fn halted(u: Turn, came: Came) -> Turn
 
 // Passes, prints and writes the frame that came into the front of the frame area, if one came.
 fn turn_frame(
+    system: &System,
     without: [bool; 63],
     u: Turn,
     came: Came,
-    o: Sinks,
+    o: Sinks<'_>,
     frame: &[u8],
     held: &mut [u8],
     units: &mut [u8],
@@ -388,7 +413,17 @@ fn turn_frame(
     if m == 0 {
         return halted(u, came);
     }
-    handle(without, u, came, o, &frame[..m], held, units, records)
+    handle(
+        system,
+        without,
+        u,
+        came,
+        o,
+        &frame[..m],
+        held,
+        units,
+        records,
+    )
 }
 
 // Before the first frame.
@@ -413,7 +448,13 @@ fn first_turn(s: Setting) -> Turn
 
 // Passes the recording's frames to its end, or to the first failure. A proved loop has to end: this one counts its frames, to a number that
 // no run reaches.
-pub fn take_all(without: [bool; 63], s: Setting, fd: i32, o: Sinks) -> Turn
+pub fn take_all(
+    system: &System,
+    without: [bool; 63],
+    s: Setting,
+    from: &mut Source,
+    o: Sinks<'_>,
+) -> Turn
     requires { setting_ok s ≡ true }
     ensures { Finished without s result.count result.state result.totals }
 {
@@ -424,8 +465,9 @@ pub fn take_all(without: [bool; 63], s: Setting, fd: i32, o: Sinks) -> Turn
     let mut u = first_turn(s);
     let mut k: u64 = 0;
     while k < 18446744073709551615 {
-        let came = read_frame(fd, &mut frame, u.state.setting.length);
+        let came = read_frame(system, from, &mut frame, u.state.setting.length);
         u = turn_frame(
+            system,
             without,
             u,
             came,
@@ -446,52 +488,52 @@ pub fn take_all(without: [bool; 63], s: Setting, fd: i32, o: Sinks) -> Turn
 // ---- title and totals
 
 // Prints the title.
-fn hand_title(text: &[u8]) -> bool
+fn hand_title(system: &System, text: &[u8]) -> bool
     requires { text.now ≡ title }
 {
-    print(text)
+    print(system, text)
 }
 
 // Prints the totals of a recording, after which the reader has this state.
-fn hand_totals(r: Reader, t: Totals, text: &[u8]) -> bool
+fn hand_totals(system: &System, r: Reader, t: Totals, text: &[u8]) -> bool
     requires { text.now ≡ totals_text r t }
 {
-    print(text)
+    print(system, text)
 }
 
 // Puts the title, and prints it, where lines are printed.
-pub fn print_title(quiet: bool) -> bool {
+pub fn print_title(system: &System, quiet: bool) -> bool {
     if quiet {
         return true;
     }
     let mut area = [0u8; 57];
     let end = unpack_text::put_title(&mut area, 0);
-    hand_title(&area[..end])
+    hand_title(system, &area[..end])
 }
 
 // Writes the title of the table of units.
-fn hand_table(fds: [i32; 10], text: &[u8]) -> Went
+fn hand_table(system: &System, files: &[Option<File>; 10], text: &[u8]) -> Went
     requires { text.now ≡ table_title }
 {
-    write_table(fds, text)
+    write_table(system, files, text)
 }
 
 // Puts the title of the table of units, and writes it, where there is a table.
-pub fn start_table(o: Sinks) -> Went {
+pub fn start_table(system: &System, o: Sinks<'_>) -> Went {
     if o.table {
-        let fds = o.fds;
+        let files = o.files;
         let mut area = [0u8; 57];
         let end = unit_table::put_title(&mut area, 0);
-        return hand_table(fds, &area[..end]);
+        return hand_table(system, files, &area[..end]);
     }
     Went::Well
 }
 
 // Puts all totals, and prints them.
-pub fn print_totals(r: Reader, t: Totals) -> bool
+pub fn print_totals(system: &System, r: Reader, t: Totals) -> bool
     requires { reader_ok r ≡ true }
 {
     let mut area = [0u8; 4396];
     let end = refusals::put_totals(&mut area, 0, r, t);
-    hand_totals(r, t, &area[..end])
+    hand_totals(system, r, t, &area[..end])
 }

@@ -13,19 +13,22 @@ mod each_frame;
 
 use each_frame::{Sinks, Went};
 use files::Known;
+use intake::{Source, System};
 use outputs::{Kept, Plan};
 use refusals::{First, Refusals, Totals};
 use rules::{Place, Reader, Setting};
 use setting_file::Loaded;
+use std::fs::File;
+use std::random::RandomSource;
 use words::unpack_start::{Little, Prefix};
 use words::{Asked, Program, Start};
 
 // What a run has: the plan of its outputs, where its octets go, what no output may replace, as the system knows it, and which virtual channels are left
 // out.
 #[derive(Clone, Copy)]
-struct Job {
+struct Job<'a> {
     plan: Plan,
-    sinks: Sinks,
+    sinks: Sinks<'a>,
     kept: Kept,
     without: [bool; 63],
 }
@@ -38,15 +41,15 @@ struct Outcome {
 }
 
 // Once all outputs are written: they are put on the device, what has their names is looked at once more, and they get them.
-fn settle(job: Job, prefix: &[u8]) -> bool {
+fn settle(system: &System, job: Job<'_>, prefix: &[u8]) -> bool {
     let p = job.plan;
-    let fds = job.sinks.fds;
-    let kept = outputs::keep_all(p, fds, prefix);
+    let files = job.sinks.files;
+    let kept = outputs::keep_all(system, p, files, prefix);
     if kept {
         let f = job.kept;
-        let may = outputs::may_take_all(p, prefix, f);
+        let may = outputs::may_take_all(system, p, prefix, f);
         if may {
-            return outputs::give_names(p, prefix);
+            return outputs::give_names(system, p, prefix);
         }
     }
     false
@@ -60,8 +63,8 @@ fn say(of: &[u8], text: &[u8]) {
 }
 
 // Says what the system had against a file or a word.
-fn say_failed(of: &[u8]) {
-    console::say_failed(b"unpack", of);
+fn say_failed(system: &System, of: &[u8]) {
+    console::say_failed(system, b"unpack", of);
 }
 
 // Says that all is done, with so many frames.
@@ -70,12 +73,12 @@ fn say_done(count: u64) {
 }
 
 // Says what failed in a turn, if anything did.
-fn say_went(went: Went, recording: &[u8], p: Plan, prefix: &[u8]) {
+fn say_went(system: &System, went: Went, recording: &[u8], p: Plan, prefix: &[u8]) {
     match went {
         Went::Well => {}
-        Went::NotRead => say_failed(recording),
-        Went::NotPrinted => say_failed(b"standard output"),
-        Went::NotWritten(i) => outputs::say_part(p, prefix, i),
+        Went::NotRead => say_failed(system, recording),
+        Went::NotPrinted => say_failed(system, b"standard output"),
+        Went::NotWritten(i) => outputs::say_part(system, p, prefix, i),
     }
 }
 
@@ -167,21 +170,28 @@ fn say_little(recording: &[u8], t: Totals, own: u16) {
 // ---- the program
 
 // Once every frame is taken: prints the totals, and settles the outputs.
-fn finish(r: Reader, t: Totals, job: Job, prefix: &[u8]) -> bool
+fn finish(system: &System, r: Reader, t: Totals, job: Job<'_>, prefix: &[u8]) -> bool
     requires { reader_ok r ≡ true }
 {
-    let printed = each_frame::print_totals(r, t);
+    let printed = each_frame::print_totals(system, r, t);
     if printed {
-        return settle(job, prefix);
+        return settle(system, job, prefix);
     }
     false
 }
 
 // The same, and says that little was read, where it is so.
-fn conclude(r: Reader, t: Totals, recording: &[u8], job: Job, prefix: &[u8]) -> bool
+fn conclude(
+    system: &System,
+    r: Reader,
+    t: Totals,
+    recording: &[u8],
+    job: Job<'_>,
+    prefix: &[u8],
+) -> bool
     requires { reader_ok r ≡ true }
 {
-    let whole = finish(r, t, job, prefix);
+    let whole = finish(system, r, t, job, prefix);
     if whole {
         say_little(recording, t, r.setting.craft);
     }
@@ -189,25 +199,32 @@ fn conclude(r: Reader, t: Totals, recording: &[u8], job: Job, prefix: &[u8]) -> 
 }
 
 // Takes all frames, and concludes where all went well.
-fn take_and_conclude(s: Setting, fd: i32, recording: &[u8], job: Job, prefix: &[u8]) -> Outcome
+fn take_and_conclude(
+    system: &System,
+    s: Setting,
+    from: &mut Source,
+    recording: &[u8],
+    job: Job<'_>,
+    prefix: &[u8],
+) -> Outcome
     requires { setting_ok s ≡ true }
 {
     let o = job.sinks;
     let without = job.without;
-    let u = each_frame::take_all(without, s, fd, o);
+    let u = each_frame::take_all(system, without, s, from, o);
     let went = u.went;
     let good = each_frame::well(went);
     if good {
         let r = u.state;
         let t = u.totals;
-        let whole = conclude(r, t, recording, job, prefix);
+        let whole = conclude(system, r, t, recording, job, prefix);
         return Outcome {
             count: u.count,
             whole: whole,
         };
     }
     let p = job.plan;
-    say_went(went, recording, p, prefix);
+    say_went(system, went, recording, p, prefix);
     Outcome {
         count: u.count,
         whole: false,
@@ -215,30 +232,37 @@ fn take_and_conclude(s: Setting, fd: i32, recording: &[u8], job: Job, prefix: &[
 }
 
 // Starts the table of units, if there is one; whether that went well.
-fn start_table(recording: &[u8], job: Job, prefix: &[u8]) -> bool {
+fn start_table(system: &System, recording: &[u8], job: Job<'_>, prefix: &[u8]) -> bool {
     let o = job.sinks;
     let p = job.plan;
-    let went = each_frame::start_table(o);
-    say_went(went, recording, p, prefix);
+    let went = each_frame::start_table(system, o);
+    say_went(system, went, recording, p, prefix);
     each_frame::well(went)
 }
 
 // Prints the title, and starts the table of units; whether that went well.
-fn start_all(recording: &[u8], job: Job, prefix: &[u8]) -> bool {
-    let titled = each_frame::print_title(job.sinks.quiet);
+fn start_all(system: &System, recording: &[u8], job: Job<'_>, prefix: &[u8]) -> bool {
+    let titled = each_frame::print_title(system, job.sinks.quiet);
     if titled {
-        return start_table(recording, job, prefix);
+        return start_table(system, recording, job, prefix);
     }
     false
 }
 
 // Unpacks into outputs that are open.
-fn unpack_all(s: Setting, fd: i32, recording: &[u8], job: Job, prefix: &[u8]) -> Outcome
+fn unpack_all(
+    system: &System,
+    s: Setting,
+    from: &mut Source,
+    recording: &[u8],
+    job: Job<'_>,
+    prefix: &[u8],
+) -> Outcome
     requires { setting_ok s ≡ true }
 {
-    let started = start_all(recording, job, prefix);
+    let started = start_all(system, recording, job, prefix);
     if started {
-        return take_and_conclude(s, fd, recording, job, prefix);
+        return take_and_conclude(system, s, from, recording, job, prefix);
     }
     Outcome {
         count: 0,
@@ -247,16 +271,23 @@ fn unpack_all(s: Setting, fd: i32, recording: &[u8], job: Job, prefix: &[u8]) ->
 }
 
 // Unpacks into outputs that are open, and says that it is done; or removes them.
-fn work(s: Setting, fd: i32, recording: &[u8], job: Job, prefix: &[u8])
+fn work(
+    system: &System,
+    s: Setting,
+    from: &mut Source,
+    recording: &[u8],
+    job: Job<'_>,
+    prefix: &[u8],
+)
     requires { setting_ok s ≡ true }
 {
-    let e = unpack_all(s, fd, recording, job, prefix);
+    let e = unpack_all(system, s, from, recording, job, prefix);
     if e.whole {
         say_done(e.count);
     } else {
         let p = job.plan;
-        let fds = job.sinks.fds;
-        outputs::remove_all(p, fds, prefix);
+        let files = job.sinks.files;
+        outputs::remove_all(system, p, files, prefix);
     }
 }
 
@@ -271,11 +302,11 @@ fn hundredth_of(plain: bool, size: u64, length: usize) -> u64 {
 }
 
 // Where octets go, and how far a recording goes: one that is no regular file says nothing of it.
-fn sinks_of(s: Setting, recording: Known, q: Asked, fds: [i32; 10]) -> Sinks {
+fn sinks_of(s: Setting, recording: Known, q: Asked, files: &[Option<File>; 10]) -> Sinks<'_> {
     let plain = files::regular(recording);
     let hundredth = hundredth_of(plain, recording.size, s.length);
     Sinks {
-        fds: fds,
+        files: files,
         hundredth: hundredth,
         quiet: q.first,
         table: q.second,
@@ -283,14 +314,23 @@ fn sinks_of(s: Setting, recording: Known, q: Asked, fds: [i32; 10]) -> Sinks {
 }
 
 // Makes the outputs and unpacks.
-fn with_plan(s: Setting, fd: i32, recording: &[u8], p: Plan, f: Kept, q: Asked, prefix: &[u8])
+fn with_plan(
+    system: &System,
+    s: Setting,
+    from: &mut Source,
+    recording: &[u8],
+    p: Plan,
+    f: Kept,
+    q: Asked,
+    prefix: &[u8],
+)
     requires { setting_ok s ≡ true }
 {
-    let made = outputs::make_all(p, prefix);
-    let fds = made.fds;
+    let made = outputs::make_all(system, p, prefix);
+    let files = &made.files;
     if made.good {
         let b = f.recording;
-        let sinks = sinks_of(s, b, q, fds);
+        let sinks = sinks_of(s, b, q, files);
         let without = q.without;
         let job = Job {
             plan: p,
@@ -298,20 +338,28 @@ fn with_plan(s: Setting, fd: i32, recording: &[u8], p: Plan, f: Kept, q: Asked, 
             kept: f,
             without: without,
         };
-        work(s, fd, recording, job, prefix);
+        work(system, s, from, recording, job, prefix);
     } else {
-        outputs::remove_all(p, fds, prefix);
+        outputs::remove_all(system, p, files, prefix);
     }
 }
 
 // Draws the number of a run, for the names of its unfinished files, and goes on, where no output would replace what it may not.
-fn with_name(s: Setting, fd: i32, recording: &[u8], f: Kept, q: Asked, prefix: &[u8])
+fn with_name(
+    system: &System,
+    s: Setting,
+    from: &mut Source,
+    recording: &[u8],
+    f: Kept,
+    q: Asked,
+    prefix: &[u8],
+)
     requires { setting_ok s ≡ true }
 {
     let mut drawn = [0u8; 8];
-    let got = libc::getentropy(&mut drawn);
-    if got < 0 {
-        say_failed(b"a number for the unfinished files");
+    if let Err(e) = system.rt.fill_bytes(&mut drawn) {
+        intake::keep_failure(system, e);
+        say_failed(system, b"a number for the unfinished files");
         return;
     }
     let number = octets::number(&drawn);
@@ -320,9 +368,9 @@ fn with_name(s: Setting, fd: i32, recording: &[u8], f: Kept, q: Asked, prefix: &
         lanes: s.numbered,
         table: q.second,
     };
-    let may = outputs::may_take_all(p, prefix, f);
+    let may = outputs::may_take_all(system, p, prefix, f);
     if may {
-        with_plan(s, fd, recording, p, f, q, prefix);
+        with_plan(system, s, from, recording, p, f, q, prefix);
     }
 }
 
@@ -334,13 +382,13 @@ struct Word {
 }
 
 // Takes word i of the command line, which is for this.
-fn take_word(i: usize, area: &mut [u8], what: &[u8]) -> Word
+fn take_word(system: &System, i: usize, area: &mut [u8], what: &[u8]) -> Word
     ensures { IsPrefixLen result.octets area.new }
 {
-    let n = os::arg(i, area);
-    let good = os::errno() == 0;
+    let n = console::arg(system, i, area);
+    let good = intake::last_failure(system) == 0;
     if !good {
-        say_failed(what);
+        say_failed(system, what);
     }
     Word {
         octets: n,
@@ -370,32 +418,32 @@ fn say_prefix(what: Prefix, prefix: &[u8]) -> bool {
 }
 
 // Whether names can begin with this prefix.
-fn good_prefix(prefix: &[u8]) -> bool {
-    let k = files::of_name(prefix);
+fn good_prefix(system: &System, prefix: &[u8]) -> bool {
+    let k = files::of_name(system, prefix);
     let what = words::unpack_start::prefix_of(prefix, k);
     say_prefix(what, prefix)
 }
 
 // Takes the prefix from the command line, and goes on.
-fn with_prefix(s: Setting, q: Asked, fd: i32, recording: &[u8], f: Kept)
+fn with_prefix(system: &System, s: Setting, q: Asked, from: &mut Source, recording: &[u8], f: Kept)
     requires { setting_ok s ≡ true }
 {
     let mut prefix = io::buffer();
-    let w = take_word(q.three, &mut prefix, b"PREFIX");
+    let w = take_word(system, q.three, &mut prefix, b"PREFIX");
     if !w.good {
         return;
     }
     let n = w.octets;
-    let good = good_prefix(&prefix[..n]);
+    let good = good_prefix(system, &prefix[..n]);
     if good {
-        with_name(s, fd, recording, f, q, &prefix[..n]);
+        with_name(system, s, from, recording, f, q, &prefix[..n]);
     }
 }
 
 // What no output may replace: this setting and recording, standard output and standard error.
-fn kept_of(a: Known, b: Known) -> Kept {
-    let o = files::of_descriptor(1);
-    let e = files::of_descriptor(2);
+fn kept_of(system: &System, a: Known, b: Known) -> Kept {
+    let o = files::of_descriptor(system, 1);
+    let e = files::of_descriptor(system, 2);
     Kept {
         setting: a,
         recording: b,
@@ -423,73 +471,82 @@ fn outside(f: Kept) -> bool {
 }
 
 // Looks at the recording, and goes on.
-fn with_recording(s: Setting, q: Asked, fd: i32, recording: &[u8], a: Known)
+fn with_recording(
+    system: &System,
+    s: Setting,
+    q: Asked,
+    from: &mut Source,
+    recording: &[u8],
+    a: Known,
+)
     requires { setting_ok s ≡ true }
 {
-    let b = files::of_descriptor(fd);
+    let b = files::of_source(system, from);
     let twice = files::same(a, b);
     if twice {
         say(recording, b"is the setting; expected a recording");
         return;
     }
-    let f = kept_of(a, b);
+    let f = kept_of(system, a, b);
     let good = outside(f);
     if good {
-        with_prefix(s, q, fd, recording, f);
+        with_prefix(system, s, q, from, recording, f);
     }
 }
 
 // Opens the recording, and goes on.
-fn with_path(s: Setting, q: Asked, path: &[u8], a: Known)
+fn with_path(system: &System, s: Setting, q: Asked, path: &[u8], a: Known)
     requires { setting_ok s ≡ true }
 {
     let dash = words::is_dash(path);
     if dash {
-        with_recording(s, q, 0, b"standard input", a);
+        let mut input = Source::Input(system.rt.stdin());
+        with_recording(system, s, q, &mut input, b"standard input", a);
         return;
     }
-    let fd = os::open_read(path);
-    if fd < 0 {
-        say_failed(path);
+    let mut file = intake::open_read(system, path);
+    if !intake::is_open(&file) {
+        say_failed(system, path);
         return;
     }
-    with_recording(s, q, fd, path, a);
+    with_recording(system, s, q, &mut file, path, a);
 }
 
 // Takes the recording from the command line, and goes on.
-fn with_setting(s: Setting, q: Asked, a: Known)
+fn with_setting(system: &System, s: Setting, q: Asked, a: Known)
     requires { setting_ok s ≡ true }
 {
     let mut path = io::buffer();
-    let w = take_word(q.two, &mut path, b"RECORDING");
+    let w = take_word(system, q.two, &mut path, b"RECORDING");
     if w.good {
         let n = w.octets;
-        with_path(s, q, &path[..n], a);
+        with_path(system, s, q, &path[..n], a);
     }
 }
 
 // Whether standard output and standard error are open. A file that is opened would take the number of one that is closed.
-fn open_ends() -> bool {
-    let e = files::of_descriptor(2);
+fn open_ends(system: &System) -> bool {
+    let e = files::of_descriptor(system, 2);
     if e.there {
-        let o = files::of_descriptor(1);
+        let o = files::of_descriptor(system, 1);
         if o.there {
             return true;
         }
-        say_failed(b"standard output");
+        say_failed(system, b"standard output");
     }
     false
 }
 
 // A setting from standard input or from a file.
-fn load_from(path: &[u8], area: &mut [u8]) -> Loaded
+fn load_from(system: &System, path: &[u8], area: &mut [u8]) -> Loaded
     ensures { result.judged ≡ judged result.filled area.new }
 {
     let dash = words::is_dash(path);
     if dash {
-        return setting_file::load_open(b"unpack", b"standard input", 0, area);
+        let mut input = Source::Input(system.rt.stdin());
+        return setting_file::load_open(system, b"unpack", b"standard input", &mut input, area);
     }
-    setting_file::load(b"unpack", path, area)
+    setting_file::load(system, b"unpack", path, area)
 }
 
 // Whether the setting lists every virtual channel that is to be left out. Where it does not, says which.
@@ -512,39 +569,39 @@ fn all_listed(s: Setting, without: [bool; 63]) -> bool
 }
 
 // Goes on with a setting that lists what is to be left out.
-fn with_choice(s: Setting, q: Asked, a: Known)
+fn with_choice(system: &System, s: Setting, q: Asked, a: Known)
     requires { setting_ok s ≡ true }
 {
     let without = q.without;
     let listed = all_listed(s, without);
     if listed {
-        with_setting(s, q, a);
+        with_setting(system, s, q, a);
     }
 }
 
 // Reads the setting, and goes on.
-fn with_words(q: Asked) {
+fn with_words(system: &System, q: Asked) {
     let mut path = io::buffer();
-    let w = take_word(q.one, &mut path, b"SETTING");
+    let w = take_word(system, q.one, &mut path, b"SETTING");
     if !w.good {
         return;
     }
     let n = w.octets;
     let mut area = [0u8; 65537];
-    let l = load_from(&path[..n], &mut area);
+    let l = load_from(system, &path[..n], &mut area);
     if l.judged.good {
         let s = l.judged.setting;
         let a = l.file;
-        with_choice(s, q, a);
+        with_choice(system, s, q, a);
     }
 }
 
 // ---- the command line
 
 // Says that a word is no option.
-fn say_unknown(i: usize) {
+fn say_unknown(system: &System, i: usize) {
     let mut word = io::buffer();
-    let n = os::arg(i, &mut word);
+    let n = console::arg(system, i, &mut word);
     say(
         &word[..n],
         b"is no option; expected --totals, --units, --without=V with V from 0 to 62, --help or --version",
@@ -552,8 +609,9 @@ fn say_unknown(i: usize) {
 }
 
 // Prints how the program is called.
-fn print_help() -> bool {
+fn print_help(system: &System) -> bool {
     each_frame::print(
+        system,
         b"unpack [--totals] [--units] [--without=V] .. SETTING RECORDING PREFIX\nReads the recording's frames and writes PREFIX.lane0 .., a lane's units each, and PREFIX.records. Prints a line a frame and totals.\n  --totals     prints the totals alone\n  --units      writes PREFIX.units.csv too, a table of the units\n  --without=V  leaves the frames of virtual channel V out; it may stand several times\n  --help       prints this\n  --version    prints which program this is\nA SETTING or a RECORDING of - is standard input. docs/PROGRAMS.md has the formats.\n",
     )
 }
@@ -566,41 +624,42 @@ fn say_printed(printed: bool) {
 }
 
 // Does what the words ask for, or says why it cannot.
-fn begin(start: Start, q: Asked) {
+fn begin(system: &System, start: Start, q: Asked) {
     match start {
         Start::Help => {
-            let printed = print_help();
+            let printed = print_help(system);
             say_printed(printed);
         }
         Start::Version => {
-            let printed = each_frame::print(b"unpack 0.6 (Khachmuren, CCSDS 732.1-B-3)\n");
+            let printed = each_frame::print(system, b"unpack 0.6 (Khachmuren, CCSDS 732.1-B-3)\n");
             say_printed(printed);
         }
-        Start::Unknown(i) => say_unknown(i),
+        Start::Unknown(i) => say_unknown(system, i),
         Start::Usage => say(
             b"usage",
             b"unpack [--totals] [--units] [--without=V] .. SETTING RECORDING PREFIX",
         ),
-        Start::Work => with_words(q),
+        Start::Work => with_words(system, q),
     }
 }
 
 // Does what n words ask for, where nothing is said into a file that one of them names.
-fn begin_with(n: usize) {
-    let q = console::read_words(Program::Unpack, n);
+fn begin_with(system: &System, n: usize) {
+    let q = console::read_words(system, Program::Unpack, n);
     let prefix = words::unpack_start::prefix_at(q);
-    let may = console::may_say(false, n, prefix);
+    let may = console::may_say(system, false, n, prefix);
     if may {
         let start = words::unpack_start::start_of(q);
-        begin(start, q);
+        begin(system, start, q);
     }
 }
 
 // Unpacks what the command line names, or says why it cannot.
-fn main() {
-    let open = open_ends();
+fn main(rt: HostRuntime) {
+    let system = &intake::system_of(rt);
+    let open = open_ends(system);
     if open {
-        let n = os::arg_count();
-        begin_with(n);
+        let n = console::arg_count(system);
+        begin_with(system, n);
     }
 }
