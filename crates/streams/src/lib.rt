@@ -10,7 +10,7 @@ ghost use Rattle.io.specs.Counts.{IsPrefixLen};
 ghost use Rattle.streams.specs.Streams.{sound, wrong_fault, past as past_of, moved as movedOf, none as noNext, next_packets, next_unit, of_length, next_listed, next_of, with_batch, Began, Kept};
 
 use file_batches::Wrong;
-use intake::Window;
+use intake::{Source, System, Window};
 use lengths::Length;
 
 // ---- what may go wrong
@@ -34,6 +34,7 @@ pub enum Fault {
 }
 
 // Whether nothing went wrong.
+#[tactic(auto, unfolding(crate::specs::Streams::sound))]
 pub fn is_sound(f: Fault) -> bool
     ensures { result ≡ sound f }
 {
@@ -53,6 +54,7 @@ pub fn is_sound(f: Fault) -> bool
 }
 
 // What goes wrong with the packet at octet `at`, of which this is wrong.
+#[tactic(auto, unfolding(crate::specs::Streams::wrong_fault))]
 fn wrong_fault(at: u64, w: Wrong) -> Fault
     ensures { result ≡ wrong_fault at w }
 {
@@ -106,14 +108,14 @@ pub fn moved(w: Window, have: usize, n: usize) -> Window
 }
 
 // Fills a window up, to so many octets or the file's end.
-pub fn fill(fd: i32, w: Window, area: &mut [u8], room: usize) -> Window
+pub fn fill(system: &System, source: &mut Source, w: Window, area: &mut [u8], room: usize) -> Window
     ensures { Kept w area.old result area.new }
 {
     let end = within(room, area);
     if end < w.have {
         return w;
     }
-    intake::fill_up(fd, &mut area[..end], w)
+    intake::fill_up(system, source, &mut area[..end], w)
 }
 
 // ---- the next batch
