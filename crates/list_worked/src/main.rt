@@ -15,7 +15,7 @@ ghost use Rattle.rules.specs.Calls.{read};
 ghost use Rattle.listing_text.specs.Puts.{Put};
 ghost use Rattle.list_worked.specs.Runs.{opening, printed, Listed, Reached, GoesOn};
 
-use intake::Window;
+use intake::{Source, System, Window};
 use rules::{Answer, Channel, Kind, Lane, Reader, Setting};
 
 // The state after a frame, its answer, and where its text ends.
@@ -108,17 +108,17 @@ fn list_frame(
 }
 
 // Prints what is printed for frame k, of this answer; whether standard output took it all.
-fn print(k: u64, a: Answer, text: &[u8]) -> bool
+fn print(system: &System, k: u64, a: Answer, text: &[u8]) -> bool
     requires { text.now ≡ printed k a }
 {
-    io::write_all(1, text)
+    console::write_out(system, text)
 }
 
 // Says what the system had against standard input or output, and ends the listing.
-fn failed(r: Reader, k: u64, about: &[u8]) -> Turn
+fn failed(system: &System, r: Reader, k: u64, about: &[u8]) -> Turn
     ensures { (result.more ≡ false) × (result.good ≡ false) }
 {
-    console::say_failed(b"list_worked", about);
+    console::say_failed(system, b"list_worked", about);
     Turn {
         state: r,
         frames: k,
@@ -128,7 +128,15 @@ fn failed(r: Reader, k: u64, about: &[u8]) -> Turn
 }
 
 // Lists frame k, which has these octets. After a whole frame the listing goes on from what is handed back.
-fn list_came(k: u64, r: Reader, f: &[u8], h: &mut [u8], u: &mut [u8], c: &mut [u8]) -> Turn
+fn list_came(
+    system: &System,
+    k: u64,
+    r: Reader,
+    f: &[u8],
+    h: &mut [u8],
+    u: &mut [u8],
+    c: &mut [u8],
+) -> Turn
     requires { Reached k r h.old u.old c.old × (k < 18446744073709551615) × (1 ≤ length f.now) }
     ensures { GoesOn result.more (Reached (k + 1) result.state h.new u.new c.new) }
 {
@@ -137,9 +145,9 @@ fn list_came(k: u64, r: Reader, f: &[u8], h: &mut [u8], u: &mut [u8], c: &mut [u
     let a = p.answer;
     let end = p.end;
     let s = p.state;
-    let sent = print(k, a, &area[..end]);
+    let sent = print(system, k, a, &area[..end]);
     if !sent {
-        return failed(s, k, b"standard output");
+        return failed(system, s, k, b"standard output");
     }
     Turn {
         state: s,
@@ -150,7 +158,15 @@ fn list_came(k: u64, r: Reader, f: &[u8], h: &mut [u8], u: &mut [u8], c: &mut [u
 }
 
 // Reads and lists frame k, if there is one.
-fn list_next(k: u64, r: Reader, held: &mut [u8], units: &mut [u8], records: &mut [u8]) -> Turn
+fn list_next(
+    system: &System,
+    input: &mut Source,
+    k: u64,
+    r: Reader,
+    held: &mut [u8],
+    units: &mut [u8],
+    records: &mut [u8],
+) -> Turn
     requires { Reached k r held.old units.old records.old × (k < 18446744073709551615) }
     ensures { GoesOn result.more (Reached (k + 1) result.state held.new units.new records.new) }
 {
@@ -160,9 +176,9 @@ fn list_next(k: u64, r: Reader, held: &mut [u8], units: &mut [u8], records: &mut
         at: 0,
         good: true,
     };
-    let w = intake::fill_up(0, &mut frame, none);
+    let w = intake::fill_up(system, input, &mut frame, none);
     if !w.good {
-        return failed(r, k, b"standard input");
+        return failed(system, r, k, b"standard input");
     }
     let n = w.have;
     if n == 0 {
@@ -173,7 +189,7 @@ fn list_next(k: u64, r: Reader, held: &mut [u8], units: &mut [u8], records: &mut
             good: true,
         };
     }
-    list_came(k, r, &frame[..n], held, units, records)
+    list_came(system, k, r, &frame[..n], held, units, records)
 }
 
 // Says how many frames are listed, where all went well.
@@ -184,7 +200,8 @@ fn say_end(t: Turn) {
 }
 
 // Lists standard input to its end. A proved loop has to end: this one counts its frames, to a number that no run reaches.
-fn list_all() {
+fn list_all(system: &System) {
+    let mut input = Source::Input(system.rt.stdin());
     let mut held = [0u8; rules::HELD_SIZE];
     let mut units = [0u8; rules::UNITS_SIZE];
     let mut records = [0u8; rules::RECORDS_SIZE];
@@ -193,7 +210,15 @@ fn list_all() {
     let mut state = l.state;
     let mut k: u64 = 0;
     while k < 18446744073709551615 {
-        let t = list_next(k, state, &mut held, &mut units, &mut records);
+        let t = list_next(
+            system,
+            &mut input,
+            k,
+            state,
+            &mut held,
+            &mut units,
+            &mut records,
+        );
         if t.more {
             let after = t.state;
             state = after;
@@ -206,9 +231,10 @@ fn list_all() {
 }
 
 // The program. What it prints and says goes into no input; the listing and what is said may stand in one file.
-fn main() {
-    let may = console::may_print(b"list_worked", false);
+fn main(rt: HostRuntime) {
+    let system = intake::system_of(rt);
+    let may = console::may_print(&system, b"list_worked", false);
     if may {
-        list_all();
+        list_all(&system);
     }
 }

@@ -315,14 +315,15 @@ fn within(n: usize) -> usize
 }
 
 // The program.
-fn main() {
+fn main(rt: HostRuntime) {
+    let system = intake::system_of(rt);
     let mut word = [0u8; 8];
-    os::arg(1, &mut word);
+    console::arg(&system, 1, &mut word);
     let letter = word[0];
     let mut path = io::buffer();
-    let k = os::arg(2, &mut path);
+    let k = console::arg(&system, 2, &mut path);
     let mut text = [0u8; 65537];
-    let l = setting_file::load(b"measure", &path[..k], &mut text);
+    let l = setting_file::load(&system, b"measure", &path[..k], &mut text);
     let j = l.judged;
     let s = j.setting;
     if j.good {

@@ -10,7 +10,7 @@ ghost use Rattle.io.specs.Counts.{IsPrefixLen};
 
 mod requests;
 
-use intake::Window;
+use intake::{Source, System, Window};
 use requests::{least, obey};
 use rows::word_in;
 
@@ -22,10 +22,10 @@ struct Came {
 }
 
 // Says what the system had against standard input; nothing came.
-fn not_read() -> Came
+fn not_read(system: &System) -> Came
     ensures { result.size ≡ 0 }
 {
-    console::say_failed(b"obey", b"standard input");
+    console::say_failed(system, b"obey", b"standard input");
     Came {
         size: 0,
         good: false,
@@ -48,7 +48,7 @@ fn cut() -> Came
 }
 
 // Fills an area from standard input; nothing came where the input ends before. That it ends is said, but not where a request would begin.
-fn fill(area: &mut [u8], begins: bool) -> Came
+fn fill(system: &System, input: &mut Source, area: &mut [u8], begins: bool) -> Came
     ensures { result.size ≤ length area.old }
 {
     let none = Window {
@@ -56,9 +56,9 @@ fn fill(area: &mut [u8], begins: bool) -> Came
         at: 0,
         good: true,
     };
-    let w = intake::fill_up(0, area, none);
+    let w = intake::fill_up(system, input, area, none);
     if !w.good {
-        return not_read();
+        return not_read(system);
     }
     if w.have < area.len() {
         if begins && w.have == 0 {
@@ -76,13 +76,13 @@ fn fill(area: &mut [u8], begins: bool) -> Came
 }
 
 // The octets behind the row at the front of `q`, as many as it says; no more than there is room for.
-fn behind(q: &mut [u8]) -> Came
+fn behind(system: &System, input: &mut Source, q: &mut [u8]) -> Came
     requires { 64 ≤ length q.old }
     ensures { IsPrefixLen result.size q.new }
 {
     let size = word_in(q, 1);
     let to = 64 + least(size, q.len() - 64);
-    let came = fill(&mut q[64..to], false);
+    let came = fill(system, input, &mut q[64..to], false);
     if came.good {
         return Came {
             size: to,
@@ -96,46 +96,63 @@ fn behind(q: &mut [u8]) -> Came
 }
 
 // The next request of standard input, at the front of `q`.
-fn next(q: &mut [u8]) -> Came
+fn next(system: &System, input: &mut Source, q: &mut [u8]) -> Came
     requires { 64 ≤ length q.old }
     ensures { IsPrefixLen result.size q.new }
 {
-    let row = fill(&mut q[..64], true);
+    let row = fill(system, input, &mut q[..64], true);
     if row.size < 64 {
         return row;
     }
-    behind(q)
+    behind(system, input, q)
 }
 
 // Writes the answer to a request: the desk after a call, and the reader's areas after a read. Whether standard output took it all.
-fn tell(what: u64, desk: &[u8], held: &[u8], units: &[u8], records: &[u8]) -> bool {
+fn tell(
+    system: &System,
+    what: u64,
+    desk: &[u8],
+    held: &[u8],
+    units: &[u8],
+    records: &[u8],
+) -> bool {
     if what < 2 {
-        return io::write_all(1, desk)
-            && io::write_all(1, held)
-            && io::write_all(1, units)
-            && io::write_all(1, records);
+        return console::write_out(system, desk)
+            && console::write_out(system, held)
+            && console::write_out(system, units)
+            && console::write_out(system, records);
     }
     if 4 < what {
-        return io::write_all(1, desk);
+        return console::write_out(system, desk);
     }
     true
 }
 
 // Says what the system had against standard output, where it did not take an answer; whether it did.
-fn told(sent: bool) -> bool {
+fn told(system: &System, sent: bool) -> bool {
     if sent {
         return true;
     }
-    console::say_failed(b"obey", b"standard output");
+    console::say_failed(system, b"obey", b"standard output");
     false
 }
 
 // Obeys a request, and answers it.
-fn turn(q: &[u8], desk: &mut [u8], held: &mut [u8], units: &mut [u8], records: &mut [u8]) -> bool
+fn turn(
+    system: &System,
+    q: &[u8],
+    desk: &mut [u8],
+    held: &mut [u8],
+    units: &mut [u8],
+    records: &mut [u8],
+) -> bool
     requires { (64 ≤ length q.now) × (length desk.old ≡ 6440) }
 {
     obey(q, desk, held, units, records);
-    told(tell(word_in(q, 0), desk, held, units, records))
+    told(
+        system,
+        tell(system, word_in(q, 0), desk, held, units, records),
+    )
 }
 
 // Says how many requests were obeyed, where all went well.
@@ -146,7 +163,8 @@ fn say_end(good: bool, k: u64) {
 }
 
 // Obeys standard input, request after request, to its end.
-fn obey_all() {
+fn obey_all(system: &System) {
+    let mut input = Source::Input(system.rt.stdin());
     let mut q = [0u8; 65536];
     let mut desk = [0u8; 6440];
     let mut held = [0x55u8; 65552];
@@ -154,13 +172,20 @@ fn obey_all() {
     let mut records = [0x55u8; 49184];
     let mut k: u64 = 0;
     while k < 18446744073709551615 {
-        let came = next(&mut q);
+        let came = next(system, &mut input, &mut q);
         let n = came.size;
         if n < 64 {
             say_end(came.good, k);
             break;
         }
-        let sent = turn(&q[..n], &mut desk, &mut held, &mut units, &mut records);
+        let sent = turn(
+            system,
+            &q[..n],
+            &mut desk,
+            &mut held,
+            &mut units,
+            &mut records,
+        );
         if !sent {
             break;
         }
@@ -169,9 +194,10 @@ fn obey_all() {
 }
 
 // The program. What it prints and says goes into no input, and nothing is said between the answers.
-fn main() {
-    let may = console::may_print(b"obey", true);
+fn main(rt: HostRuntime) {
+    let system = intake::system_of(rt);
+    let may = console::may_print(&system, b"obey", true);
     if may {
-        obey_all();
+        obey_all(&system);
     }
 }

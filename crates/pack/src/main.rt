@@ -11,12 +11,12 @@ ghost use Rattle.pack.specs.Rounds.{form_of, next_place, any_more, has_next, pla
 ghost use Rattle.pack.specs.Sources.{fresh_window, unopened_file, look_way, is_access, is_units};
 
 use files::Known;
-use intake::Window;
+use intake::{System, Window};
 use rules::{Kind, Lane, Setting};
 use setting_file::Loaded;
 use streams::file_batches::Wrong;
 use streams::{Fault, Form, Stream};
-use turns::{Course, Move, Source};
+use turns::{Course, Inputs, Move, Source};
 use words::pack_start::{Bad, Named, Objection, Plan};
 use words::{Asked, Program, Start};
 
@@ -28,8 +28,8 @@ fn say(about: &[u8], what: &[u8]) {
 }
 
 // A line to standard error that ends in the system's word for the call that failed last.
-fn say_failed(about: &[u8]) {
-    console::say_failed(b"pack", about);
+fn say_failed(system: &System, about: &[u8]) {
+    console::say_failed(system, b"pack", about);
 }
 
 // Says that the program is done, after so many frames.
@@ -95,10 +95,10 @@ fn say_unit(path: &[u8], f: Fault) {
 }
 
 // Says what went wrong with a file of this name, or with its list of that name, if anything did.
-fn say_fault(path: &[u8], list: &[u8], f: Fault) {
+fn say_fault(system: &System, path: &[u8], list: &[u8], f: Fault) {
     match f {
-        Fault::NotRead => say_failed(path),
-        Fault::NotListed => say_failed(list),
+        Fault::NotRead => say_failed(system, path),
+        Fault::NotListed => say_failed(system, list),
         Fault::Packet(at, w) => say_wrong(path, at, w),
         Fault::NoLength(at) => say_octet(
             list,
@@ -106,7 +106,7 @@ fn say_fault(path: &[u8], list: &[u8], f: Fault) {
             b"expected a length of 1 up to the lane's longest",
         ),
         Fault::Refused(n) => say_refused(path, n),
-        Fault::NotSent => say_failed(b"standard output"),
+        Fault::NotSent => say_failed(system, b"standard output"),
         _ => say_unit(path, f),
     }
 }
@@ -122,8 +122,8 @@ fn say_usage() {
 // ---- which files may be read
 
 // Whether nothing stands against reading a file. Says what does.
-fn allowed(path: &[u8], k: Known, twice: bool) -> bool {
-    let o = words::pack_start::against(k, files::of_descriptor(1), twice);
+fn allowed(system: &System, path: &[u8], k: Known, twice: bool) -> bool {
+    let o = words::pack_start::against(k, files::of_output(system), twice);
     match o {
         Objection::Nothing => true,
         Objection::NotRegular => {
@@ -189,10 +189,10 @@ fn fresh() -> Window
     }
 }
 
-// A file that was opened, or not: its descriptor, below 0 where it was not, and how many octets its name has.
-#[derive(Clone, Copy)]
+// A file that was opened, or not: what it is read from, nothing where it was not, and how many octets its name has.
+#[derive(Drop)]
 struct Opened {
-    fd: i32,
+    file: intake::Source,
     name: usize,
 }
 
@@ -200,20 +200,23 @@ struct Opened {
 fn unopened() -> Opened
     ensures { result ≡ unopened_file }
 {
-    Opened { fd: -1, name: 0 }
+    Opened {
+        file: intake::Source::Nothing,
+        name: 0,
+    }
 }
 
 // Opens a file that is read twice, where nothing stands against it. Says what does; the program then ends, and closes it.
-fn open_file(path: &[u8]) -> i32 {
-    let fd = os::open_read(path);
-    if fd < 0 {
-        say_failed(path);
-        return fd;
+fn open_file(system: &System, path: &[u8]) -> intake::Source {
+    let file = intake::open_read(system, path);
+    if intake::is_open(&file) {} else {
+        say_failed(system, path);
+        return file;
     }
-    if allowed(path, files::of_descriptor(fd), true) {
-        return fd;
+    if allowed(system, path, files::of_source(system, &file), true) {
+        return file;
     }
-    -1
+    intake::Source::Nothing
 }
 
 // Keeps a name in an area, from octet `to` on.
@@ -225,39 +228,39 @@ fn keep_name(name: &[u8], to: usize, names: &mut [u8])
 }
 
 // Opens the file that word i names after its first `from` octets, and keeps its name from octet `to` of this area on.
-fn open_word(i: usize, from: usize, to: usize, names: &mut [u8]) -> Opened
+fn open_word(system: &System, i: usize, from: usize, to: usize, names: &mut [u8]) -> Opened
     requires { (to ≤ 61440) × (length names.old ≡ 65536) }
 {
     let mut word = io::buffer();
-    let n = os::arg(i, &mut word);
+    let n = console::arg(system, i, &mut word);
     let at = intake::least(from, n);
     keep_name(&word[at..n], to, names);
-    let fd = open_file(&word[at..n]);
+    let file = open_file(system, &word[at..n]);
     Opened {
-        fd: fd,
+        file: file,
         name: n - at,
     }
 }
 
 // Whether word i is an option.
-fn is_option_at(i: usize) -> bool {
+fn is_option_at(system: &System, i: usize) -> bool {
     let mut word = io::buffer();
-    let n = os::arg(i, &mut word);
+    let n = console::arg(system, i, &mut word);
     words::is_option(&word[..n])
 }
 
 // Whether word i, if there is one, names a list of lengths.
-fn is_list_at(i: usize) -> bool {
+fn is_list_at(system: &System, i: usize) -> bool {
     let mut word = io::buffer();
-    let n = os::arg(i, &mut word);
+    let n = console::arg(system, i, &mut word);
     words::begins(&word[..n], b"lengths=")
 }
 
 // The first of n words from word i on that is no option; n where there is none.
-fn past_options(i: usize, n: usize) -> usize {
+fn past_options(system: &System, i: usize, n: usize) -> usize {
     let mut j = i;
     while j < n {
-        if is_option_at(j) {} else {
+        if is_option_at(system, j) {} else {
             break;
         }
         j += 1;
@@ -266,26 +269,26 @@ fn past_options(i: usize, n: usize) -> usize {
 }
 
 // The list of the file that a word before word i names: the next word, options aside, where it is one; 0 for none.
-fn list_of(i: usize, n: usize) -> usize {
-    let j = past_options(i, n);
-    if is_list_at(j) {
+fn list_of(system: &System, i: usize, n: usize) -> usize {
+    let j = past_options(system, i, n);
+    if is_list_at(system, j) {
         return j;
     }
     0
 }
 
 // Opens a list, where a word names one.
-fn open_list(j: usize, to: usize, names: &mut [u8]) -> Opened
+fn open_list(system: &System, j: usize, to: usize, names: &mut [u8]) -> Opened
     requires { (to ≤ 61440) × (length names.old ≡ 65536) }
 {
     if j == 0 {
         return unopened();
     }
-    open_word(j, 8, to, names)
+    open_word(system, j, 8, to, names)
 }
 
 // The source of lane l's file and of its list, which are open.
-fn source_of(s: Setting, l: usize, file: Opened, listed: bool, list: Opened) -> Source {
+fn source_of(s: Setting, l: usize, name: usize, listed: bool, list_name: usize) -> Source {
     let a = lane_of(s, l);
     let ocf = ocf_of(s, a);
     let kind = a.kind;
@@ -301,11 +304,9 @@ fn source_of(s: Setting, l: usize, file: Opened, listed: bool, list: Opened) -> 
     };
     Source {
         stream: stream,
-        name: file.name,
-        list_name: list.name,
+        name: name,
+        list_name: list_name,
         ocf: ocf,
-        fd: file.fd,
-        list_fd: list.fd,
         more: true,
     }
 }
@@ -326,44 +327,63 @@ fn no_source() -> Source {
         name: 0,
         list_name: 0,
         ocf: 0,
-        fd: -1,
-        list_fd: -1,
         more: false,
     }
 }
 
 // Whether word j names a list that is not open.
-fn is_missing(j: usize, list: Opened) -> bool {
+fn is_missing(j: usize, list: &Opened) -> bool {
     if j == 0 {
         return false;
     }
-    list.fd < 0
+    !intake::is_open(&list.file)
 }
 
 // The source of lane l's file, which is open, with the list that word j names, if any does, whose name is kept from octet `to` of this area on.
-// Where the list is not opened, there is no source.
-fn with_list(s: Setting, l: usize, file: Opened, j: usize, to: usize, names: &mut [u8]) -> Source
+// Both are kept among the inputs. Where the list is not opened, there is no source.
+fn with_list(
+    system: &System,
+    s: Setting,
+    l: usize,
+    file: Opened,
+    j: usize,
+    to: usize,
+    names: &mut [u8],
+    inputs: &mut Inputs,
+) -> Source
     requires { (to ≤ 61440) × (length names.old ≡ 65536) }
 {
-    let list = open_list(j, to, names);
-    if is_missing(j, list) {
+    let list = open_list(system, j, to, names);
+    if is_missing(j, &list) {
         return no_source();
     }
-    source_of(s, l, file, j != 0, list)
+    let x = source_of(s, l, file.name, j != 0, list.name);
+    inputs.file = file.file;
+    inputs.list = list.file;
+    x
 }
 
-// Opens the file of lane l that word i of n names, and its list if it has one, and keeps their names in the k-th parts of this area. Where one
-// is not opened, there is no source.
-fn open_source(s: Setting, l: usize, i: usize, n: usize, k: usize, names: &mut [u8]) -> Source
+// Opens the file of lane l that word i of n names, and its list if it has one, keeps both as the k-th of these inputs, and their names in the
+// k-th parts of this area. Where one is not opened, there is no source.
+fn open_source(
+    system: &System,
+    s: Setting,
+    l: usize,
+    i: usize,
+    n: usize,
+    k: usize,
+    names: &mut [u8],
+    inputs: &mut [Inputs; 8],
+) -> Source
     requires { (i < n) × (k < 8) × (length names.old ≡ 65536) }
 {
     let to = 8192 * k;
-    let file = open_word(i, 2, to, names);
-    if file.fd < 0 {
+    let file = open_word(system, i, 2, to, names);
+    if intake::is_open(&file.file) {} else {
         return no_source();
     }
-    let j = list_of(i + 1, n);
-    with_list(s, l, file, j, to + 4096, names)
+    let j = list_of(system, i + 1, n);
+    with_list(system, s, l, file, j, to + 4096, names, &mut inputs[k])
 }
 
 // ---- turns
@@ -488,6 +508,8 @@ fn after_move(p: Place, m: Move) -> Place
 
 // The turn of the file whose turn it is.
 fn deal(
+    system: &System,
+    inputs: &mut [Inputs; 8],
     way: Way,
     p: Place,
     areas: &mut [u8; 524288],
@@ -501,14 +523,33 @@ fn deal(
     let k = p.next;
     let f = p.files;
     let x = f.sources[k];
-    let m = turns::turn_at(k, way.writing, p.course, x, areas, lists, insert, ocf);
+    let m = turns::turn_at(
+        system,
+        &mut inputs[k],
+        k,
+        way.writing,
+        p.course,
+        x,
+        areas,
+        lists,
+        insert,
+        ocf,
+    );
     say_progress(way, p.course.frames, m.course);
     after_move(p, m)
 }
 
 // Deals out turns, a frame each, until all files are at their end or something is wrong: each is handed what the one before left. A proved loop
 // has to end: this one goes to a number of turns that no run reaches.
-fn go_round(way: Way, c: Course, files: Files, insert: &[u8], ocf: &[u8]) -> Round
+fn go_round(
+    system: &System,
+    inputs: &mut [Inputs; 8],
+    way: Way,
+    c: Course,
+    files: Files,
+    insert: &[u8],
+    ocf: &[u8],
+) -> Round
     ensures { (result.last < 8) × Rounded way.writing c files insert.now ocf.now result }
 {
     let mut areas = [0u8; 524288];
@@ -522,7 +563,7 @@ fn go_round(way: Way, c: Course, files: Files, insert: &[u8], ocf: &[u8]) -> Rou
     };
     let mut turns: u64 = 0;
     while turns < 18446744073709551615 {
-        p = deal(way, p, &mut areas, &mut lists, insert, ocf);
+        p = deal(system, inputs, way, p, &mut areas, &mut lists, insert, ocf);
         if p.on {} else {
             break;
         }
@@ -535,27 +576,24 @@ fn go_round(way: Way, c: Course, files: Files, insert: &[u8], ocf: &[u8]) -> Rou
     }
 }
 
-// Closes the files of a round. A file that was not opened has no descriptor, and the system closes none for it.
-fn close_all(f: Files) {
+// Closes the files of a round: each is let go.
+fn close_all(inputs: &mut [Inputs; 8]) {
     let mut k: usize = 0;
     while k < 8 {
-        let all = f.sources;
-        let x = all[k];
-        libc::close(x.fd);
-        libc::close(x.list_fd);
+        inputs[k] = no_inputs();
         k += 1;
     }
 }
 
 // Says what went wrong with a file whose names stand at the front of these areas.
-fn say_in(x: Source, file: &[u8], list: &[u8], fault: Fault) {
+fn say_in(system: &System, x: Source, file: &[u8], list: &[u8], fault: Fault) {
     let a = streams::within(x.name, file);
     let b = streams::within(x.list_name, list);
-    say_fault(&file[..a], &list[..b], fault);
+    say_fault(system, &file[..a], &list[..b], fault);
 }
 
 // Says what went wrong with file k, whose names stand in the k-th parts of this area.
-fn say_of(f: Files, k: usize, names: &[u8], fault: Fault)
+fn say_of(system: &System, f: Files, k: usize, names: &[u8], fault: Fault)
     requires { (k < 8) × (length names.now ≡ 65536) }
 {
     let all = f.sources;
@@ -563,19 +601,28 @@ fn say_of(f: Files, k: usize, names: &[u8], fault: Fault)
     let from = 8192 * k;
     let middle = from + 4096;
     let to = middle + 4096;
-    say_in(x, &names[from..middle], &names[middle..to], fault);
+    say_in(system, x, &names[from..middle], &names[middle..to], fault);
 }
 
 // A round with these files, whose names stand in this area: says what went wrong, and closes them.
-fn round_on(way: Way, c: Course, f: Files, names: &[u8], insert: &[u8], ocf: &[u8]) -> Course
+fn round_on(
+    system: &System,
+    inputs: &mut [Inputs; 8],
+    way: Way,
+    c: Course,
+    f: Files,
+    names: &[u8],
+    insert: &[u8],
+    ocf: &[u8],
+) -> Course
     requires { length names.now ≡ 65536 }
     ensures { Passed way.writing c f insert.now ocf.now result }
 {
-    let r = go_round(way, c, f, insert, ocf);
+    let r = go_round(system, inputs, way, c, f, insert, ocf);
     let d = r.course;
     let fault = d.fault;
-    say_of(f, r.last, names, fault);
-    close_all(f);
+    say_of(system, f, r.last, names, fault);
+    close_all(inputs);
     d
 }
 
@@ -586,6 +633,14 @@ fn round_on(way: Way, c: Course, f: Files, names: &[u8], insert: &[u8], ocf: &[u
 struct Stage {
     course: Course,
     files: Files,
+}
+
+// No file is open to be read.
+fn no_inputs() -> Inputs {
+    Inputs {
+        file: intake::Source::Nothing,
+        list: intake::Source::Nothing,
+    }
 }
 
 // No files.
@@ -627,11 +682,20 @@ fn with_file(p: Stage, x: Source) -> Stage {
 }
 
 // Opens lane l's file that word i of n names, and puts it to those that wait.
-fn wait_for(p: Stage, s: Setting, l: usize, i: usize, n: usize, names: &mut [u8]) -> Stage
+fn wait_for(
+    system: &System,
+    inputs: &mut [Inputs; 8],
+    p: Stage,
+    s: Setting,
+    l: usize,
+    i: usize,
+    n: usize,
+    names: &mut [u8],
+) -> Stage
     requires { (i < n) × (length names.old ≡ 65536) }
 {
     let k = place_of(p.files);
-    let x = open_source(s, l, i, n, k, names);
+    let x = open_source(system, s, l, i, n, k, names, inputs);
     with_file(p, x)
 }
 
@@ -646,7 +710,15 @@ fn place_of(f: Files) -> usize
 }
 
 // Takes the files that wait for a round, if all were opened; if not, the program ends, and closes them.
-fn round_of(way: Way, p: Stage, names: &[u8], insert: &[u8], ocf: &[u8]) -> Stage
+fn round_of(
+    system: &System,
+    inputs: &mut [Inputs; 8],
+    way: Way,
+    p: Stage,
+    names: &[u8],
+    insert: &[u8],
+    ocf: &[u8],
+) -> Stage
     requires { length names.now ≡ 65536 }
 {
     let c = p.course;
@@ -654,7 +726,7 @@ fn round_of(way: Way, p: Stage, names: &[u8], insert: &[u8], ocf: &[u8]) -> Stag
     let none = no_files();
     let fault = c.fault;
     if streams::is_sound(fault) {
-        let d = round_on(way, c, f, names, insert, ocf);
+        let d = round_on(system, inputs, way, c, f, names, insert, ocf);
         return Stage {
             course: d,
             files: none,
@@ -667,26 +739,35 @@ fn round_of(way: Way, p: Stage, names: &[u8], insert: &[u8], ocf: &[u8]) -> Stag
 }
 
 // What word i names.
-fn named_at(i: usize, numbered: usize) -> Named {
+fn named_at(system: &System, i: usize, numbered: usize) -> Named {
     let mut word = io::buffer();
-    let n = os::arg(i, &mut word);
+    let n = console::arg(system, i, &mut word);
     words::pack_start::name_of(&word[..n], numbered)
 }
 
 // Goes on with word i of n: where it names a lane's file, that waits.
-fn word_on(p: Stage, i: usize, n: usize, names: &mut [u8]) -> Stage
+fn word_on(
+    system: &System,
+    inputs: &mut [Inputs; 8],
+    p: Stage,
+    i: usize,
+    n: usize,
+    names: &mut [u8],
+) -> Stage
     requires { (i < n) × (length names.old ≡ 65536) }
 {
     let s = p.course.state.setting;
-    let name = named_at(i, s.numbered);
+    let name = named_at(system, i, s.numbered);
     match name {
-        Named::ToLane(l) => wait_for(p, s, l, i, n, names),
+        Named::ToLane(l) => wait_for(system, inputs, p, s, l, i, n, names),
         _ => p,
     }
 }
 
 // The same, with a round for the file where each has one of its own.
 fn stage_on(
+    system: &System,
+    inputs: &mut [Inputs; 8],
     way: Way,
     p: Stage,
     i: usize,
@@ -697,11 +778,11 @@ fn stage_on(
 ) -> Stage
     requires { (i < n) × (length names.old ≡ 65536) }
 {
-    let q = word_on(p, i, n, names);
+    let q = word_on(system, inputs, p, i, n, names);
     if way.together {
         return q;
     }
-    round_of(way, q, names, insert, ocf)
+    round_of(system, inputs, way, q, names, insert, ocf)
 }
 
 // Whether nothing went wrong so far.
@@ -713,6 +794,8 @@ fn is_well(p: Stage) -> bool {
 
 // Goes through words from word `from` of n on, as long as nothing is wrong.
 fn each_word(
+    system: &System,
+    inputs: &mut [Inputs; 8],
     way: Way,
     p: Stage,
     from: usize,
@@ -726,7 +809,7 @@ fn each_word(
     let mut q = p;
     let mut i = from;
     while i < n {
-        q = stage_on(way, q, i, n, names, insert, ocf);
+        q = stage_on(system, inputs, way, q, i, n, names, insert, ocf);
         if is_well(q) {} else {
             return q;
         }
@@ -736,15 +819,51 @@ fn each_word(
 }
 
 // Goes through the files that words from word `from` of n on name: each in a round of its own, or all in one.
-fn words_on(way: Way, p: Stage, from: usize, n: usize, insert: &[u8], ocf: &[u8]) -> Course {
+fn words_on(
+    system: &System,
+    way: Way,
+    p: Stage,
+    from: usize,
+    n: usize,
+    insert: &[u8],
+    ocf: &[u8],
+) -> Course {
     let mut names = io::large_buffer();
-    let q = each_word(way, p, from, n, &mut names, insert, ocf);
-    let r = round_of(way, q, &names, insert, ocf);
+    let mut inputs = [
+        no_inputs(),
+        no_inputs(),
+        no_inputs(),
+        no_inputs(),
+        no_inputs(),
+        no_inputs(),
+        no_inputs(),
+        no_inputs(),
+    ];
+    let q = each_word(
+        system,
+        &mut inputs,
+        way,
+        p,
+        from,
+        n,
+        &mut names,
+        insert,
+        ocf,
+    );
+    let r = round_of(system, &mut inputs, way, q, &names, insert, ocf);
     r.course
 }
 
 // Goes through all files, from a fresh writer on: to look for what is wrong, or to write frames.
-fn pass(way: Way, s: Setting, from: usize, n: usize, insert: &[u8], ocf: &[u8]) -> Course {
+fn pass(
+    system: &System,
+    way: Way,
+    s: Setting,
+    from: usize,
+    n: usize,
+    insert: &[u8],
+    ocf: &[u8],
+) -> Course {
     let fresh = writer::set_up(s);
     let w = fresh.state;
     let c = Course {
@@ -758,7 +877,7 @@ fn pass(way: Way, s: Setting, from: usize, n: usize, insert: &[u8], ocf: &[u8]) 
         course: c,
         files: f,
     };
-    words_on(way, p, from, n, insert, ocf)
+    words_on(system, way, p, from, n, insert, ocf)
 }
 
 // ---- the insert and OCF octets
@@ -824,22 +943,22 @@ fn plan_word(p: Plan, i: usize, word: &[u8], s: Setting, once: bool) -> Plan {
 }
 
 // The plan after word i.
-fn plan_next(p: Plan, i: usize, s: Setting, once: bool) -> Plan {
+fn plan_next(system: &System, p: Plan, i: usize, s: Setting, once: bool) -> Plan {
     let mut word = io::buffer();
-    let n = os::arg(i, &mut word);
-    if os::errno() != 0 {
-        say_failed(b"an argument");
+    let n = console::arg(system, i, &mut word);
+    if intake::last_failure(system) != 0 {
+        say_failed(system, b"an argument");
         return words::pack_start::bad_plan(p, Bad::NoWord);
     }
     plan_word(p, i, &word[..n], s, once)
 }
 
 // The plan of all words from word `from` of n on.
-fn plan_all(from: usize, n: usize, s: Setting, once: bool) -> Plan {
+fn plan_all(system: &System, from: usize, n: usize, s: Setting, once: bool) -> Plan {
     let mut plan = words::pack_start::no_plan();
     let mut i = from;
     while i < n {
-        plan = plan_next(plan, i, s, once);
+        plan = plan_next(system, plan, i, s, once);
         let bad = plan.bad;
         if !words::pack_start::is_fine(bad) {
             break;
@@ -850,16 +969,22 @@ fn plan_all(from: usize, n: usize, s: Setting, once: bool) -> Plan {
 }
 
 // Puts the octets of an open file that has exactly n at the front of an area.
-fn load_open(path: &[u8], fd: i32, n: usize, area: &mut [u8]) -> bool {
+fn load_open(
+    system: &System,
+    path: &[u8],
+    from: &mut intake::Source,
+    n: usize,
+    area: &mut [u8],
+) -> bool {
     let mut space = io::buffer();
     let none = Window {
         have: 0,
         at: 0,
         good: true,
     };
-    let w = intake::fill_up(fd, &mut space, none);
+    let w = intake::fill_up(system, from, &mut space, none);
     if !w.good {
-        say_failed(path);
+        say_failed(system, path);
         return false;
     }
     let have = w.have;
@@ -872,36 +997,34 @@ fn load_open(path: &[u8], fd: i32, n: usize, area: &mut [u8]) -> bool {
 }
 
 // The same of a file by its name, where nothing stands against reading it once.
-fn load_file(path: &[u8], n: usize, area: &mut [u8]) -> bool {
-    let fd = os::open_read(path);
-    if fd < 0 {
-        say_failed(path);
+fn load_file(system: &System, path: &[u8], n: usize, area: &mut [u8]) -> bool {
+    let mut file = intake::open_read(system, path);
+    if intake::is_open(&file) {} else {
+        say_failed(system, path);
         return false;
     }
-    if allowed(path, files::of_descriptor(fd), false) {
-        let good = load_open(path, fd, n, area);
-        libc::close(fd);
-        return good;
+    if allowed(system, path, files::of_source(system, &file), false) {
+        return load_open(system, path, &mut file, n, area);
     }
-    libc::close(fd);
     false
 }
 
 // Puts the n octets of the file that argument i names, after its first `from` octets, at the front of an area; argument 0 leaves it.
-fn load_octets(i: usize, from: usize, n: usize, area: &mut [u8]) -> bool {
+fn load_octets(system: &System, i: usize, from: usize, n: usize, area: &mut [u8]) -> bool {
     if i == 0 {
         return true;
     }
     let mut word = io::buffer();
-    let end = os::arg(i, &mut word);
+    let end = console::arg(system, i, &mut word);
     let at = intake::least(from, end);
-    load_file(&word[at..end], n, area)
+    load_file(system, &word[at..end], n, area)
 }
 
 // ---- the program
 
 // Writes the frames of files that are good, with so many octets to a hundredth of them.
 fn write_frames(
+    system: &System,
     s: Setting,
     together: bool,
     hundredth: u64,
@@ -910,14 +1033,14 @@ fn write_frames(
     insert: &[u8],
     ocf: &[u8],
 ) {
-    let live = console::progress::is_live();
+    let live = console::progress::is_live(system);
     let way = Way {
         writing: true,
         together: together,
         live: live,
         hundredth: hundredth,
     };
-    let c = pass(way, s, from, n, insert, ocf);
+    let c = pass(system, way, s, from, n, insert, ocf);
     let fault = c.fault;
     if streams::is_sound(fault) {
         say_done(c.frames);
@@ -925,14 +1048,23 @@ fn write_frames(
 }
 
 // Writes the frames, once all files are good. Of the insert octets the setting's are taken.
-fn pack_files(s: Setting, q: Asked, n: usize, insert: &[u8], ocf: &[u8]) {
+fn pack_files(system: &System, s: Setting, q: Asked, n: usize, insert: &[u8], ocf: &[u8]) {
     let i = streams::within(s.insert, insert);
     let from = after(q.one, n);
     let look = look_way();
-    let looked = pass(look, s, from, n, &insert[..i], ocf);
+    let looked = pass(system, look, s, from, n, &insert[..i], ocf);
     let found = looked.fault;
     if streams::is_sound(found) {
-        write_frames(s, q.first, looked.octets / 100, from, n, &insert[..i], ocf);
+        write_frames(
+            system,
+            s,
+            q.first,
+            looked.octets / 100,
+            from,
+            n,
+            &insert[..i],
+            ocf,
+        );
     }
 }
 
@@ -945,24 +1077,24 @@ fn after(i: usize, n: usize) -> usize {
 }
 
 // Packs by this setting and plan, with n words.
-fn pack_planned(s: Setting, q: Asked, n: usize, p: Plan) {
+fn pack_planned(system: &System, s: Setting, q: Asked, n: usize, p: Plan) {
     let mut insert = [0u8; 64];
     let mut ocf = [0u8; 4];
-    if load_octets(p.insert, 7, s.insert, &mut insert) {
-        if load_octets(p.ocf, 4, 4, &mut ocf) {
-            pack_files(s, q, n, &insert, &ocf);
+    if load_octets(system, p.insert, 7, s.insert, &mut insert) {
+        if load_octets(system, p.ocf, 4, 4, &mut ocf) {
+            pack_files(system, s, q, n, &insert, &ocf);
         }
     }
 }
 
 // Packs by this setting, with n words.
-fn pack_all(s: Setting, q: Asked, n: usize) {
+fn pack_all(system: &System, s: Setting, q: Asked, n: usize) {
     let from = after(q.one, n);
-    let p = plan_all(from, n, s, q.first);
+    let p = plan_all(system, from, n, s, q.first);
     let bad = p.bad;
     if words::pack_start::is_fine(bad) {
         if p.lanes {
-            pack_planned(s, q, n, p);
+            pack_planned(system, s, q, n, p);
             return;
         }
         say_usage();
@@ -970,57 +1102,58 @@ fn pack_all(s: Setting, q: Asked, n: usize) {
 }
 
 // Packs by the setting that was loaded, if it is one.
-fn with_setting(l: Loaded, q: Asked, n: usize) {
+fn with_setting(system: &System, l: Loaded, q: Asked, n: usize) {
     if l.judged.good {
-        pack_all(l.judged.setting, q, n);
+        pack_all(system, l.judged.setting, q, n);
     }
 }
 
 // Packs by the setting in standard input.
-fn pack_input(q: Asked, n: usize) {
+fn pack_input(system: &System, q: Asked, n: usize) {
     let name = b"standard input";
-    if allowed(name, files::of_descriptor(0), false) {
+    if allowed(system, name, files::of_input(system), false) {
         let mut area = [0u8; 65537];
-        let l = setting_file::load_open(b"pack", name, 0, &mut area);
-        with_setting(l, q, n);
+        let mut input = intake::Source::Input(system.rt.stdin());
+        let l = setting_file::load_open(system, b"pack", name, &mut input, &mut area);
+        with_setting(system, l, q, n);
     }
 }
 
 // Packs by the setting in the file of this name.
-fn pack_by(path: &[u8], q: Asked, n: usize) {
-    if allowed(path, files::of_name(path), false) {
+fn pack_by(system: &System, path: &[u8], q: Asked, n: usize) {
+    if allowed(system, path, files::of_name(system, path), false) {
         let mut area = [0u8; 65537];
-        let l = setting_file::load(b"pack", path, &mut area);
-        with_setting(l, q, n);
+        let l = setting_file::load(system, b"pack", path, &mut area);
+        with_setting(system, l, q, n);
     }
 }
 
 // Packs by the setting of this name, or by the one in standard input.
-fn with_name(path: &[u8], q: Asked, n: usize) {
+fn with_name(system: &System, path: &[u8], q: Asked, n: usize) {
     if words::is_dash(path) {
-        pack_input(q, n);
+        pack_input(system, q, n);
         return;
     }
-    pack_by(path, q, n);
+    pack_by(system, path, q, n);
 }
 
 // Takes the setting from the command line, and goes on.
-fn with_words(q: Asked, n: usize) {
+fn with_words(system: &System, q: Asked, n: usize) {
     let mut path = io::buffer();
-    let k = os::arg(q.one, &mut path);
-    if os::errno() != 0 {
-        say_failed(b"SETTING");
+    let k = console::arg(system, q.one, &mut path);
+    if intake::last_failure(system) != 0 {
+        say_failed(system, b"SETTING");
         return;
     }
-    with_name(&path[..k], q, n);
+    with_name(system, &path[..k], q, n);
 }
 
 // ---- the command line
 
 // Says that a word is no option.
-fn say_unknown(i: usize) {
+fn say_unknown(system: &System, i: usize) {
     let mut word = io::buffer();
-    let n = os::arg(i, &mut word);
+    let n = console::arg(system, i, &mut word);
     say(
         &word[..n],
         b"is no option; expected --interleave, --help or --version",
@@ -1028,37 +1161,39 @@ fn say_unknown(i: usize) {
 }
 
 // Prints what was asked for, in the place of frames.
-fn print_text(text: &[u8]) {
-    if io::write_all(1, text) {
+fn print_text(system: &System, text: &[u8]) {
+    if console::write_out(system, text) {
         say_done(0);
         return;
     }
-    say_failed(b"standard output");
+    say_failed(system, b"standard output");
 }
 
 // Prints how the program is called.
-fn print_help() {
+fn print_help(system: &System) {
     print_text(
+        system,
         b"pack [--interleave] SETTING LANE=FILE [lengths=FILE] .. [insert=FILE] [ocf=FILE]\nWrites the frames of the files' packets and units to standard output.\n  --interleave  the files take turns, a frame each\n  --help        prints this\n  --version     prints which program this is\nA SETTING of - is standard input. docs/PROGRAMS.md has the formats.\n",
     );
 }
 
 // Does what n words ask for, or says why it cannot.
-fn begin(start: Start, q: Asked, n: usize) {
+fn begin(system: &System, start: Start, q: Asked, n: usize) {
     match start {
-        Start::Help => print_help(),
-        Start::Version => print_text(b"pack 0.3 (Khachmuren, CCSDS 732.1-B-3)\n"),
-        Start::Unknown(i) => say_unknown(i),
+        Start::Help => print_help(system),
+        Start::Version => print_text(system, b"pack 0.3 (Khachmuren, CCSDS 732.1-B-3)\n"),
+        Start::Unknown(i) => say_unknown(system, i),
         Start::Usage => say_usage(),
-        Start::Work => with_words(q, n),
+        Start::Work => with_words(system, q, n),
     }
 }
 
 // The program. Nothing is said into a file that a word names, nor between the frames.
-fn main() {
-    let n = os::arg_count();
-    if console::may_say(true, n, 0) {
-        let q = console::read_words(Program::Pack, n);
-        begin(words::pack_start::start_of(q), q, n);
+fn main(rt: HostRuntime) {
+    let system = intake::system_of(rt);
+    let n = console::arg_count(&system);
+    if console::may_say(&system, true, n, 0) {
+        let q = console::read_words(&system, Program::Pack, n);
+        begin(&system, words::pack_start::start_of(q), q, n);
     }
 }

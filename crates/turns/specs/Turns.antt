@@ -58,8 +58,6 @@ after_turn x t = record {
     name = x.name;
     list_name = x.list_name;
     ocf = x.ocf;
-    fd = x.fd;
-    list_fd = x.list_fd;
     more = t.more;
   };
 }

@@ -12,7 +12,7 @@ ghost use Rattle.streams.specs.Streams.{Kept};
 ghost use Rattle.turns.specs.Courses.{ended, one_more, Sent, FrameOf, SentNext, CourseOn, goes_on, counted};
 ghost use Rattle.turns.specs.Turns.{worked, Over, Worked, Turned, ReadOn, ReadTurn, after_turn, Taken, TakenAt};
 
-use intake::Window;
+use intake::{System, Window};
 use rules::{Outcome, Writer};
 use streams::{Fault, Form, Stream};
 
@@ -62,11 +62,19 @@ fn next_number(w: Writer, l: usize) -> usize
 }
 
 // Hands a frame to standard output: the one that the rules write next of a batch.
-fn hand(w: Writer, l: usize, batch: &[u8], insert: &[u8], ocf: &[u8], frame: &[u8]) -> Fault
+fn hand(
+    system: &System,
+    w: Writer,
+    l: usize,
+    batch: &[u8],
+    insert: &[u8],
+    ocf: &[u8],
+    frame: &[u8],
+) -> Fault
     requires { FrameOf w l batch.now insert.now ocf.now frame.now }
     ensures { Sent result }
 {
-    let good = io::write_all(1, frame);
+    let good = console::write_out(system, frame);
     if good {
         return Fault::Nothing;
     }
@@ -74,7 +82,14 @@ fn hand(w: Writer, l: usize, batch: &[u8], insert: &[u8], ocf: &[u8], frame: &[u
 }
 
 // Writes the next frame of a batch, and hands it on.
-fn send_next(c: Course, l: usize, batch: &[u8], insert: &[u8], ocf: &[u8]) -> Course
+fn send_next(
+    system: &System,
+    c: Course,
+    l: usize,
+    batch: &[u8],
+    insert: &[u8],
+    ocf: &[u8],
+) -> Course
     ensures { SentNext c l batch.now insert.now ocf.now result }
 {
     let w = c.state;
@@ -85,7 +100,7 @@ fn send_next(c: Course, l: usize, batch: &[u8], insert: &[u8], ocf: &[u8]) -> Co
     match outcome {
         Outcome::Done => {
             let end = streams::within(w.setting.length, &area);
-            let fault = hand(w, l, batch, insert, ocf, &area[..end]);
+            let fault = hand(system, w, l, batch, insert, ocf, &area[..end]);
             let frames = one_more(c.frames);
             Course {
                 state: after,
@@ -104,11 +119,19 @@ fn send_next(c: Course, l: usize, batch: &[u8], insert: &[u8], ocf: &[u8]) -> Co
 }
 
 // How a batch goes on: a frame of it where frames are written, and passed over in the first pass.
-fn course_on(writing: bool, c: Course, l: usize, batch: &[u8], insert: &[u8], ocf: &[u8]) -> Course
+fn course_on(
+    system: &System,
+    writing: bool,
+    c: Course,
+    l: usize,
+    batch: &[u8],
+    insert: &[u8],
+    ocf: &[u8],
+) -> Course
     ensures { CourseOn writing c l batch.now insert.now ocf.now result }
 {
     if writing {
-        return send_next(c, l, batch, insert, ocf);
+        return send_next(system, c, l, batch, insert, ocf);
     }
     c
 }
@@ -184,11 +207,19 @@ fn end_batch(d: Course, s: Stream, area: &mut [u8]) -> Step
 }
 
 // Takes the next frame of the batch at the front of a file's window; after its last frame the window holds what is behind it.
-fn work(writing: bool, c: Course, s: Stream, area: &mut [u8], insert: &[u8], ocf: &[u8]) -> Step
+fn work(
+    system: &System,
+    writing: bool,
+    c: Course,
+    s: Stream,
+    area: &mut [u8],
+    insert: &[u8],
+    ocf: &[u8],
+) -> Step
     ensures { Worked writing c s insert.now ocf.now area.old result area.new }
 {
     let n = streams::within(s.batch, area);
-    let d = course_on(writing, c, s.lane, &area[..n], insert, ocf);
+    let d = course_on(system, writing, c, s.lane, &area[..n], insert, ocf);
     let more = goes_on(d, s.lane);
     if more {
         return Step {
@@ -202,6 +233,7 @@ fn work(writing: bool, c: Course, s: Stream, area: &mut [u8], insert: &[u8], ocf
 
 // A file's turn, with what its windows hold: where no batch is being worked off, its next one begins.
 fn turn(
+    system: &System,
     writing: bool,
     c: Course,
     s: Stream,
@@ -213,7 +245,7 @@ fn turn(
     ensures { Turned writing c s insert.now ocf.now area.old list.old result area.new list.new }
 {
     if s.batch != 0 {
-        return work(writing, c, s, area, insert, ocf);
+        return work(system, writing, c, s, area, insert, ocf);
     }
     let have = streams::within(s.window.have, area);
     let b = streams::begin(s, &area[..have], list);
@@ -227,22 +259,27 @@ fn turn(
             more: false,
         };
     }
-    work(writing, c, t, area, insert, ocf)
+    work(system, writing, c, t, area, insert, ocf)
 }
 
 // ---- sources
 
-// A file that is open: on its way into batches; its descriptor and its list's; how many octets of the names' area are the name of each; how many
-// OCF octets its frames have; and whether there may be more.
+// A file that is open: on its way into batches; how many octets of the names' area are its name and its list's; how many OCF octets its frames
+// have; and whether there may be more.
 #[derive(Clone, Copy)]
 pub struct Source {
     pub stream: Stream,
     pub name: usize,
     pub list_name: usize,
     pub ocf: usize,
-    pub fd: i32,
-    pub list_fd: i32,
     pub more: bool,
+}
+
+// What a file's octets and its list's are read from; nothing for a list where there is none.
+#[derive(Drop)]
+pub struct Inputs {
+    pub file: intake::Source,
+    pub list: intake::Source,
 }
 
 // One more than the longest unit, as far as a window goes.
@@ -264,17 +301,23 @@ fn room_of(s: Stream) -> usize {
 }
 
 // Fills the window on a list up, if there is one.
-fn read_list(fd: i32, l: Window, list: &mut [u8]) -> Window
+fn read_list(system: &System, from: &mut intake::Source, l: Window, list: &mut [u8]) -> Window
     ensures { Kept l list.old result list.new }
 {
-    if fd < 0 {
-        return l;
+    if intake::is_open(from) {
+        return streams::fill(system, from, l, list, 256);
     }
-    streams::fill(fd, l, list, 256)
+    l
 }
 
 // Reads on where no batch is being worked off.
-fn read_on(x: Source, area: &mut [u8], list: &mut [u8]) -> Stream
+fn read_on(
+    system: &System,
+    inputs: &mut Inputs,
+    x: Source,
+    area: &mut [u8],
+    list: &mut [u8],
+) -> Stream
     ensures { ReadOn x.stream area.old list.old result area.new list.new }
 {
     let s = x.stream;
@@ -282,8 +325,8 @@ fn read_on(x: Source, area: &mut [u8], list: &mut [u8]) -> Stream
         return s;
     }
     let room = room_of(s);
-    let window = streams::fill(x.fd, s.window, area, room);
-    let listed = read_list(x.list_fd, s.list, list);
+    let window = streams::fill(system, &mut inputs.file, s.window, area, room);
+    let listed = read_list(system, &mut inputs.list, s.list, list);
     let form = s.form;
     Stream {
         window: window,
@@ -319,6 +362,8 @@ fn after_turn(x: Source, t: Step) -> Move
 
 // A file's turn in its own windows: it reads on, and takes a frame with as many OCF octets as its channel has.
 fn read_turn(
+    system: &System,
+    inputs: &mut Inputs,
     writing: bool,
     c: Course,
     x: Source,
@@ -329,13 +374,15 @@ fn read_turn(
 ) -> Step
     ensures { ReadTurn writing c x insert.now ocf.now area.old list.old result area.new list.new }
 {
-    let s = read_on(x, area, list);
+    let s = read_on(system, inputs, x, area, list);
     let n = streams::within(x.ocf, ocf);
-    turn(writing, c, s, area, list, insert, &ocf[..n])
+    turn(system, writing, c, s, area, list, insert, &ocf[..n])
 }
 
 // The same, unless the file is at its end: then it takes none.
 fn take_turn(
+    system: &System,
+    inputs: &mut Inputs,
     writing: bool,
     c: Course,
     x: Source,
@@ -347,7 +394,7 @@ fn take_turn(
     ensures { Taken writing c x insert.now ocf.now area.old list.old result area.new list.new }
 {
     if x.more {
-        let t = read_turn(writing, c, x, area, list, insert, ocf);
+        let t = read_turn(system, inputs, writing, c, x, area, list, insert, ocf);
         return after_turn(x, t);
     }
     Move {
@@ -358,6 +405,8 @@ fn take_turn(
 
 // The turn of file k, whose windows are the k-th parts of these areas.
 pub fn turn_at(
+    system: &System,
+    inputs: &mut Inputs,
     k: usize,
     writing: bool,
     c: Course,
@@ -375,6 +424,8 @@ pub fn turn_at(
     let list_from = 256 * k;
     let list_to = list_from + 256;
     take_turn(
+        system,
+        inputs,
         writing,
         c,
         x,
