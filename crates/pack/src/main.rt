@@ -123,7 +123,7 @@ fn say_usage() {
 
 // Whether nothing stands against reading a file. Says what does.
 fn allowed(system: &System, path: &[u8], k: Known, twice: bool) -> bool {
-    let o = words::pack_start::against(k, files::of_output(system), twice);
+    let o = words::pack_start::against(k, files::of_descriptor(system, 1), twice);
     match o {
         Objection::Nothing => true,
         Objection::NotRegular => {
@@ -1111,7 +1111,7 @@ fn with_setting(system: &System, l: Loaded, q: Asked, n: usize) {
 // Packs by the setting in standard input.
 fn pack_input(system: &System, q: Asked, n: usize) {
     let name = b"standard input";
-    if allowed(system, name, files::of_input(system), false) {
+    if allowed(system, name, files::of_descriptor(system, 0), false) {
         let mut area = [0u8; 65537];
         let mut input = intake::Source::Input(system.rt.stdin());
         let l = setting_file::load_open(system, b"pack", name, &mut input, &mut area);
