@@ -10,10 +10,9 @@ ghost use Rattle.outputs.specs.Names.{has_output, ending, mark, Named, plain_fit
 
 use files::Known;
 use intake::{Source, System};
-use std::fs;
 use std::fs::{File, OpenOptions};
-use std::io;
 use std::io::Write;
+use std::{fs, io};
 
 // The number that the system has for a descriptor that is not open.
 const NOT_OPEN: i32 = 9;

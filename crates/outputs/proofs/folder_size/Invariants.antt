@@ -1,0 +1,15 @@
+-- `outputs::folder_size` meets its contract. Of the first i octets, those up to the last `/` are `end`.
+use Rattle.outputs.proofs.Endings.{slash-here, slash-not, slash-end}
+use Rattle.outputs.specs.Names.{last_slash}
+use native.Mathlib.Numerals.{add-one}
+use Prim.Native.Nat.{◌-◌, ◌≤◌}
+use mathlib.Core.Path.{◌≡◌, refl, sym, ◌∙◌}
+use lib.ListN.{length, drop}
+use borrow.Author.Rules.{rules}
+use Rattle.outputs.proofs.folder_size.Given as goal
+
+abbrev pub invariant-loop-i : goal.invariant-loop-i
+invariant-loop-i l = (l.i ≤ length l.prefix) × (l.end ≤ l.i) × (last_slash 0 0 l.prefix ≡ last_slash l.i l.end (drop l.i l.prefix))
+
+abbrev pub decreases-loop-i : goal.decreases-loop-i
+decreases-loop-i l = length l.prefix - l.i

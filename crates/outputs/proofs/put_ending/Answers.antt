@@ -1,0 +1,19 @@
+-- `outputs::put_ending`: what its callees promise is enough.
+use Rattle.outputs.proofs.Endings.{lane-ending, table-ending, records-ending}
+use Rattle.rules.specs.Listing.{text}
+use borrow.Author.Rules.{rules}
+use Rattle.outputs.proofs.put_ending.Goals as goal
+
+pub returns-then-i-lt8 : goal.returns-then-i-lt8
+unfolding text
+returns-then-i-lt8 c = lane-ending _ c.if-i-lt8.true c.put_named.ensures
+
+pub returns-then-i-eq8 : goal.returns-then-i-eq8
+unfolding text
+returns-then-i-eq8 c = table-ending _ c.if-i-lt8.false c.if-i-eq8.true
+    c.put_text.ensures
+
+pub returns : goal.returns
+unfolding text
+returns c = records-ending _ c.if-i-lt8.false c.if-i-eq8.false
+    c.put_text-2.ensures
