@@ -12,6 +12,7 @@ use files::Known;
 use intake::{Source, System};
 use std::fs::{File, OpenOptions};
 use std::io::Write;
+use std::os::fd::AsRawFd;
 use std::{fs, io};
 
 // The number that the system has for a descriptor that is not open.
@@ -275,26 +276,38 @@ fn make(system: &System, p: Plan, prefix: &[u8], i: usize) -> Option<File> {
     make_new(system, &name[..end])
 }
 
-// The unfinished files, none where none was made, and whether all that are wanted were.
+// The number of an unfinished file's descriptor, -1 where none was made.
+fn number_of(file: &Option<File>) -> i32 {
+    match file {
+        Some(file) => file.as_raw_fd(),
+        None => -1,
+    }
+}
+
+// The unfinished files and the numbers of their descriptors, -1 where none was made, and whether all that are wanted were.
 #[derive(Drop)]
 pub struct Made {
     pub files: [Option<File>; 10],
+    pub fds: [i32; 10],
     pub good: bool,
 }
 
 // Makes each unfinished file, up to the first failure.
 pub fn make_all(system: &System, p: Plan, prefix: &[u8]) -> Made {
     let mut files = [None, None, None, None, None, None, None, None, None, None];
+    let mut fds = [-1i32; 10];
     let mut i: usize = 0;
     while i < 10 {
         let wanted = has(p, i);
         if wanted {
             let file = make(system, p, prefix, i);
-            let made = file.is_some();
+            let fd = number_of(&file);
             files[i] = file;
-            if !made {
+            fds[i] = fd;
+            if fd < 0 {
                 return Made {
                     files: files,
+                    fds: fds,
                     good: false,
                 };
             }
@@ -303,6 +316,7 @@ pub fn make_all(system: &System, p: Plan, prefix: &[u8]) -> Made {
     }
     Made {
         files: files,
+        fds: fds,
         good: true,
     }
 }
@@ -342,8 +356,8 @@ pub fn write_all(system: &System, file: &Option<File>, octets: &[u8]) -> bool {
     true
 }
 
-// Puts an output on its device.
-fn keep(system: &System, file: &Option<File>) -> bool {
+// Puts an output on its device and closes it.
+fn keep(system: &System, file: Option<File>) -> bool {
     match file {
         Some(file) => went(system, file.sync_all()),
         None => {
@@ -353,13 +367,14 @@ fn keep(system: &System, file: &Option<File>) -> bool {
     }
 }
 
-// Puts each output on its device.
-pub fn keep_all(system: &System, p: Plan, files: &[Option<File>; 10], prefix: &[u8]) -> bool {
+// Puts each output on its device and closes it.
+pub fn keep_all(system: &System, p: Plan, files: &mut [Option<File>; 10], prefix: &[u8]) -> bool {
     let mut i: usize = 0;
     while i < 10 {
         let wanted = has(p, i);
         if wanted {
-            let kept = keep(system, &files[i]);
+            let file = files[i].take();
+            let kept = keep(system, file);
             if !kept {
                 say_part(system, p, prefix, i);
                 return false;
@@ -574,7 +589,7 @@ fn folder_size(prefix: &[u8]) -> usize
 fn keep_folder(system: &System, folder: &[u8]) -> bool {
     let from = intake::open_read(system, folder);
     if let Source::Of(file) = from {
-        let kept = keep(system, &Some(file));
+        let kept = keep(system, Some(file));
         if kept {
             return true;
         }
@@ -672,11 +687,11 @@ pub fn give_names(system: &System, p: Plan, prefix: &[u8]) -> bool {
 // ---- a run that fails
 
 // Removes the unfinished files that this run made, where that still can be done. The program ends then, and closes them.
-pub fn remove_all(system: &System, p: Plan, files: &[Option<File>; 10], prefix: &[u8]) {
+pub fn remove_all(system: &System, p: Plan, fds: [i32; 10], prefix: &[u8]) {
     let mut i: usize = 0;
     while i < 10 {
-        let made = files[i].is_some();
-        remove(system, p, prefix, i, false, made);
+        let fd = fds[i];
+        remove(system, p, prefix, i, false, 0 <= fd);
         i += 1;
     }
 }

@@ -35,11 +35,11 @@ pub enum Went {
     NotWritten(usize),
 }
 
-// Where a run's octets go, and what it says on the way: the files of its outputs, how many frames are a hundredth of the recording (0 where
+// Where a run's octets go, and what it says on the way: the descriptors of its outputs, how many frames are a hundredth of the recording (0 where
 // that is not known), whether no line a frame is printed, and whether there is a table of units.
 #[derive(Clone, Copy)]
-pub struct Sinks<'a> {
-    pub files: &'a [Option<File>; 10],
+pub struct Sinks {
+    pub fds: [i32; 10],
     pub hundredth: u64,
     pub quiet: bool,
     pub table: bool,
@@ -269,7 +269,8 @@ fn put_out(
     g: Origin,
     v: Verdict,
     a: Answer,
-    o: Sinks<'_>,
+    files: &[Option<File>; 10],
+    o: Sinks,
     line: &[u8],
     units: &[u8],
     records: &[u8],
@@ -284,7 +285,6 @@ fn put_out(
         return Went::Well;
     }
     let i = output_of(v);
-    let files = o.files;
     let went = put_units(system, files, i, units, records);
     let more = goes_on(o.table, went);
     if more {
@@ -294,7 +294,14 @@ fn put_out(
 }
 
 // Puts a frame's line, and hands it out with what the frame gave, out of the areas as they were left.
-fn give_out(system: &System, p: Step, o: Sinks<'_>, units: &[u8], records: &[u8]) -> Went
+fn give_out(
+    system: &System,
+    p: Step,
+    files: &[Option<File>; 10],
+    o: Sinks,
+    units: &[u8],
+    records: &[u8],
+) -> Went
     requires { Gave p.origin p.left p.verdict p.answer units.now records.now }
 {
     let g = p.origin;
@@ -304,11 +311,21 @@ fn give_out(system: &System, p: Step, o: Sinks<'_>, units: &[u8], records: &[u8]
     let end = unpack_text::put_line(&mut area, 0, g.frame, p.left, v, a);
     let n = a.octets;
     let c = rules::RECORD_SIZE * a.units;
-    put_out(system, g, v, a, o, &area[..end], &units[..n], &records[..c])
+    put_out(
+        system,
+        g,
+        v,
+        a,
+        files,
+        o,
+        &area[..end],
+        &units[..n],
+        &records[..c],
+    )
 }
 
 // Says how far the program is, where that is due and all went well.
-fn say_progress(system: &System, went: Went, count: u64, o: Sinks<'_>) {
+fn say_progress(system: &System, went: Went, count: u64, o: Sinks) {
     let good = well(went);
     if good {
         let due = console::progress::is_due(count);
@@ -345,7 +362,8 @@ fn handle(
     without: [bool; 63],
     u: Turn,
     came: Came,
-    o: Sinks<'_>,
+    files: &[Option<File>; 10],
+    o: Sinks,
     frame: &[u8],
     held: &mut [u8],
     units: &mut [u8],
@@ -358,7 +376,7 @@ fn handle(
     let t = u.totals;
     let w = reader::pass(without, r, frame, held, units, records);
     let p = take_frame(u.count, r, t, w, frame);
-    let went = give_out(system, p, o, units, records);
+    let went = give_out(system, p, files, o, units, records);
     let v = turn_after(u, came, p, went);
     say_progress(system, went, v.count, o);
     v
@@ -397,7 +415,8 @@ fn turn_frame(
     without: [bool; 63],
     u: Turn,
     came: Came,
-    o: Sinks<'_>,
+    files: &[Option<File>; 10],
+    o: Sinks,
     frame: &[u8],
     held: &mut [u8],
     units: &mut [u8],
@@ -418,6 +437,7 @@ fn turn_frame(
         without,
         u,
         came,
+        files,
         o,
         &frame[..m],
         held,
@@ -453,7 +473,8 @@ pub fn take_all(
     without: [bool; 63],
     s: Setting,
     from: &mut Source,
-    o: Sinks<'_>,
+    files: &[Option<File>; 10],
+    o: Sinks,
 ) -> Turn
     requires { setting_ok s ≡ true }
     ensures { Finished without s result.count result.state result.totals }
@@ -471,6 +492,7 @@ pub fn take_all(
             without,
             u,
             came,
+            files,
             o,
             &frame,
             &mut held,
@@ -519,9 +541,8 @@ fn hand_table(system: &System, files: &[Option<File>; 10], text: &[u8]) -> Went
 }
 
 // Puts the title of the table of units, and writes it, where there is a table.
-pub fn start_table(system: &System, o: Sinks<'_>) -> Went {
+pub fn start_table(system: &System, files: &[Option<File>; 10], o: Sinks) -> Went {
     if o.table {
-        let files = o.files;
         let mut area = [0u8; 57];
         let end = unit_table::put_title(&mut area, 0);
         return hand_table(system, files, &area[..end]);

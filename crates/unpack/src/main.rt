@@ -26,9 +26,9 @@ use words::{Asked, Program, Start};
 // What a run has: the plan of its outputs, where its octets go, what no output may replace, as the system knows it, and which virtual channels are left
 // out.
 #[derive(Clone, Copy)]
-struct Job<'a> {
+struct Job {
     plan: Plan,
-    sinks: Sinks<'a>,
+    sinks: Sinks,
     kept: Kept,
     without: [bool; 63],
 }
@@ -41,9 +41,8 @@ struct Outcome {
 }
 
 // Once all outputs are written: they are put on the device, what has their names is looked at once more, and they get them.
-fn settle(system: &System, job: Job<'_>, prefix: &[u8]) -> bool {
+fn settle(system: &System, files: &mut [Option<File>; 10], job: Job, prefix: &[u8]) -> bool {
     let p = job.plan;
-    let files = job.sinks.files;
     let kept = outputs::keep_all(system, p, files, prefix);
     if kept {
         let f = job.kept;
@@ -170,12 +169,19 @@ fn say_little(recording: &[u8], t: Totals, own: u16) {
 // ---- the program
 
 // Once every frame is taken: prints the totals, and settles the outputs.
-fn finish(system: &System, r: Reader, t: Totals, job: Job<'_>, prefix: &[u8]) -> bool
+fn finish(
+    system: &System,
+    r: Reader,
+    t: Totals,
+    files: &mut [Option<File>; 10],
+    job: Job,
+    prefix: &[u8],
+) -> bool
     requires { reader_ok r ≡ true }
 {
     let printed = each_frame::print_totals(system, r, t);
     if printed {
-        return settle(system, job, prefix);
+        return settle(system, files, job, prefix);
     }
     false
 }
@@ -186,12 +192,13 @@ fn conclude(
     r: Reader,
     t: Totals,
     recording: &[u8],
-    job: Job<'_>,
+    files: &mut [Option<File>; 10],
+    job: Job,
     prefix: &[u8],
 ) -> bool
     requires { reader_ok r ≡ true }
 {
-    let whole = finish(system, r, t, job, prefix);
+    let whole = finish(system, r, t, files, job, prefix);
     if whole {
         say_little(recording, t, r.setting.craft);
     }
@@ -204,20 +211,21 @@ fn take_and_conclude(
     s: Setting,
     from: &mut Source,
     recording: &[u8],
-    job: Job<'_>,
+    files: &mut [Option<File>; 10],
+    job: Job,
     prefix: &[u8],
 ) -> Outcome
     requires { setting_ok s ≡ true }
 {
     let o = job.sinks;
     let without = job.without;
-    let u = each_frame::take_all(system, without, s, from, o);
+    let u = each_frame::take_all(system, without, s, from, files, o);
     let went = u.went;
     let good = each_frame::well(went);
     if good {
         let r = u.state;
         let t = u.totals;
-        let whole = conclude(system, r, t, recording, job, prefix);
+        let whole = conclude(system, r, t, recording, files, job, prefix);
         return Outcome {
             count: u.count,
             whole: whole,
@@ -232,19 +240,31 @@ fn take_and_conclude(
 }
 
 // Starts the table of units, if there is one; whether that went well.
-fn start_table(system: &System, recording: &[u8], job: Job<'_>, prefix: &[u8]) -> bool {
+fn start_table(
+    system: &System,
+    recording: &[u8],
+    files: &[Option<File>; 10],
+    job: Job,
+    prefix: &[u8],
+) -> bool {
     let o = job.sinks;
     let p = job.plan;
-    let went = each_frame::start_table(system, o);
+    let went = each_frame::start_table(system, files, o);
     say_went(system, went, recording, p, prefix);
     each_frame::well(went)
 }
 
 // Prints the title, and starts the table of units; whether that went well.
-fn start_all(system: &System, recording: &[u8], job: Job<'_>, prefix: &[u8]) -> bool {
+fn start_all(
+    system: &System,
+    recording: &[u8],
+    files: &[Option<File>; 10],
+    job: Job,
+    prefix: &[u8],
+) -> bool {
     let titled = each_frame::print_title(system, job.sinks.quiet);
     if titled {
-        return start_table(system, recording, job, prefix);
+        return start_table(system, recording, files, job, prefix);
     }
     false
 }
@@ -255,14 +275,15 @@ fn unpack_all(
     s: Setting,
     from: &mut Source,
     recording: &[u8],
-    job: Job<'_>,
+    files: &mut [Option<File>; 10],
+    job: Job,
     prefix: &[u8],
 ) -> Outcome
     requires { setting_ok s ≡ true }
 {
-    let started = start_all(system, recording, job, prefix);
+    let started = start_all(system, recording, files, job, prefix);
     if started {
-        return take_and_conclude(system, s, from, recording, job, prefix);
+        return take_and_conclude(system, s, from, recording, files, job, prefix);
     }
     Outcome {
         count: 0,
@@ -276,18 +297,19 @@ fn work(
     s: Setting,
     from: &mut Source,
     recording: &[u8],
-    job: Job<'_>,
+    files: &mut [Option<File>; 10],
+    job: Job,
     prefix: &[u8],
 )
     requires { setting_ok s ≡ true }
 {
-    let e = unpack_all(system, s, from, recording, job, prefix);
+    let e = unpack_all(system, s, from, recording, files, job, prefix);
     if e.whole {
         say_done(e.count);
     } else {
         let p = job.plan;
-        let files = job.sinks.files;
-        outputs::remove_all(system, p, files, prefix);
+        let fds = job.sinks.fds;
+        outputs::remove_all(system, p, fds, prefix);
     }
 }
 
@@ -302,11 +324,11 @@ fn hundredth_of(plain: bool, size: u64, length: usize) -> u64 {
 }
 
 // Where octets go, and how far a recording goes: one that is no regular file says nothing of it.
-fn sinks_of(s: Setting, recording: Known, q: Asked, files: &[Option<File>; 10]) -> Sinks<'_> {
+fn sinks_of(s: Setting, recording: Known, q: Asked, fds: [i32; 10]) -> Sinks {
     let plain = files::regular(recording);
     let hundredth = hundredth_of(plain, recording.size, s.length);
     Sinks {
-        files: files,
+        fds: fds,
         hundredth: hundredth,
         quiet: q.first,
         table: q.second,
@@ -326,11 +348,11 @@ fn with_plan(
 )
     requires { setting_ok s ≡ true }
 {
-    let made = outputs::make_all(system, p, prefix);
-    let files = &made.files;
+    let mut made = outputs::make_all(system, p, prefix);
+    let fds = made.fds;
     if made.good {
         let b = f.recording;
-        let sinks = sinks_of(s, b, q, files);
+        let sinks = sinks_of(s, b, q, fds);
         let without = q.without;
         let job = Job {
             plan: p,
@@ -338,9 +360,9 @@ fn with_plan(
             kept: f,
             without: without,
         };
-        work(system, s, from, recording, job, prefix);
+        work(system, s, from, recording, &mut made.files, job, prefix);
     } else {
-        outputs::remove_all(system, p, files, prefix);
+        outputs::remove_all(system, p, fds, prefix);
     }
 }
 

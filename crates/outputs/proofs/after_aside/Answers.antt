@@ -1,6 +1,5 @@
 -- `outputs::after_aside` meets its contract. By how it went.
 use Rattle.outputs.specs.Names.{put_aside}
-use borrow.Author.Rules.{rules}
 use Rattle.outputs.proofs.after_aside.Goals as goal
 
 pub returns-in-Done : goal.returns-in-Done

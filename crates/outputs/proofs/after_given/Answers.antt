@@ -1,6 +1,5 @@
 -- `outputs::after_given` meets its contract. One field is set.
 use Rattle.outputs.specs.Names.{gave}
-use borrow.Author.Rules.{rules}
 use Rattle.outputs.proofs.after_given.Goals as goal
 
 pub returns-then-good : goal.returns-then-good

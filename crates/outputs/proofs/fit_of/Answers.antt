@@ -7,7 +7,6 @@ use Rattle.outputs.specs.declared.Kept.{Kept}
 use Rattle.outputs.specs.declared.Fit.{Fit}
 use Rattle.outputs.specs.declared.Fit.TheVariants.{Free}
 use Rattle.outputs.specs.Names.{plain_fit, fit_of}
-use borrow.Author.Rules.{rules}
 use Rattle.outputs.proofs.fit_of.Goals as goal
 
 pub returns-then-a : goal.returns-then-a

@@ -1,9 +1,6 @@
 use Rattle.outputs.proofs.Endings.{slash-here, slash-not, slash-end}
-use Rattle.outputs.specs.Names.{last_slash}
 use native.Mathlib.Numerals.{add-one}
-use Prim.Native.Nat.{◌-◌, ◌≤◌}
-use mathlib.Core.Path.{◌≡◌, refl, sym, ◌∙◌}
-use lib.ListN.{length, drop}
+use mathlib.Core.Path.{refl, sym, ◌∙◌}
 use borrow.Author.Rules.{rules}
 use Rattle.outputs.proofs.folder_size.Goals as goal
 

@@ -1,11 +1,8 @@
 -- `outputs::folder_size` meets its contract. Of the first i octets, those up to the last `/` are `end`.
-use Rattle.outputs.proofs.Endings.{slash-here, slash-not, slash-end}
 use Rattle.outputs.specs.Names.{last_slash}
-use native.Mathlib.Numerals.{add-one}
 use Prim.Native.Nat.{◌-◌, ◌≤◌}
-use mathlib.Core.Path.{◌≡◌, refl, sym, ◌∙◌}
+use mathlib.Core.Path.{◌≡◌}
 use lib.ListN.{length, drop}
-use borrow.Author.Rules.{rules}
 use Rattle.outputs.proofs.folder_size.Given as goal
 
 abbrev pub invariant-loop-i : goal.invariant-loop-i

@@ -1,6 +1,5 @@
 -- `outputs::give_each`: what its callees promise is enough.
 use Prim.Native.Nat.{◌-◌, ◌≤◌}
-use borrow.Author.Rules.{rules}
 use Rattle.outputs.proofs.give_each.Given as goal
 
 abbrev pub invariant-loop-i : goal.invariant-loop-i

@@ -1,6 +1,5 @@
 -- `outputs::make_all`: what its callees promise is enough.
 use Prim.Native.Nat.{◌-◌, ◌≤◌}
-use borrow.Author.Rules.{rules}
 use Rattle.outputs.proofs.make_all.Given as goal
 
 abbrev pub invariant-loop-i : goal.invariant-loop-i

@@ -2,7 +2,6 @@
 use lib.Seq.{length-take-le}
 use mathlib.Core.Path.{sym}
 use native.Mathlib.Omega.{arith}
-use borrow.Author.Rules.{rules}
 use Rattle.outputs.proofs.move_on.Goals as goal
 
 pub slice_bounds-rename-end : goal.slice_bounds-rename-end

@@ -2,7 +2,6 @@
 use Rattle.outputs.proofs.Endings.{named}
 use Prim.Native.Nat.{ℕ}
 use lib.ListN.{length-replicate}
-use borrow.Author.Rules.{rules}
 use Rattle.outputs.proofs.name_of.Goals as goal
 
 pub returns : goal.returns

@@ -1,7 +1,6 @@
 -- `outputs::plain_fit`: test by test.
 use Rattle.outputs.specs.Names.{plain_fit}
 use mathlib.Core.Path.{sym, ◌∙◌}
-use borrow.Author.Rules.{rules}
 use Rattle.outputs.proofs.plain_fit.Goals as goal
 
 pub returns-then-a : goal.returns-then-a

@@ -1,6 +1,5 @@
 -- `outputs::put_all_aside`: what its callees promise is enough.
 use Prim.Native.Nat.{◌-◌, ◌≤◌}
-use borrow.Author.Rules.{rules}
 use Rattle.outputs.proofs.put_all_aside.Given as goal
 
 abbrev pub invariant-loop-k : goal.invariant-loop-k

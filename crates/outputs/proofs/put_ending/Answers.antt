@@ -1,7 +1,6 @@
 -- `outputs::put_ending`: what its callees promise is enough.
 use Rattle.outputs.proofs.Endings.{lane-ending, table-ending, records-ending}
 use Rattle.rules.specs.Listing.{text}
-use borrow.Author.Rules.{rules}
 use Rattle.outputs.proofs.put_ending.Goals as goal
 
 pub returns-then-i-lt8 : goal.returns-then-i-lt8

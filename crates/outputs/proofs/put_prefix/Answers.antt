@@ -1,5 +1,4 @@
 -- `outputs::put_prefix` meets its contract: all of a prefix, or as much as a name can have.
-use borrow.Author.Rules.{rules}
 use Rattle.outputs.proofs.Endings.{cut-length, cut-room, long-prefix, whole-prefix}
 use Rattle.outputs.proofs.put_prefix.Goals as goal
 
