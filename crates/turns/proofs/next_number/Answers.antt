@@ -2,8 +2,6 @@
 use mathlib.Core.Path.{◌≡◌, sym}
 use native.Mathlib.Omega.{arith}
 use lib.ListN.{length, get_or-eq_default}
-use mathlib.Core.Path.{sym}
-use lib.ListN.{get_or-eq_default}
 use Rattle.turns.proofs.next_number.Goals as goal
 
 pub returns : goal.returns
