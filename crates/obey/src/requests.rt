@@ -73,6 +73,7 @@ fn lay_asked(q: &[u8], area: &mut [u8])
 // ---- onto the desk
 
 // 0, or the refusal's number.
+#[tactic(auto, unfolding(rules::specs::Calls::refusal_of))]
 fn refusal_of(o: Outcome) -> u64
     ensures { result ≡ refusal_of o }
 {
@@ -96,6 +97,7 @@ fn class_number(c: Class) -> u64
 }
 
 // 0, or the refusal's number.
+#[tactic(auto, unfolding(rules::specs::Calls::class_refusal))]
 fn class_refusal(c: Class) -> u64
     ensures { result ≡ class_refusal c }
 {
