@@ -1,0 +1,6 @@
+-- `unpack::all_listed`: a valid setting lists at most eight channels.
+use Rattle.rules.proofs.Valid.{good}
+use Rattle.unpack.proofs.all_listed.Goals as goal
+
+pub unlisted-p-requires : goal.unlisted-p-requires
+unlisted-p-requires c = (good _ c.requires).listed
