@@ -1,5 +1,5 @@
 -- Whose turn it is, what a lane's file has, and a round of turns.
-use Rattle.std.specs.Prelude.{ℕ, zero, suc, ◌+◌, ◌≡◌, Bool, true, false, cond, List, get_or, set, replicate, pos}
+use Rattle.std.specs.Prelude.{ℕ, zero, suc, ◌+◌, ◌≡◌, Bool, true, false, cond, List, get_or, set, replicate}
 use Rattle.rules.specs.Tests.{◌<?◌}
 use Rattle.rules.specs.declared.Kind.{Kind}
 use Rattle.rules.specs.declared.Kind.TheVariants as kinds
@@ -35,8 +35,6 @@ no_source = record {
   name = 0;
   list_name = 0;
   ocf = 0;
-  fd = pos 0;
-  list_fd = pos 0;
   more = false;
 }
 
