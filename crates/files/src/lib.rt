@@ -81,14 +81,19 @@ fn stream_name(n: i32) -> &'static str {
     "/proc/self/fd/2"
 }
 
-// What the system says of a standard stream; what was handed in, where it says nothing. Of one that is closed it says so, and there is no such name.
-fn look_at_stream(system: &System, n: i32, s: Stat) -> Stat {
+// Why there is nothing of that name: that the stream is closed, where it is.
+fn why_not(system: &System, n: i32, e: io::Error) -> io::Error {
     match again(system, n) {
-        Ok(_) => answer(system, fs::metadata(&system.rt, stream_name(n)), s),
-        Err(e) => {
-            intake::keep_failure(system, e);
-            s
-        }
+        Ok(_) => e,
+        Err(closed) => closed,
+    }
+}
+
+// What the system says of a standard stream; what was handed in, where it says nothing.
+fn look_at_stream(system: &System, n: i32, s: Stat) -> Stat {
+    match fs::metadata(&system.rt, stream_name(n)) {
+        Ok(m) => answer(system, Ok(m), s),
+        Err(e) => answer(system, Err(why_not(system, n, e)), s),
     }
 }
 
