@@ -81,7 +81,7 @@ length-zone_of k z b i =
     let d = length-take z (drop (i * z) b) in
     omega (arith, a, c, d)
 
--- ---- the dataHeader's fields
+-- ---- the data header's fields
 
 module _ (r u p : ℕ) (rest : List ℕ) (hr : r < 8) (hu : u < 32) (hp : p < 65536) where
   fields : List Field
