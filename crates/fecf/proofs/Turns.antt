@@ -24,7 +24,8 @@ one_further (suc m) (y ∷ ys) v pos h = take-suc-set ys m v (le_of_suc-le-suc h
 pub carry_turn : (u j : ℕ) (a xs : List ℕ) → 0 < u → j < length xs → 16 * u + length xs ≤ length a
     → carried u (take (16 * u) (drop j a)) (drop j xs)
     ≡ carried u
-    (take (16 * u) (drop (j + 1) (set a (j + 16 * u) (bit_xor (bit_xor (bit_xor (get_or xs j 0) (get_or a (j + 12 * u) 0)) (get_or a (j + 5 * u) 0)) (get_or a j 0)))))
+    (take (16 * u) (drop (j + 1) (set a (j + 16 * u)
+    (bit_xor (bit_xor (bit_xor (get_or xs j 0) (get_or a (j + 12 * u) 0)) (get_or a (j + 5 * u) 0)) (get_or a j 0)))))
     (drop (j + 1) xs)
 unfolding carried next
 carry_turn u j a xs pos h room =

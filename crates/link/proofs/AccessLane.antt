@@ -51,7 +51,8 @@ module _ (longest z : ℕ) (zp : 0 < z) (j : ℕ) (carried : ℕ → ℕ) (o : �
       (begun-now xs ∙ ap (λ (k : ℕ). begun k xs) (sym (onward_new o carried 0 (omega arith)))))
 
   follows : 0 < o → (finished t : Bool) (xs : List ℕ) → 0 < length xs
-      → yield (joins finished t xs) ≡ cond t (becomes (unit_fate longest finished (length (take o b ++ xs))) (begun (now 0) (take o b ++ xs))) (yields [] no_unit)
+      → yield (joins finished t xs) ≡ cond t (becomes (unit_fate longest finished (length (take o b ++ xs)))
+      (begun (now 0) (take o b ++ xs))) (yields [] no_unit)
   unfolding joins portion follow_fate
   follows h finished true xs some =
       let p : 0 < length (take o b) = rw (length-take-le o b (omega arith)) h in

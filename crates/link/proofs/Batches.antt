@@ -83,7 +83,8 @@ module _ (longest z : ℕ) (zp : 0 < z) (zl : z ≤ 4096) (k : ℕ) (b : List �
 
   -- Frame k of a batch, as either kind of lane reads it.
   pub lane-reads : (kind : Kind) (h : DataUnit) → least kind ≤ longest → batch_ok kind longest b ≡ true → k < frames z b
-      → Delivers (units_of kind b) (k * z) (k * z + z) h (yield (lane_step kind longest (rule_of kind k) h (points_to (pointer_of kind z b k)) (zone_of kind z b k)))
+      → Delivers (units_of kind b) (k * z) (k * z + z) h
+      (yield (lane_step kind longest (rule_of kind k) h (points_to (pointer_of kind z b k)) (zone_of kind z b k)))
   unfolding lane_step pointer_of offset_of zone_of
   lane-reads Packets h enough ok f j n js e =
       let p : Batch longest b = packet_batch longest b ok in

@@ -365,7 +365,8 @@ module _ (longest z : ℕ) (zp : 0 < z) (j : ℕ) (carried : ℕ → ℕ) (start
           → yield (packet_lane longest (held_from j carried (a + length u) (o - length u) us) (inside z (start_from us (o - length u) - (o - length u)))
           (zone_from (o - length u) us))
           ≡ yields (ends (a + length u) us) (held (a + length u) (o - length u + z) us)
-          → yield (packet_lane longest (held_from j carried a o (u ∷ us)) (inside z (start_from (u ∷ us) o - o)) (zone_from o (u ∷ us))) ≡ yields (ends a (u ∷ us))
+          → yield (packet_lane longest (held_from j carried a o (u ∷ us)) (inside z (start_from (u ∷ us) o - o)) (zone_from o (u ∷ us)))
+          ≡ yields (ends a (u ∷ us))
           (held a (o + z) (u ∷ us))
       past h ih =
           let s = w.0.some in
@@ -384,7 +385,8 @@ module _ (longest z : ℕ) (zp : 0 < z) (j : ℕ) (carried : ℕ → ℕ) (start
           (held-past j now a (o + z) u us (omega arith)))
 
       here : (o : ℕ) → a + o ≡ start → o < length u
-          → yield (packet_lane longest (held_from j carried a o (u ∷ us)) (inside z (start_from (u ∷ us) o - o)) (zone_from o (u ∷ us))) ≡ yields (ends a (u ∷ us))
+          → yield (packet_lane longest (held_from j carried a o (u ∷ us)) (inside z (start_from (u ∷ us) o - o)) (zone_from o (u ∷ us)))
+          ≡ yields (ends a (u ∷ us))
           (held a (o + z) (u ∷ us))
       here zero e h =
           ap₂ (λ (x : DataUnit) (n : ℕ). yield (packet_lane longest x (inside z n) (zone_from 0 (u ∷ us))))

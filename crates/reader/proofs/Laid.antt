@@ -32,7 +32,8 @@ pub step-laid : (g : Gap) (l k n : ℕ) (m : Made) (h u c : List ℕ) (led : Sta
     → part_size * l + part_size ≤ length h → length m.held.octets ≤ 8192
     → Stepped (info_of g.state.setting l k) m (take n (drop (part_size * l) h)) u c led d' u' c'
     → (t : Taken) → t ≡ taken_of g l led
-    → record { taken = t; held_area = take (part_size * l) h ++ (d' ++ drop n (drop (part_size * l) h)); unit_area = u'; record_area = c' } ≡ laid_out g l k m h u c
+    → record { taken = t; held_area = take (part_size * l) h ++ (d' ++ drop n (drop (part_size * l) h)); unit_area = u'; record_area = c' }
+    ≡ laid_out g l k m h u c
 unfolding laid_out
 step-laid g l k n m h u c led d' u' c' en room small s t et =
     let a : take (part_size * l) h ++ (d' ++ drop n (drop (part_size * l) h)) ≡ laid h (part_size * l) m.held.octets =

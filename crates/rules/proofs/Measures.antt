@@ -72,7 +72,8 @@ measure-by a xs = go (first_bits a =? 0b000) (first_bits a =? 0b111)
 
     go : (p q : Bool)
         → cond p (headed space_header n (space_packet (a ∷ xs))) (cond q (headed (header_size (length_of_length a)) n (encapsulated a (a ∷ xs))) Unreadable)
-        ≡ headed (cond p space_header (cond q (header_size (length_of_length a)) 1)) n (cond p (space_packet (a ∷ xs)) (cond q (encapsulated a (a ∷ xs)) Unreadable))
+        ≡ headed (cond p space_header (cond q (header_size (length_of_length a)) 1)) n
+        (cond p (space_packet (a ∷ xs)) (cond q (encapsulated a (a ∷ xs)) Unreadable))
     go true q = refl
     go false true = refl
     go false false = rw (le-ltb n 1 (omega arith))

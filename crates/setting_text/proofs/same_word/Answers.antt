@@ -15,7 +15,8 @@ returns-then-a-i c = let a = c.args in sym
     (c.loop-i.invariant.2 ∙ same_not a.a.now a.b.now c.loop-i.i (search rules) (search rules) c.if-a-i.true)
 
 pub loop-i-preserved : goal.loop-i-preserved
-loop-i-preserved c = let a = c.args in (search rules, search rules, c.loop-i.invariant.2 ∙ rw add-one (same_turn a.a.now a.b.now c.loop-i.i (search rules) (search rules) c.if-a-i.false))
+loop-i-preserved c = let a = c.args in
+    (search rules, search rules, c.loop-i.invariant.2 ∙ rw add-one (same_turn a.a.now a.b.now c.loop-i.i (search rules) (search rules) c.if-a-i.false))
 
 pub returns : goal.returns
 returns c = let a = c.args in sym

@@ -7,7 +7,8 @@ use Rattle.streams.proofs.file_batches.shift.Given as goal
 
 abbrev pub invariant-loop-j : goal.invariant-loop-j
 invariant-loop-j l =
-    (l.j ≡ l.from + l.i) × (l.i ≤ length l.initial.area - l.from) × (l.area ≡ paste l.initial.area 0 (drop l.from l.initial.area) l.i) × (length l.area ≡ length l.initial.area)
+    (l.j ≡ l.from + l.i) × (l.i ≤ length l.initial.area - l.from)
+    × (l.area ≡ paste l.initial.area 0 (drop l.from l.initial.area) l.i) × (length l.area ≡ length l.initial.area)
 
 abbrev pub decreases-loop-j : goal.decreases-loop-j
 decreases-loop-j l = length l.initial.area - l.j

@@ -10,7 +10,14 @@ abbrev pub invariant-loop-k : goal.invariant-loop-k
 invariant-loop-k l =
     (length l.held ≡ held_size) × (length l.units ≡ units_size) × (length l.records ≡ records_size) ×
     (length l.frame ≡ 4096) × (l.u.count ≡ l.k)
-    × Reached (record { without = l.without; reader = l.initial.u.state; held = l.initial.held; units = l.initial.units; records = l.initial.records; totals = l.initial.u.totals }) l.u.count
+    × Reached (record {
+      without = l.without;
+      reader = l.initial.u.state;
+      held = l.initial.held;
+      units = l.initial.units;
+      records = l.initial.records;
+      totals = l.initial.u.totals;
+    }) l.u.count
     (record { without = l.without; reader = l.u.state; held = l.held; units = l.units; records = l.records; totals = l.u.totals })
 
 abbrev pub decreases-loop-k : goal.decreases-loop-k
