@@ -228,10 +228,14 @@ pub fn read_words(system: &System, program: Program, n: usize) -> Asked {
 
 // ---- whether something may be said
 
-// Whether what is said would go into the file of word i, or into that of what stands behind its `=`.
+// Whether what is said would go into the file of word i, or into that of what stands behind its `=`. Of a word that is no text the library cannot
+// say which file it is: it counts as this one, where what is said goes into a regular file.
 fn is_word_spoiled(system: &System, e: Known, i: usize) -> bool {
     let mut word = io::buffer();
     let n = arg(system, i, &mut word);
+    if intake::path_of(system, &word[..n]).is_none() {
+        return files::regular(e);
+    }
     let at = words::behind(&word[..n]);
     let a = files::of_name(system, &word[..n]);
     let b = files::of_name(system, &word[at..n]);

@@ -1,5 +1,5 @@
 // Which file a descriptor or a name leads to, so that no program writes over what it reads. The system's answer goes along as a value; all that
-// is decided by it has a definition. Three functions ask the system.
+// is decided by it has a definition. Four functions ask the system.
 #![tactic(auto)]
 
 ghost use Rattle.std.specs.Prelude.{◌≡◌, ◌≤◌};
@@ -173,9 +173,13 @@ fn ended(path: &[u8]) -> [u8; 4096]
     name
 }
 
-// The file of a standard stream: 0, 1 or 2.
+// The file of a standard stream: 0, 1 or 2. Of another number there is none.
 pub fn of_descriptor(system: &System, n: i32) -> Known {
     let s = nothing();
+    if n < 0 || 2 < n {
+        intake::keep_number(system, NOT_OPEN);
+        return known_of(s);
+    }
     let t = look_at_stream(system, n, s);
     known_of(t)
 }

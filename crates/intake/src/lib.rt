@@ -1,4 +1,4 @@
-// Octets from a descriptor into an area, behind those that it holds. That a read failed is told apart from the input's end.
+// Octets from standard input or a file into an area, behind those that it holds. That a read failed is told apart from the input's end.
 //
 // Proved: what the area held is as it was, and what came stands behind it. Left open: that what came is what stands in the file.
 #![tactic(auto)]
@@ -98,12 +98,18 @@ pub fn is_open(from: &Source) -> bool {
 }
 
 // One read into the whole area: how many octets came at its front, 0 at the end; none where it failed.
-pub fn read_once(system: &System, from: &mut Source, area: &mut [u8]) -> Option<usize>
+pub fn read_once(system: &System, from: &Source, area: &mut [u8]) -> Option<usize>
     ensures { IfSome result (λ n. n ≤ length area.new) }
 {
     let got = match from {
-        Source::Input(input) => input.read(area),
-        Source::Of(file) => file.read(area),
+        Source::Input(input) => {
+            let mut input: &Stdin = input;
+            input.read(area)
+        }
+        Source::Of(file) => {
+            let mut file: &File = file;
+            file.read(area)
+        }
         Source::Nothing => Err(io::Error::from_raw_os_error(NOT_OPEN)),
     };
     match got {
@@ -126,7 +132,7 @@ pub fn least(a: usize, b: usize) -> usize
 }
 
 // Reads once, behind what the area holds.
-fn refill(system: &System, source: &mut Source, area: &mut [u8], w: Window) -> Window
+fn refill(system: &System, source: &Source, area: &mut [u8], w: Window) -> Window
     requires { w.have ≤ length area.old }
     ensures { Refilled w area.old result area.new }
 {
@@ -150,7 +156,7 @@ fn refill(system: &System, source: &mut Source, area: &mut [u8], w: Window) -> W
 }
 
 // Fills the area up, to its end or the file's.
-pub fn fill_up(system: &System, source: &mut Source, area: &mut [u8], w: Window) -> Window
+pub fn fill_up(system: &System, source: &Source, area: &mut [u8], w: Window) -> Window
     requires { w.have ≤ length area.old }
     ensures { Refilled w area.old result area.new }
 {

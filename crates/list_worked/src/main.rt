@@ -160,7 +160,7 @@ fn list_came(
 // Reads and lists frame k, if there is one.
 fn list_next(
     system: &System,
-    input: &mut Source,
+    input: &Source,
     k: u64,
     r: Reader,
     held: &mut [u8],
@@ -201,7 +201,7 @@ fn say_end(t: Turn) {
 
 // Lists standard input to its end. A proved loop has to end: this one counts its frames, to a number that no run reaches.
 fn list_all(system: &System) {
-    let mut input = Source::Input(system.rt.stdin());
+    let input = Source::Input(system.rt.stdin());
     let mut held = [0u8; rules::HELD_SIZE];
     let mut units = [0u8; rules::UNITS_SIZE];
     let mut records = [0u8; rules::RECORDS_SIZE];
@@ -212,7 +212,7 @@ fn list_all(system: &System) {
     while k < 18446744073709551615 {
         let t = list_next(
             system,
-            &mut input,
+            &input,
             k,
             state,
             &mut held,

@@ -48,7 +48,7 @@ fn cut() -> Came
 }
 
 // Fills an area from standard input; nothing came where the input ends before. That it ends is said, but not where a request would begin.
-fn fill(system: &System, input: &mut Source, area: &mut [u8], begins: bool) -> Came
+fn fill(system: &System, input: &Source, area: &mut [u8], begins: bool) -> Came
     ensures { result.size ≤ length area.old }
 {
     let none = Window {
@@ -76,7 +76,7 @@ fn fill(system: &System, input: &mut Source, area: &mut [u8], begins: bool) -> C
 }
 
 // The octets behind the row at the front of `q`, as many as it says; no more than there is room for.
-fn behind(system: &System, input: &mut Source, q: &mut [u8]) -> Came
+fn behind(system: &System, input: &Source, q: &mut [u8]) -> Came
     requires { 64 ≤ length q.old }
     ensures { IsPrefixLen result.size q.new }
 {
@@ -96,7 +96,7 @@ fn behind(system: &System, input: &mut Source, q: &mut [u8]) -> Came
 }
 
 // The next request of standard input, at the front of `q`.
-fn next(system: &System, input: &mut Source, q: &mut [u8]) -> Came
+fn next(system: &System, input: &Source, q: &mut [u8]) -> Came
     requires { 64 ≤ length q.old }
     ensures { IsPrefixLen result.size q.new }
 {
@@ -164,7 +164,7 @@ fn say_end(good: bool, k: u64) {
 
 // Obeys standard input, request after request, to its end.
 fn obey_all(system: &System) {
-    let mut input = Source::Input(system.rt.stdin());
+    let input = Source::Input(system.rt.stdin());
     let mut q = [0u8; 65536];
     let mut desk = [0u8; 6440];
     let mut held = [0x55u8; 65552];
@@ -172,7 +172,7 @@ fn obey_all(system: &System) {
     let mut records = [0x55u8; 49184];
     let mut k: u64 = 0;
     while k < 18446744073709551615 {
-        let came = next(system, &mut input, &mut q);
+        let came = next(system, &input, &mut q);
         let n = came.size;
         if n < 64 {
             say_end(came.good, k);

@@ -509,7 +509,7 @@ fn after_move(p: Place, m: Move) -> Place
 // The turn of the file whose turn it is.
 fn deal(
     system: &System,
-    inputs: &mut [Inputs; 8],
+    inputs: &[Inputs; 8],
     way: Way,
     p: Place,
     areas: &mut [u8; 524288],
@@ -525,7 +525,7 @@ fn deal(
     let x = f.sources[k];
     let m = turns::turn_at(
         system,
-        &mut inputs[k],
+        &inputs[k],
         k,
         way.writing,
         p.course,
@@ -543,7 +543,7 @@ fn deal(
 // has to end: this one goes to a number of turns that no run reaches.
 fn go_round(
     system: &System,
-    inputs: &mut [Inputs; 8],
+    inputs: &[Inputs; 8],
     way: Way,
     c: Course,
     files: Files,
@@ -972,7 +972,7 @@ fn plan_all(system: &System, from: usize, n: usize, s: Setting, once: bool) -> P
 fn load_open(
     system: &System,
     path: &[u8],
-    from: &mut intake::Source,
+    from: &intake::Source,
     n: usize,
     area: &mut [u8],
 ) -> bool {
@@ -1113,8 +1113,8 @@ fn pack_input(system: &System, q: Asked, n: usize) {
     let name = b"standard input";
     if allowed(system, name, files::of_descriptor(system, 0), false) {
         let mut area = [0u8; 65537];
-        let mut input = intake::Source::Input(system.rt.stdin());
-        let l = setting_file::load_open(system, b"pack", name, &mut input, &mut area);
+        let input = intake::Source::Input(system.rt.stdin());
+        let l = setting_file::load_open(system, b"pack", name, &input, &mut area);
         with_setting(system, l, q, n);
     }
 }

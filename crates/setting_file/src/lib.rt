@@ -229,7 +229,7 @@ fn say_finding(program: &[u8], path: &[u8], octets: &[u8], f: Finding) {
 }
 
 // One read, and how many octets it gave; none at the file's end.
-fn read_some(system: &System, from: &mut Source, part: &mut [u8]) -> Filled
+fn read_some(system: &System, from: &Source, part: &mut [u8]) -> Filled
     ensures { result.size ≤ length part.new }
 {
     match intake::read_once(system, from, part) {
@@ -245,7 +245,7 @@ fn read_some(system: &System, from: &mut Source, part: &mut [u8]) -> Filled
 }
 
 // Reads until the area is full, the file ends or a read fails.
-fn fill(system: &System, from: &mut Source, area: &mut [u8]) -> Filled
+fn fill(system: &System, from: &Source, area: &mut [u8]) -> Filled
     ensures { result.size ≤ length area.new }
 {
     let mut n: usize = 0;
@@ -267,7 +267,7 @@ fn fill(system: &System, from: &mut Source, area: &mut [u8]) -> Filled
 }
 
 // The same from a file that was opened, or could not be.
-fn fill_from(system: &System, from: &mut Source, area: &mut [u8]) -> Filled
+fn fill_from(system: &System, from: &Source, area: &mut [u8]) -> Filled
     ensures { result.size ≤ length area.new }
 {
     if !intake::is_open(from) {
@@ -342,7 +342,7 @@ pub fn load_open(
     system: &System,
     program: &[u8],
     name: &[u8],
-    from: &mut Source,
+    from: &Source,
     area: &mut [u8],
 ) -> Loaded
     ensures { result.judged ≡ judged result.filled area.new }
@@ -364,8 +364,8 @@ pub fn load_open(
 pub fn load(system: &System, program: &[u8], path: &[u8], area: &mut [u8]) -> Loaded
     ensures { result.judged ≡ judged result.filled area.new }
 {
-    let mut from = intake::open_read(system, path);
-    let l = load_open(system, program, path, &mut from, area);
+    let from = intake::open_read(system, path);
+    let l = load_open(system, program, path, &from, area);
     close(from);
     l
 }

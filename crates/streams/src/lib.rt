@@ -108,7 +108,7 @@ pub fn moved(w: Window, have: usize, n: usize) -> Window
 }
 
 // Fills a window up, to so many octets or the file's end.
-pub fn fill(system: &System, source: &mut Source, w: Window, area: &mut [u8], room: usize) -> Window
+pub fn fill(system: &System, source: &Source, w: Window, area: &mut [u8], room: usize) -> Window
     ensures { Kept w area.old result area.new }
 {
     let end = within(room, area);

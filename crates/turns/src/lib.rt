@@ -301,7 +301,7 @@ fn room_of(s: Stream) -> usize {
 }
 
 // Fills the window on a list up, if there is one.
-fn read_list(system: &System, from: &mut intake::Source, l: Window, list: &mut [u8]) -> Window
+fn read_list(system: &System, from: &intake::Source, l: Window, list: &mut [u8]) -> Window
     ensures { Kept l list.old result list.new }
 {
     if intake::is_open(from) {
@@ -311,13 +311,7 @@ fn read_list(system: &System, from: &mut intake::Source, l: Window, list: &mut [
 }
 
 // Reads on where no batch is being worked off.
-fn read_on(
-    system: &System,
-    inputs: &mut Inputs,
-    x: Source,
-    area: &mut [u8],
-    list: &mut [u8],
-) -> Stream
+fn read_on(system: &System, inputs: &Inputs, x: Source, area: &mut [u8], list: &mut [u8]) -> Stream
     ensures { ReadOn x.stream area.old list.old result area.new list.new }
 {
     let s = x.stream;
@@ -325,8 +319,8 @@ fn read_on(
         return s;
     }
     let room = room_of(s);
-    let window = streams::fill(system, &mut inputs.file, s.window, area, room);
-    let listed = read_list(system, &mut inputs.list, s.list, list);
+    let window = streams::fill(system, &inputs.file, s.window, area, room);
+    let listed = read_list(system, &inputs.list, s.list, list);
     let form = s.form;
     Stream {
         window: window,
@@ -363,7 +357,7 @@ fn after_turn(x: Source, t: Step) -> Move
 // A file's turn in its own windows: it reads on, and takes a frame with as many OCF octets as its channel has.
 fn read_turn(
     system: &System,
-    inputs: &mut Inputs,
+    inputs: &Inputs,
     writing: bool,
     c: Course,
     x: Source,
@@ -382,7 +376,7 @@ fn read_turn(
 // The same, unless the file is at its end: then it takes none.
 fn take_turn(
     system: &System,
-    inputs: &mut Inputs,
+    inputs: &Inputs,
     writing: bool,
     c: Course,
     x: Source,
@@ -406,7 +400,7 @@ fn take_turn(
 // The turn of file k, whose windows are the k-th parts of these areas.
 pub fn turn_at(
     system: &System,
-    inputs: &mut Inputs,
+    inputs: &Inputs,
     k: usize,
     writing: bool,
     c: Course,

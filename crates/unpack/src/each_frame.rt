@@ -35,8 +35,8 @@ pub enum Went {
     NotWritten(usize),
 }
 
-// Where a run's octets go, and what it says on the way: the descriptors of its outputs, how many frames are a hundredth of the recording (0 where
-// that is not known), whether no line a frame is printed, and whether there is a table of units.
+// What a run makes, and what it says on the way: the numbers of its outputs' descriptors (-1 where none was made), how many frames are a hundredth
+// of the recording (0 where that is not known), whether no line a frame is printed, and whether there is a table of units.
 #[derive(Clone, Copy)]
 pub struct Sinks {
     pub fds: [i32; 10],
@@ -70,7 +70,7 @@ pub struct Turn {
 // ---- reading
 
 // Reads a frame of `size` octets, fewer where the recording ends.
-fn read_frame(system: &System, from: &mut Source, frame: &mut [u8], size: usize) -> Came
+fn read_frame(system: &System, from: &Source, frame: &mut [u8], size: usize) -> Came
     requires { size ≤ length frame.old }
     ensures { result.octets ≤ size }
 {
@@ -472,7 +472,7 @@ pub fn take_all(
     system: &System,
     without: [bool; 63],
     s: Setting,
-    from: &mut Source,
+    from: &Source,
     files: &[Option<File>; 10],
     o: Sinks,
 ) -> Turn

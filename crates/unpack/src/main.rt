@@ -209,7 +209,7 @@ fn conclude(
 fn take_and_conclude(
     system: &System,
     s: Setting,
-    from: &mut Source,
+    from: &Source,
     recording: &[u8],
     files: &mut [Option<File>; 10],
     job: Job,
@@ -273,7 +273,7 @@ fn start_all(
 fn unpack_all(
     system: &System,
     s: Setting,
-    from: &mut Source,
+    from: &Source,
     recording: &[u8],
     files: &mut [Option<File>; 10],
     job: Job,
@@ -295,7 +295,7 @@ fn unpack_all(
 fn work(
     system: &System,
     s: Setting,
-    from: &mut Source,
+    from: &Source,
     recording: &[u8],
     files: &mut [Option<File>; 10],
     job: Job,
@@ -339,7 +339,7 @@ fn sinks_of(s: Setting, recording: Known, q: Asked, fds: [i32; 10]) -> Sinks {
 fn with_plan(
     system: &System,
     s: Setting,
-    from: &mut Source,
+    from: &Source,
     recording: &[u8],
     p: Plan,
     f: Kept,
@@ -370,7 +370,7 @@ fn with_plan(
 fn with_name(
     system: &System,
     s: Setting,
-    from: &mut Source,
+    from: &Source,
     recording: &[u8],
     f: Kept,
     q: Asked,
@@ -447,7 +447,7 @@ fn good_prefix(system: &System, prefix: &[u8]) -> bool {
 }
 
 // Takes the prefix from the command line, and goes on.
-fn with_prefix(system: &System, s: Setting, q: Asked, from: &mut Source, recording: &[u8], f: Kept)
+fn with_prefix(system: &System, s: Setting, q: Asked, from: &Source, recording: &[u8], f: Kept)
     requires { setting_ok s ≡ true }
 {
     let mut prefix = io::buffer();
@@ -493,14 +493,7 @@ fn outside(f: Kept) -> bool {
 }
 
 // Looks at the recording, and goes on.
-fn with_recording(
-    system: &System,
-    s: Setting,
-    q: Asked,
-    from: &mut Source,
-    recording: &[u8],
-    a: Known,
-)
+fn with_recording(system: &System, s: Setting, q: Asked, from: &Source, recording: &[u8], a: Known)
     requires { setting_ok s ≡ true }
 {
     let b = files::of_source(system, from);
@@ -522,8 +515,8 @@ fn with_path(system: &System, s: Setting, q: Asked, path: &[u8], a: Known)
 {
     let dash = words::is_dash(path);
     if dash {
-        let mut input = Source::Input(system.rt.stdin());
-        with_recording(system, s, q, &mut input, b"standard input", a);
+        let input = Source::Input(system.rt.stdin());
+        with_recording(system, s, q, &input, b"standard input", a);
         return;
     }
     let mut file = intake::open_read(system, path);
@@ -565,8 +558,8 @@ fn load_from(system: &System, path: &[u8], area: &mut [u8]) -> Loaded
 {
     let dash = words::is_dash(path);
     if dash {
-        let mut input = Source::Input(system.rt.stdin());
-        return setting_file::load_open(system, b"unpack", b"standard input", &mut input, area);
+        let input = Source::Input(system.rt.stdin());
+        return setting_file::load_open(system, b"unpack", b"standard input", &input, area);
     }
     setting_file::load(system, b"unpack", path, area)
 }
