@@ -3,8 +3,9 @@
 // Proved: what the area held is as it was, and what came stands behind it. Left open: that what came is what stands in the file.
 #![tactic(auto)]
 
-ghost use Rattle.std.specs.Prelude.{◌≡◌, ◌≤◌, min, length, IfSome};
+ghost use Rattle.std.specs.Prelude.{◌≡◌, ◌≤◌, min, length, IfSome, MatchOption, IsUtf8};
 ghost use Rattle.intake.specs.Windows.{Refilled};
+ghost use Rattle.intake.specs.Sources.{is_something};
 
 use std::cell::Cell;
 use std::fs::File;
@@ -64,7 +65,9 @@ pub fn last_failure(system: &System) -> i32 {
 }
 
 // A path as the library takes it, which is text. The system takes others too: such a one leads to no file here.
-pub fn path_of<'a>(system: &System, path: &'a [u8]) -> Option<&'a str> {
+pub fn path_of<'a>(system: &System, path: &'a [u8]) -> Option<&'a str>
+    ensures { MatchOption result (¬ (IsUtf8 path.now)) (λ t. (t.now ≡ path.now) × IsUtf8 path.now) }
+{
     match str::from_utf8(path) {
         Ok(text) => Some(text),
         Err(_) => {
@@ -89,7 +92,9 @@ pub fn open_read(system: &System, path: &[u8]) -> Source {
 }
 
 // Whether there is something to read from.
-pub fn is_open(from: &Source) -> bool {
+pub fn is_open(from: &Source) -> bool
+    ensures { result ≡ is_something from.now }
+{
     match from {
         Source::Input(_) => true,
         Source::Of(_) => true,
