@@ -10,8 +10,8 @@ use lib.Seq.{length-take-le, take_all, drop-drop}
 use borrow.Author.Tests.{leb-true, le-leb, lt-leb, eq-eqb, ne_eqb}
 use Rattle.rules.specs.declared.Kind.{Kind}
 use Rattle.rules.specs.declared.Kind.TheVariants.{Packets, Access}
-use Rattle.rules.specs.declared.Place.{Place}
-use Rattle.rules.specs.declared.Place.TheVariants.{At, Nowhere}
+use Rattle.std.specs.Prelude.{Option}
+use Rattle.std.specs.Prelude.{Some, None}
 use Rattle.rules.specs.declared.Family.{Family}
 use Rattle.rules.specs.declared.Measure.{Measure}
 use Rattle.rules.specs.declared.Measure.TheVariants.{Lacks, Packet, Idle, Unreadable}
@@ -180,12 +180,12 @@ module _ {longest : ℕ} {b : List ℕ} {from to i : ℕ} (p : Passing longest b
 -- ---- two passes one after the other are one over the whole batch
 
 module _ (longest : ℕ) (b : List ℕ) (from to i : ℕ) (p : Passes longest b 0 to i) (near : from ≤ length b → to ≡ from) where
-  pub stands_by : (q : Place) → Passed longest b i (length b) q → Stands longest b from (if_any i q)
-  stands_by (At k) w = (p.stands ∙ w.stands ∙ stand-end longest b k w.reached, start)
+  pub stands_by : (q : Option ℕ) → Passed longest b i (length b) q → Stands longest b from (if_any i q)
+  stands_by (Some k) w = (p.stands ∙ w.stands ∙ stand-end longest b k w.reached, start)
     where
       start : from ≤ length b → start_from (packets b) from ≡ i
       start h = let n : from ≡ to - 0 = omega (arith, near h) in ap (start_from (packets b)) n ∙ sym (zero-add _) ∙ p.starts
-  stands_by Nowhere w = p.stands ∙ w
+  stands_by None w = p.stands ∙ w
 
 -- ---- a batch and its packets
 
@@ -194,9 +194,9 @@ module _ (longest : ℕ) (b : List ℕ) (some : 1 ≤ length b) where
   unfolding batch_ok all
   packets-ok most = rw (le-leb 1 (length b) some, le-leb (length b) batch_size most)
 
-  pub packets-keep : length b ≤ batch_size → (from : ℕ) (r : Place) → Stands longest b from r → Keeps Packets longest b from r
-  packets-keep most from (At i) s = (packets-ok most ∙ s.0, s.1)
-  packets-keep most from Nowhere s = packets-ok most ∙ s
+  pub packets-keep : length b ≤ batch_size → (from : ℕ) (r : Option ℕ) → Stands longest b from r → Keeps Packets longest b from r
+  packets-keep most from (Some i) s = (packets-ok most ∙ s.0, s.1)
+  packets-keep most from None s = packets-ok most ∙ s
 
   -- Too many octets, for either kind, or not too many for an access unit.
   pub packets-above : batch_size < length b → batch_ok Packets longest b ≡ false

@@ -2,8 +2,8 @@
 use Rattle.std.specs.Prelude.{◌≡◌, Bool, true, false, List, [], ◌∷◌, ℕ, ◌+◌, ◌-◌, ◌≤◌, length, drop}
 use Rattle.rules.specs.declared.Kind.{Kind}
 use Rattle.rules.specs.declared.Kind.TheVariants.{Packets, Access}
-use Rattle.rules.specs.declared.Place.{Place}
-use Rattle.rules.specs.declared.Place.TheVariants.{At, Nowhere}
+use Rattle.std.specs.Prelude.{Option}
+use Rattle.std.specs.Prelude.{Some, None}
 use Rattle.rules.specs.Tests.{◌=?◌, all}
 use Rattle.rules.specs.Areas.{joined}
 use Rattle.rules.specs.Packets.{packets}
@@ -21,14 +21,14 @@ pub record Passes (longest : ℕ) (b : List ℕ) (from to i : ℕ) : Type 0 wher
   pub starts : from + start_from (packets (drop from b)) (to - from) ≡ i
 
 -- Or one on the way is not as it should be.
-abbrev pub Passed : ℕ → List ℕ → ℕ → ℕ → Place → Type 0
-Passed longest b from to (At i) = Passes longest b from to i
-Passed longest b from to Nowhere = stand longest (drop from b) ≡ false
+abbrev pub Passed : ℕ → List ℕ → ℕ → ℕ → Option ℕ → Type 0
+Passed longest b from to (Some i) = Passes longest b from to i
+Passed longest b from to None = stand longest (drop from b) ≡ false
 
 -- Octet i, where there is a place.
-abbrev pub if_any : ℕ → Place → Place
-if_any i (At k) = At i
-if_any i Nowhere = Nowhere
+abbrev pub if_any : ℕ → Option ℕ → Option ℕ
+if_any i (Some k) = Some i
+if_any i None = None
 
 -- The octet at which the first packet from octet `from` on starts; of an access unit nothing is said.
 abbrev pub StartsAt : Kind → List ℕ → ℕ → ℕ → Type 0
@@ -36,11 +36,11 @@ StartsAt Packets b from i = from ≤ length b → start_from (packets b) from �
 StartsAt Access b from i = Unit {0}
 
 -- Of octets that stand the test, that octet; or nowhere.
-abbrev pub Stands : ℕ → List ℕ → ℕ → Place → Type 0
-Stands longest b from (At i) = (stand longest b ≡ true) × StartsAt Packets b from i
-Stands longest b from Nowhere = stand longest b ≡ false
+abbrev pub Stands : ℕ → List ℕ → ℕ → Option ℕ → Type 0
+Stands longest b from (Some i) = (stand longest b ≡ true) × StartsAt Packets b from i
+Stands longest b from None = stand longest b ≡ false
 
 -- Of a batch that keeps the rule of its lane's kind, that octet; or nowhere.
-abbrev pub Keeps : Kind → ℕ → List ℕ → ℕ → Place → Type 0
-Keeps k longest b from (At i) = (batch_ok k longest b ≡ true) × StartsAt k b from i
-Keeps k longest b from Nowhere = batch_ok k longest b ≡ false
+abbrev pub Keeps : Kind → ℕ → List ℕ → ℕ → Option ℕ → Type 0
+Keeps k longest b from (Some i) = (batch_ok k longest b ≡ true) × StartsAt k b from i
+Keeps k longest b from None = batch_ok k longest b ≡ false

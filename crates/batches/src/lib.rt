@@ -6,11 +6,11 @@ ghost use Rattle.rules.specs.Frames.{pointer_to};
 ghost use Rattle.rules.specs.Writing.{fill, rule_of, offset_of, pointer_of};
 ghost use Rattle.batches.specs.Starts.{Passed, if_any, StartsAt, Stands, Keeps};
 
-use rules::{Kind, Measure, Place};
+use rules::{Kind, Measure};
 
 // Passes packets from octet `from` on, up to the first that starts at octet `to` or later: where that is. Nowhere, where one on the way is
 // not whole, is idle or is above the longest.
-fn packets_to(longest: usize, batch: &[u8], from: usize, to: usize) -> Place
+fn packets_to(longest: usize, batch: &[u8], from: usize, to: usize) -> Option<usize>
     requires { (from ≤ length batch.now) × (to ≤ length batch.now) }
     ensures { Passed longest batch.now from to result }
 {
@@ -18,66 +18,66 @@ fn packets_to(longest: usize, batch: &[u8], from: usize, to: usize) -> Place
     while i < to {
         let m = packets::measure_at(&batch[i..]);
         let Measure::Packet(_, n) = m else {
-            return Place::Nowhere;
+            return None;
         };
         if batch.len() - i < n {
-            return Place::Nowhere;
+            return None;
         }
         if longest < n {
-            return Place::Nowhere;
+            return None;
         }
         i += n;
     }
-    Place::At(i)
+    Some(i)
 }
 
 // Octet i, where there is a place.
-fn if_any(i: usize, p: Place) -> Place
+fn if_any(i: usize, p: Option<usize>) -> Option<usize>
     ensures { result ≡ if_any i p }
 {
     match p {
-        Place::At(_) => Place::At(i),
-        Place::Nowhere => Place::Nowhere,
+        Some(_) => Some(i),
+        None => None,
     }
 }
 
 // Where the first packet from octet `from` on starts, if the octets are whole packets of both families back to back, none idle, none above the
 // longest. Each packet is looked at once: those before that octet, then those from it on.
-fn back_to_back(longest: usize, batch: &[u8], from: usize) -> Place
+fn back_to_back(longest: usize, batch: &[u8], from: usize) -> Option<usize>
     ensures { Stands longest batch.now from result }
 {
     let to = octets::least(from, batch.len());
     let p = packets_to(longest, batch, 0, to);
     match p {
-        Place::At(i) => {
+        Some(i) => {
             let q = packets_to(longest, batch, i, batch.len());
             return if_any(i, q);
         }
-        Place::Nowhere => {
-            return Place::Nowhere;
+        None => {
+            return None;
         }
     }
 }
 
 // Whether a batch keeps the rule of its lane's kind, and where its first packet from octet `from` on starts: nowhere if it does not.
-pub fn batch_start(kind: Kind, longest: usize, batch: &[u8], from: usize) -> Place
+pub fn batch_start(kind: Kind, longest: usize, batch: &[u8], from: usize) -> Option<usize>
     ensures { Keeps kind longest batch.now from result }
 {
     if batch.len() == 0 {
-        return Place::Nowhere;
+        return None;
     }
     match kind {
         Kind::Packets => {
             if rules::BATCH_SIZE < batch.len() {
-                return Place::Nowhere;
+                return None;
             }
             return back_to_back(longest, batch, from);
         }
         Kind::Access => {
             if longest < batch.len() {
-                return Place::Nowhere;
+                return None;
             }
-            return Place::At(0);
+            return Some(0);
         }
     }
 }
@@ -108,12 +108,12 @@ pub fn fill_of(kind: Kind) -> u8
 }
 
 // The pointer to a place.
-pub fn pointer_to(p: Place) -> usize
+pub fn pointer_to(p: Option<usize>) -> usize
     ensures { result ≡ pointer_to p }
 {
     match p {
-        Place::At(i) => i,
-        Place::Nowhere => 0xFFFF,
+        Some(i) => i,
+        None => 0xFFFF,
     }
 }
 
@@ -159,7 +159,7 @@ pub fn pointer_of(kind: Kind, z: usize, batch: &[u8], i: usize, start: usize) ->
 {
     let n = offset_at(kind, batch, i * z, start);
     if n < z {
-        return pointer_to(Place::At(n));
+        return pointer_to(Some(n));
     }
-    pointer_to(Place::Nowhere)
+    pointer_to(None)
 }

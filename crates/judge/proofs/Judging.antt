@@ -9,8 +9,8 @@ use lib.ListN.{length}
 use borrow.Author.Tests.{eqb-true}
 use Rattle.header.specs.Heads.{head_of}
 use Rattle.rules.specs.declared.Setting.{Setting}
-use Rattle.rules.specs.declared.Place.{Place}
-use Rattle.rules.specs.declared.Place.TheVariants.{At, Nowhere}
+use Rattle.std.specs.Prelude.{Option}
+use Rattle.std.specs.Prelude.{Some, None}
 use Rattle.rules.specs.declared.Verdict.{Verdict}
 use Rattle.rules.specs.declared.Verdict.TheVariants.{Refused, Idle, Counted, Read}
 use Rattle.rules.specs.Tests.{◌=?◌, ◌≠?◌, none, at, Refusal, given}
@@ -44,11 +44,11 @@ module _ (s : Setting) (f : List ℕ) where
       go false n k e = e
 
   -- 12, of a frame of channel c: a command frame's data field is not looked at.
-  last_row : (c : ℕ) (q : Place)
+  last_row : (c : ℕ) (q : Option ℕ)
       → cond (at q (λ (l : ℕ). command f =? 0 && data_wrong s c l f)) (Refused 12) (on_channel f c q) ≡ judge_map s c f q
   unfolding on_channel judge_map judge_data
-  last_row c Nowhere = refl
-  last_row c (At l) = go (command f =? 1) refl (command f =? 0) refl (data_wrong s c l f)
+  last_row c None = refl
+  last_row c (Some l) = go (command f =? 1) refl (command f =? 0) refl (data_wrong s c l f)
     where
       zero_one : (n : ℕ) → n ≡ 1 → n ≡ 0 → ⊥
       zero_one n p q = suc-ne-zero 0 (sym p ∙ q)
@@ -61,15 +61,15 @@ module _ (s : Setting) (f : List ℕ) where
       go false x false y d = absurd (neither 7 49 f x y)
 
   -- 9 to 12, of the channel at place p.
-  late-rows : (p : Place)
+  late-rows : (p : Option ℕ)
       → cond (vc f ≠? 63 && none p) (Refused 9)
       (cond (at p (λ (c : ℕ). count_length f ≠? (channel s c).octets)) (Refused 10)
       (cond (at p (λ (c : ℕ). ocf_flag f ≠? flag (channel s c).ocf)) (Refused 11)
       (cond (at p (λ (c : ℕ). at (lane_at s c (map f)) (λ (l : ℕ). command f =? 0 && data_wrong s c l f))) (Refused 12) (passed s f p))))
       ≡ judge_channel s f p
   unfolding judge_channel judge_listed passed
-  late-rows Nowhere = ap (λ (t : Bool). cond t (Refused 9) Idle) (and-true (vc f ≠? 63))
-  late-rows (At c) =
+  late-rows None = ap (λ (t : Bool). cond t (Refused 9) Idle) (and-true (vc f ≠? 63))
+  late-rows (Some c) =
       ap
       (λ (t : Bool). cond t (Refused 9)
       (cond (count_length f ≠? (channel s c).octets) (Refused 10)
@@ -100,14 +100,14 @@ module _ (s : Setting) (f : List ℕ) where
       go false false false true = refl
       go false false false false = refl
 
-  all-numbered : (p : Place) → Numbered (refusals_at s f p)
+  all-numbered : (p : Option ℕ) → Numbered (refusals_at s f p)
   unfolding refusals_at
   all-numbered p = omega arith
 
   pub judge-frame : judge s f ≡ judge_frame s f
   unfolding judge refusals refusals_at judge_frame judge_head asked
   judge-frame =
-      let p : Place = channel_at s (vc f) (bypass f) in
+      let p : Option ℕ = channel_at s (vc f) (bypass f) in
       asked_is (refusals_at s f p) (all-numbered p)
       ∙ ap
       (λ (v : Verdict). cond (length f ≠? s.length) (Refused 3)

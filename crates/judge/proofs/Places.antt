@@ -4,7 +4,7 @@ use Prim.Native.Nat.{ℕ, ◌+◌, ◌≤◌, ◌<◌}
 use native.Mathlib.Omega.{arith}
 use mathlib.Core.Bool.{true}
 use Rattle.rules.specs.declared.Setting.{Setting}
-use Rattle.rules.specs.declared.Place.TheVariants.{At}
+use Rattle.std.specs.Prelude.{Some}
 use Rattle.rules.specs.Settings.{channel, lane, zone, setting_ok}
 use Rattle.rules.specs.Refusals.{channel_at, lane_at}
 use borrow.Author.Tests.{eqb-true}
@@ -13,15 +13,15 @@ use Rattle.rules.specs.Valid.{Good}
 use Rattle.rules.proofs.Valid.{good}
 
 -- A place that was found.
-pub lane-found : (s : Setting) (c m l : ℕ) → lane_at s c m ≡ At l → l < s.numbered
+pub lane-found : (s : Setting) (c m l : ℕ) → lane_at s c m ≡ Some l → l < s.numbered
 unfolding lane_at
 lane-found s c m l e = (found_at _ s.numbered l e).0
 
-pub lane-on : (s : Setting) (c m l : ℕ) → lane_at s c m ≡ At l → (lane s l).channel ≡ c
+pub lane-on : (s : Setting) (c m l : ℕ) → lane_at s c m ≡ Some l → (lane s l).channel ≡ c
 unfolding lane_at
 lane-on s c m l e = eqb-true _ _ (and_left _ _ (found_at _ s.numbered l e).1)
 
-pub channel-found : (s : Setting) (v b c : ℕ) → channel_at s v b ≡ At c → c < s.listed
+pub channel-found : (s : Setting) (v b c : ℕ) → channel_at s v b ≡ Some c → c < s.listed
 unfolding channel_at
 channel-found s v b c e = (found_at _ s.listed c e).0
 

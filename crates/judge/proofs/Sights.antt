@@ -7,8 +7,8 @@ use mathlib.Core.List.{List}
 use lib.ListN.{length, take, drop, length-drop}
 use lib.Seq.{take_all}
 use Rattle.rules.specs.declared.Setting.{Setting}
-use Rattle.rules.specs.declared.Place.{Place}
-use Rattle.rules.specs.declared.Place.TheVariants.{At, Nowhere}
+use Rattle.std.specs.Prelude.{Option}
+use Rattle.std.specs.Prelude.{Some, None}
 use Rattle.rules.specs.declared.Verdict.{Verdict}
 use Rattle.rules.specs.Tests.{◌=?◌}
 use Rattle.rules.specs.Settings.{channel, lane, field_at, zone_at, zone_for}
@@ -43,8 +43,8 @@ module _ (s : Setting) (f : List ℕ) (c : ℕ) where
     refused-12 w e t = rw (sym (wrong-is w e) ∙ t)
 
     pub seen-is : (w : Bool) → w ≡ data_wrong_of (lane s l) z d → w ≡ false → (lane s l).channel ≡ c → (k : ℕ) → k ≡ count_in (channel s c) f
-        → (p : Place) → p ≡ points_to d.pointer
-        → Seen (record { channel = c; lane = At l; count = k; rule = d.rule; place = p; begin = zone_at s (channel s c); size = z })
+        → (p : Option ℕ) → p ≡ points_to d.pointer
+        → Seen (record { channel = c; lane = Some l; count = k; rule = d.rule; place = p; begin = zone_at s (channel s c); size = z })
         ≡ sight_of s f (judge_data s c l f)
     unfolding judge_data sight_of data_of rule_in pointer_in
     seen-is w e t q k n p o = rw (sym (wrong-is w e) ∙ t, q, n, o, here, zone)
@@ -54,10 +54,10 @@ module _ (s : Setting) (f : List ℕ) (c : ℕ) where
   counted_is k e = rw e
 
   -- By the lane at place p, if any.
-  pub fitting : count_in (channel s c) f < 256 ^ (channel s c).octets → (p : Place) → lane_at s c (map f) ≡ p → Fitting s (sight_of s f (judge_map s c f p))
+  pub fitting : count_in (channel s c) f < 256 ^ (channel s c).octets → (p : Option ℕ) → lane_at s c (map f) ≡ p → Fitting s (sight_of s f (judge_map s c f p))
   unfolding judge_map judge_data sight_of
-  fitting h Nowhere e = h
-  fitting h (At l) e = go (command f =? 1) (data_wrong s c l f)
+  fitting h None e = h
+  fitting h (Some l) e = go (command f =? 1) (data_wrong s c l f)
     where
       on : (lane s l).channel ≡ c
       on = lane-on s c (map f) l e
@@ -98,7 +98,7 @@ module _ (s : Setting) (f : List ℕ) where
   repeat-sight c (Verdict.Repeat k) e = let q : k ≡ c = cc in ap Verdict.Repeat q
 
   -- Seen, and read by no lane or by lane l.
-  pub counted-sight : (x : Sight) (w : Verdict) → sight_of s f w ≡ Seen x → x.lane ≡ Nowhere
+  pub counted-sight : (x : Sight) (w : Verdict) → sight_of s f w ≡ Seen x → x.lane ≡ None
       → (w ≡ Verdict.Counted x.channel) × (x.count ≡ count_in (channel s x.channel) f)
   unfolding sight_of
   counted-sight x (Verdict.Refused m) e q = impossible (cc)
@@ -108,21 +108,21 @@ module _ (s : Setting) (f : List ℕ) where
       rw (← o) (refl, refl)
   counted-sight x (Verdict.Read l) e q =
       let o : read_sight s f l ≡ x = cc in
-      let z : At l ≡ Nowhere = ap (λ (y : Sight). y.lane) o ∙ q in
+      let z : Some l ≡ None = ap (λ (y : Sight). y.lane) o ∙ q in
       impossible (cc)
   counted-sight x (Verdict.Repeat c) e q = impossible (cc)
 
-  pub read-sight : (x : Sight) (w : Verdict) (l : ℕ) → sight_of s f w ≡ Seen x → x.lane ≡ At l → (w ≡ Verdict.Read l) × (x ≡ read_sight s f l)
+  pub read-sight : (x : Sight) (w : Verdict) (l : ℕ) → sight_of s f w ≡ Seen x → x.lane ≡ Some l → (w ≡ Verdict.Read l) × (x ≡ read_sight s f l)
   unfolding sight_of
   read-sight x (Verdict.Refused m) l e q = impossible (cc)
   read-sight x Verdict.Idle l e q = impossible (cc)
   read-sight x (Verdict.Counted c) l e q =
       let o : counted_sight c (count_in (channel s c) f) ≡ x = cc in
-      let z : Nowhere ≡ At l = ap (λ (y : Sight). y.lane) o ∙ q in
+      let z : None ≡ Some l = ap (λ (y : Sight). y.lane) o ∙ q in
       impossible (cc)
   read-sight x (Verdict.Read k) l e q =
       let o : read_sight s f k ≡ x = cc in
-      let z : At k ≡ At l = ap (λ (y : Sight). y.lane) o ∙ q in
+      let z : Some k ≡ Some l = ap (λ (y : Sight). y.lane) o ∙ q in
       let j : k ≡ l = cc in
       (ap Verdict.Read j, sym o ∙ ap (read_sight s f) j)
   read-sight x (Verdict.Repeat c) l e q = impossible (cc)

@@ -1,8 +1,8 @@
 -- The checks of a frame, one question after another.
 use Rattle.std.specs.Prelude.{ℕ, ◌-◌, Bool, cond, not, ◌&&◌, ◌||◌, List, length}
 use Rattle.rules.specs.declared.Setting.{Setting}
-use Rattle.rules.specs.declared.Place.{Place}
-use Rattle.rules.specs.declared.Place.TheVariants.{At, Nowhere}
+use Rattle.std.specs.Prelude.{Option}
+use Rattle.std.specs.Prelude.{Some, None}
 use Rattle.rules.specs.declared.Verdict.{Verdict}
 use Rattle.rules.specs.declared.Verdict.TheVariants.{Refused, Idle, Counted, Read}
 use Rattle.rules.specs.declared.Lane.{Lane}
@@ -24,9 +24,9 @@ unfoldable pub judge_data : Setting → ℕ → ℕ → List ℕ → Verdict
 judge_data s c l f = cond (data_wrong s c l f) (Refused 12) (Read l)
 
 -- Whose map is in the lane at this place, if any.
-unfoldable pub judge_map : Setting → ℕ → List ℕ → Place → Verdict
-judge_map s c f Nowhere = Counted c
-judge_map s c f (At l) = cond (command f =? 1) (Counted c) (judge_data s c l f)
+unfoldable pub judge_map : Setting → ℕ → List ℕ → Option ℕ → Verdict
+judge_map s c f None = Counted c
+judge_map s c f (Some l) = cond (command f =? 1) (Counted c) (judge_data s c l f)
 
 -- Of channel c: 10, 11, and on.
 unfoldable pub judge_listed : Setting → ℕ → List ℕ → Verdict
@@ -35,9 +35,9 @@ judge_listed s c f =
     (cond (ocf_flag f ≠? flag (channel s c).ocf) (Refused 11) (judge_map s c f (lane_at s c (map f))))
 
 -- Of the channel at this place, if any: 9, and on.
-unfoldable pub judge_channel : Setting → List ℕ → Place → Verdict
-judge_channel s f Nowhere = cond (vc f ≠? 63) (Refused 9) Idle
-judge_channel s f (At c) = judge_listed s c f
+unfoldable pub judge_channel : Setting → List ℕ → Option ℕ → Verdict
+judge_channel s f None = cond (vc f ≠? 63) (Refused 9) Idle
+judge_channel s f (Some c) = judge_listed s c f
 
 -- 8, by the header; 0 is none.
 unfoldable pub field_refusal : Setting → Head → ℕ

@@ -1,7 +1,7 @@
 -- What is found of a frame, by the rules' verdict.
 use Rattle.std.specs.Prelude.{◌≡◌, true, ℕ, ◌^◌, ◌<◌, List, length}
 use Rattle.rules.specs.declared.Setting.{Setting}
-use Rattle.rules.specs.declared.Place.TheVariants.{At, Nowhere}
+use Rattle.std.specs.Prelude.{Some, None}
 use Rattle.rules.specs.declared.Verdict.{Verdict}
 use Rattle.rules.specs.Settings.{channel, lane, channel_of, zone_at, zone_for, setting_ok}
 use Rattle.rules.specs.Frames.{count_in, rule_in, pointer_in, points_to}
@@ -11,14 +11,14 @@ use Rattle.judge.specs.declared.Sighting.TheVariants.{Refused, Idle, Seen, Repea
 
 -- A frame of channel c that no lane reads.
 abbrev pub counted_sight : ℕ → ℕ → Sight
-counted_sight c k = record { channel = c; lane = Nowhere; count = k; rule = 0; place = Nowhere; begin = 0; size = 0 }
+counted_sight c k = record { channel = c; lane = None; count = k; rule = 0; place = None; begin = 0; size = 0 }
 
 -- A frame that lane l reads.
 abbrev pub read_sight : Setting → List ℕ → ℕ → Sight
 read_sight s f l =
     record {
       channel = (lane s l).channel;
-      lane = At l;
+      lane = Some l;
       count = count_in (channel_of s l) f;
       rule = rule_in s (channel_of s l) f;
       place = points_to (pointer_in s (channel_of s l) f);

@@ -12,7 +12,7 @@ ghost use Rattle.judge.specs.Sights.{OnChannel, counted_sight, sight_of, Fitting
 ghost use Rattle.judge.specs.declared.Sighting.TheVariants.{Seen};
 
 use header::{Data, Head};
-use rules::{Kind, Lane, Place, Setting};
+use rules::{Kind, Lane, Setting};
 
 // What the checks found of a frame of a listed channel: the channel's place, the lane that reads it, if any, and its count. Of a frame
 // that is read also its construction rule, what its pointer points to, and where its zone begins and how many octets it has.
@@ -22,8 +22,8 @@ pub struct Sight {
     pub count: u64,
     pub begin: usize,
     pub size: usize,
-    pub lane: Place,
-    pub place: Place,
+    pub lane: Option<usize>,
+    pub place: Option<usize>,
     pub rule: u8,
 }
 
@@ -53,13 +53,13 @@ fn rule_fits(kind: Kind, rule: u8) -> bool
 }
 
 // The place that a pointer points to.
-fn points_to(p: usize) -> Place
+fn points_to(p: usize) -> Option<usize>
     ensures { result ≡ points_to p }
 {
     if p == 0xFFFF {
-        return Place::Nowhere;
+        return None;
     }
-    Place::At(p)
+    Some(p)
 }
 
 // Whether the frame check holds.
@@ -149,7 +149,7 @@ fn judge_data(s: Setting, c: usize, l: usize, k: u64, frame: &[u8]) -> Sighting
     if wrong {
         return Sighting::Refused(12);
     }
-    let on = Place::At(l);
+    let on = Some(l);
     let place = points_to(d.pointer);
     Sighting::Seen(Sight {
         channel: c,
@@ -166,8 +166,8 @@ fn judge_data(s: Setting, c: usize, l: usize, k: u64, frame: &[u8]) -> Sighting
 fn counted(channel: usize, count: u64) -> Sighting
     ensures { result ≡ Seen (counted_sight channel count) }
 {
-    let on = Place::Nowhere;
-    let place = Place::Nowhere;
+    let on = None;
+    let place = None;
     Sighting::Seen(Sight {
         channel: channel,
         lane: on,
@@ -186,8 +186,8 @@ fn judge_map(s: Setting, c: usize, k: u64, h: Head, frame: &[u8]) -> Sighting
 {
     let p = setting::lane_at(s, c, h.map);
     match p {
-        Place::Nowhere => counted(c, k),
-        Place::At(l) => {
+        None => counted(c, k),
+        Some(l) => {
             if h.command == 1 {
                 return counted(c, k);
             }
@@ -231,13 +231,13 @@ fn judge_channel(s: Setting, h: Head, frame: &[u8]) -> Sighting
 {
     let p = setting::channel_at(s, h.vc, h.bypass);
     match p {
-        Place::Nowhere => {
+        None => {
             if h.vc != 63 {
                 return Sighting::Refused(9);
             }
             Sighting::Idle
         }
-        Place::At(c) => judge_listed(s, c, h, frame),
+        Some(c) => judge_listed(s, c, h, frame),
     }
 }
 

@@ -7,8 +7,8 @@ use native.Mathlib.Nat.{zero-add, le_refl}
 use native.Mathlib.Omega.{arith}
 use lib.ListN.{length, take, drop}
 use lib.Seq.{length-take-le, take_all, take-take}
-use Rattle.rules.specs.declared.Place.{Place}
-use Rattle.rules.specs.declared.Place.TheVariants.{At, Nowhere}
+use Rattle.std.specs.Prelude.{Option}
+use Rattle.std.specs.Prelude.{Some, None}
 use Rattle.rules.specs.declared.Fate.{Fate}
 use Rattle.rules.specs.declared.Info.{Info}
 use Rattle.rules.specs.declared.Slot.{Slot}
@@ -39,7 +39,7 @@ module _ (longest : ℕ) {x : Slot} {held : List ℕ} (kept : Kept x held) (z : 
 
   -- By a lead.
   pub lead-at : {p : ℕ} {f : Fate} → p ≤ length z → f ≡ lead_fate longest false (measure (held ++ take p z)) (length held) (length (take p z))
-      → Opens longest (packet_lane longest unit (At p) z) (record { slot = x; size = p; fill = 0; dropped = 0; fate = f; stops = false }) held z
+      → Opens longest (packet_lane longest unit (Some p) z) (record { slot = x; size = p; fill = 0; dropped = 0; fate = f; stops = false }) held z
   unfolding packet_lane lead
   lead-at {p} {f} h e =
       let led : lead longest false unit (take p z) ≡ become f (unit_from (held_in x held) (take p z)) = rw (whole, e) in
@@ -47,7 +47,7 @@ module _ (longest : ℕ) {x : Slot} {held : List ℕ} (kept : Kept x held) (z : 
         few = omega (arith, kept.long);
         within = kept.within;
         inside = h;
-        rest = packet_lane longest unit (At p) z;
+        rest = packet_lane longest unit (Some p) z;
         split = both-nothing _;
         goes = (
           ap (λ (m : Made). m.held) (sym led) ∙ lead-held longest unit (take p z),
@@ -56,14 +56,14 @@ module _ (longest : ℕ) {x : Slot} {held : List ℕ} (kept : Kept x held) (z : 
       }
 
   pub lead-nowhere : {f : Fate} → f ≡ lead_fate longest true (measure (held ++ z)) (length held) (length z)
-      → Opens longest (packet_lane longest unit Nowhere z) (record { slot = x; size = length z; fill = 0; dropped = 0; fate = f; stops = true }) held z
+      → Opens longest (packet_lane longest unit None z) (record { slot = x; size = length z; fill = 0; dropped = 0; fate = f; stops = true }) held z
   unfolding packet_lane lead
   lead-nowhere e =
       record {
         few = omega (arith, kept.long);
         within = kept.within;
         inside = le_refl _;
-        rest = packet_lane longest unit Nowhere z;
+        rest = packet_lane longest unit None z;
         split = both-nothing _;
         goes = rw (whole, all-taken z, e);
       }
@@ -94,7 +94,7 @@ module _ (longest : ℕ) {x : Slot} {held : List ℕ} (kept : Kept x held) (z : 
       }
 
   pub portion-nowhere : (begins : Bool)
-      → Opens longest (access_lane longest begins unit Nowhere z) (portion_opening longest false begins x (length z) 0) held z
+      → Opens longest (access_lane longest begins unit None z) (portion_opening longest false begins x (length z) 0) held z
   unfolding access_lane
   portion-nowhere begins =
       rw (← both-nothing (portion longest false begins unit z)) at (rw (all-taken z) at (portion-opens false begins 0 (le_refl _)))
@@ -178,7 +178,7 @@ module _ (i : Info) {longest : ℕ} {x : Slot} {m : Made} {o : Opening} {z d u r
 -- ---- the whole
 
 -- What is lent has room for all that a lane makes: every octet goes somewhere, units are few, and less is held than the longest.
-pub lent_ready : {terms : Terms} {x : Slot} {p : Place} {z d u r : List ℕ} (rule : ℕ) → Lent terms x p z d u r
+pub lent_ready : {terms : Terms} {x : Slot} {p : Option ℕ} {z d u r : List ℕ} (rule : ℕ) → Lent terms x p z d u r
     → Ready (record { tally = empty; slot = x }) u r d z (lane_step terms.kind terms.longest rule (held_in x d) p z)
 unfolding total
 lent_ready {terms} {x} {p} {z} {d} {u} {r} rule lent =

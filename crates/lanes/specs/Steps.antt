@@ -1,6 +1,6 @@
 -- What a lane's step is lent, how it begins, and what it leaves in the areas: the rule's own result, laid out.
 use Rattle.std.specs.Prelude.{◌≡◌, Bool, true, false, List, [], ℕ, ◌≤◌, length, take, drop}
-use Rattle.rules.specs.declared.Place.{Place}
+use Rattle.std.specs.Prelude.{Option}
 use Rattle.rules.specs.declared.Info.{Info}
 use Rattle.rules.specs.declared.Slot.{Slot}
 use Rattle.rules.specs.Areas.{laid, joined, part_size, records_size, units_size}
@@ -12,7 +12,7 @@ use Rattle.lanes.specs.declared.units.Terms.{Terms}
 use Rattle.lanes.specs.declared.Opening.{Opening}
 
 -- What it is lent: areas of the paper's sizes, and a zone and a slot as a valid state and a frame that is Read have them.
-pub record Lent (terms : Terms) (x : Slot) (p : Place) (z d u r : List ℕ) : Type 0 where
+pub record Lent (terms : Terms) (x : Slot) (p : Option ℕ) (z d u r : List ℕ) : Type 0 where
   pub units : units_size ≤ length u
   pub records : records_size ≤ length r
   pub part : length d ≡ part_size

@@ -12,7 +12,7 @@ mod fates;
 pub mod units;
 mod walks;
 
-use rules::{Fate, Kind, Measure, Place, Slot};
+use rules::{Fate, Kind, Measure, Slot};
 use units::{Stand, Tally, Terms};
 
 // Measures the packet that begins with the first of two parts that follow each other. No header has more than eight octets, so the first eight say all.
@@ -52,12 +52,18 @@ fn lead_of(longest: usize, on: bool, held: &[u8], next: &[u8]) -> Fate
 }
 
 // A packet lane's opening: the lead, which is the octets before the pointer, or all of the zone.
-fn packet_opening(longest: usize, place: Place, slot: Slot, held: &[u8], zone: &[u8]) -> Opening
+fn packet_opening(
+    longest: usize,
+    place: Option<usize>,
+    slot: Slot,
+    held: &[u8],
+    zone: &[u8],
+) -> Opening
     requires { Kept slot held.now × Inside (length zone.now) place }
     ensures { Opens longest (packet_lane longest (record { octets = held.now; span = slot.span }) place zone.now) result held.now zone.now }
 {
     match place {
-        Place::At(p) => {
+        Some(p) => {
             let fate = lead_of(longest, false, held, &zone[..p]);
             Opening {
                 size: p,
@@ -68,7 +74,7 @@ fn packet_opening(longest: usize, place: Place, slot: Slot, held: &[u8], zone: &
                 stops: false,
             }
         }
-        Place::Nowhere => {
+        None => {
             let fate = lead_of(longest, true, held, zone);
             Opening {
                 size: zone.len(),
@@ -119,21 +125,34 @@ fn portion_opening(
 }
 
 // An access lane's opening, with a zone of n octets: the unit's octets go up to its last, or are all of the zone.
-fn access_opening(longest: usize, place: Place, begins: bool, slot: Slot, n: usize) -> Opening
+fn access_opening(
+    longest: usize,
+    place: Option<usize>,
+    begins: bool,
+    slot: Slot,
+    n: usize,
+) -> Opening
     requires { Inside n place }
     ensures { (held zone : List ℕ) → Kept slot held → length zone ≡ n → Opens longest (access_lane longest begins (record { octets = held; span = slot.span }) place zone) result held zone }
 {
     match place {
-        Place::At(p) => {
+        Some(p) => {
             let e = p + 1;
             portion_opening(longest, true, begins, slot, e, n - e)
         }
-        Place::Nowhere => portion_opening(longest, false, begins, slot, n, 0),
+        None => portion_opening(longest, false, begins, slot, n, 0),
     }
 }
 
 // A lane's opening, by its kind.
-fn opening_of(terms: Terms, slot: Slot, place: Place, rule: u8, held: &[u8], zone: &[u8]) -> Opening
+fn opening_of(
+    terms: Terms,
+    slot: Slot,
+    place: Option<usize>,
+    rule: u8,
+    held: &[u8],
+    zone: &[u8],
+) -> Opening
     requires { Kept slot held.now × Inside (length zone.now) place }
     ensures { Opens terms.longest (lane_step terms.kind terms.longest rule (record { octets = held.now; span = slot.span }) place zone.now) result held.now zone.now }
 {
@@ -150,7 +169,7 @@ fn opening_of(terms: Terms, slot: Slot, place: Place, rule: u8, held: &[u8], zon
 pub fn lane_step(
     terms: Terms,
     slot: Slot,
-    place: Place,
+    place: Option<usize>,
     rule: u8,
     zone: &[u8],
     part: &mut [u8],

@@ -9,7 +9,7 @@ use mathlib.Core.List.{List, [], ◌∷◌, ◌++◌, append-nil}
 use lib.ListN.{length, take, drop, replicate, length-append, length-drop, take-append-drop}
 use lib.Seq.{length-take-le, take_all, take_at, take-add}
 use borrow.Author.Tests.{le-leb, lt-ltb, le-ltb, eq-eqb, ne_eqb}
-use Rattle.rules.specs.declared.Place.TheVariants.{At, Nowhere}
+use Rattle.std.specs.Prelude.{Some, None}
 use Rattle.rules.specs.declared.Fate.{Fate}
 use Rattle.rules.specs.declared.Fate.TheVariants.{Hand, Hold}
 use Rattle.rules.specs.Tests.{◌≤?◌, ◌=?◌}
@@ -121,7 +121,7 @@ module _ (longest z : ℕ) (zp : 0 < z) (j : ℕ) (carried : ℕ → ℕ) (o : �
   unfolding access_lane both joins inside ending
   ends h =
       let p : length b - 1 - o < z = omega arith in
-      ap (λ (t : Bool). yield (access_lane longest begins before (cond t (At (length b - 1 - o)) Nowhere) zone_from)) (lt-ltb _ _ p)
+      ap (λ (t : Bool). yield (access_lane longest begins before (cond t (Some (length b - 1 - o)) None) zone_from)) (lt-ltb _ _ p)
       ∙ ap (λ (xs : List ℕ). yield (joins true live xs)) (zone-ends h)
       ∙ so_far true (drop o b) b (rw left-length (omega arith)) (take-append-drop o b)
       ∙ ap₂ (λ (f : Fate) (x : DataUnit). cond live (becomes f x) (yields [] no_unit)) fate-ends (begun-whole (now 0) b (omega arith))
@@ -138,7 +138,7 @@ module _ (longest z : ℕ) (zp : 0 < z) (j : ℕ) (carried : ℕ → ℕ) (o : �
   unfolding access_lane joins inside ending
   goes h =
       let p : z ≤ length b - 1 - o = omega arith in
-      ap (λ (t : Bool). yield (access_lane longest begins before (cond t (At (length b - 1 - o)) Nowhere) zone_from)) (le-ltb _ _ p)
+      ap (λ (t : Bool). yield (access_lane longest begins before (cond t (Some (length b - 1 - o)) None) zone_from)) (le-ltb _ _ p)
       ∙ ap (λ (xs : List ℕ). yield (joins false live xs)) (zone-goes h)
       ∙ so_far false (take z (drop o b)) (take (o + z) b) (rw (length-take-le z (drop o b) (rw left-length (omega arith))) zp) (sym (take-add o z b))
       ∙ ap (λ (f : Fate). cond live (becomes f (begun (now 0) (take (o + z) b))) (yields [] no_unit)) (fate_goes h)

@@ -10,8 +10,8 @@ use lib.ListN.{length}
 use borrow.Author.Tests.{leb-true, ltb-true, eq-eqb, ne_eqb}
 use Rattle.rules.specs.declared.Kind.{Kind}
 use Rattle.rules.specs.declared.Kind.TheVariants.{Packets, Access}
-use Rattle.rules.specs.declared.Place.{Place}
-use Rattle.rules.specs.declared.Place.TheVariants.{At, Nowhere}
+use Rattle.std.specs.Prelude.{Option}
+use Rattle.std.specs.Prelude.{Some, None}
 use Rattle.rules.specs.Tests.{◌≤?◌, ◌<?◌, ◌=?◌}
 use Rattle.rules.specs.Areas.{joined}
 use Rattle.rules.specs.Packets.{packets}
@@ -68,7 +68,7 @@ points_back : (z n : ℕ) → z ≤ 4096 → points_to (pointer_to (inside z n))
 unfolding points_to inside
 points_back z n h = go (n <? z) refl
   where
-    go : (t : Bool) → n <? z ≡ t → cond (pointer_to (cond t (At n) Nowhere) =? 0xFFFF) Nowhere (At (pointer_to (cond t (At n) Nowhere))) ≡ cond t (At n) Nowhere
+    go : (t : Bool) → n <? z ≡ t → cond (pointer_to (cond t (Some n) None) =? 0xFFFF) None (Some (pointer_to (cond t (Some n) None))) ≡ cond t (Some n) None
     go true e = let l : n < z = ltb-true _ _ e in rw (ne_eqb n 0xFFFF (λ q. omega arith))
     go false e = refl
 
@@ -89,7 +89,7 @@ module _ (longest z : ℕ) (zp : 0 < z) (zl : z ≤ 4096) (k : ℕ) (b : List �
   lane-reads Packets h enough ok f j n js e =
       let p : Batch longest b = packet_batch longest b ok in
       let l : k * z < length (joined (packets b)) = rw p.joins (frame-within z zp b k f) in
-      ap₂ (λ (x : DataUnit) (q : Place). yield (packet_lane longest x q (zone_of Packets z b k))) e (points_back z (start_from (packets b) (k * z) - k * z) zl)
+      ap₂ (λ (x : DataUnit) (q : Option ℕ). yield (packet_lane longest x q (zone_of Packets z b k))) e (points_back z (start_from (packets b) (k * z) - k * z) zl)
       ∙ subst
       (λ (x : List ℕ).
       yield (packet_lane longest (held_from j n 0 (k * z) (packets b)) (inside z (start_from (packets b) (k * z) - k * z)) (zone_of Packets z x k))
@@ -99,7 +99,7 @@ module _ (longest z : ℕ) (zp : 0 < z) (zl : z ≤ 4096) (k : ℕ) (b : List �
       (packet-lane longest z zp j n (k * z) js (omega arith) (packets b) 0 (k * z) p.wholes (zero-add (k * z)) l)
   lane-reads Access h enough ok f j n js e =
       unfold batch_ok in
-      ap₂ (λ (x : DataUnit) (q : Place). yield (access_lane longest (rule_of Access k =? 0b001) x q (zone_of Access z b k))) e
+      ap₂ (λ (x : DataUnit) (q : Option ℕ). yield (access_lane longest (rule_of Access k =? 0b001) x q (zone_of Access z b k))) e
       (points_back z (length b - 1 - k * z) zl)
       ∙ ap (λ (t : Bool). yield (access_lane longest t (held_from j n 0 (k * z) (b ∷ [])) (inside z (length b - 1 - k * z)) (zone_of Access z b k)))
       (sym starts-unit)

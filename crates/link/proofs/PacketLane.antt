@@ -10,8 +10,8 @@ use mathlib.Core.List.{List, [], ◌∷◌, ◌++◌, append-nil, append_assoc}
 use lib.ListN.{length, take, drop, replicate, length-append, length-take, length-drop, take-append-drop}
 use lib.Seq.{length-take-le, take-nil, take_at, drop_at, take-add, take-append-le, take-append-add, drop-append-le, drop-append-add, take-append_seam, drop-append_seam}
 use borrow.Author.Tests.{le-leb, lt-leb, lt-ltb, le-ltb, eq-eqb, ne_eqb}
-use Rattle.rules.specs.declared.Place.{Place}
-use Rattle.rules.specs.declared.Place.TheVariants.{At, Nowhere}
+use Rattle.std.specs.Prelude.{Option}
+use Rattle.std.specs.Prelude.{Some, None}
 use Rattle.rules.specs.declared.Measure.TheVariants.{Packet}
 use Rattle.rules.specs.declared.Next.{Next}
 use Rattle.rules.specs.declared.Next.TheVariants.{Give, Skip, Keep}
@@ -189,24 +189,24 @@ module _ (longest z : ℕ) (zp : 0 < z) (j : ℕ) (carried : ℕ → ℕ) (start
   fill-last : (xs : List ℕ) → (z - length (take z xs) ≡ 0) ⊎ (length xs ≤ z)
   fill-last xs = split z (length xs) (λ h. inl (let e = length-take-le z xs h in omega (arith, e))) (λ h. inr (omega arith))
 
-  inside-at : (n : ℕ) → n < z → inside z n ≡ At n
+  inside-at : (n : ℕ) → n < z → inside z n ≡ Some n
   unfolding inside
   inside-at n h = rw (lt-ltb _ _ h)
 
-  inside-not : (n : ℕ) → z ≤ n → inside z n ≡ Nowhere
+  inside-not : (n : ℕ) → z ≤ n → inside z n ≡ None
   unfolding inside
   inside-not n h = rw (le-ltb _ _ h)
 
   -- The packet that stands at octet o is u, which begins at octet a of the batch.
   module _ (one : 1 ≤ longest) (u : List ℕ) (us : List (List ℕ)) (a o : ℕ) (w : Wholes longest (u ∷ us)) (e : a + o ≡ start) where
-    abbrev Says : DataUnit → Place → List ℕ → Type 0
+    abbrev Says : DataUnit → Option ℕ → List ℕ → Type 0
     Says h p zs = yield (packet_lane longest h p zs) ≡ yields (ends a (u ∷ us)) (held a (o + z) (u ∷ us))
 
     -- It begins with the frame.
     starts : o ≡ 0 → Says no_unit (inside z 0) (zone_from 0 (u ∷ us))
     unfolding packet_lane lead lead_fate both joined
     starts q =
-        ap (λ (p : Place). yield (packet_lane longest no_unit p (zone_from 0 (u ∷ us)))) (inside-at 0 zp)
+        ap (λ (p : Option ℕ). yield (packet_lane longest no_unit p (zone_from 0 (u ∷ us)))) (inside-at 0 zp)
         ∙ walk-due (u ∷ us) a z (z - length (take z (u ++ joined us))) one w (omega arith) (omega arith) (fill-last (u ++ joined us))
         ∙ ap (λ (i : ℕ). yields (ends a (u ∷ us)) (held a i (u ∷ us))) (sym (ap (λ (i : ℕ). i + z) q ∙ zero-add z))
 
@@ -271,7 +271,7 @@ module _ (longest z : ℕ) (zp : 0 < z) (j : ℕ) (carried : ℕ → ℕ) (start
           let f : take z (drop o (joined (u ∷ us))) ++ filler behind ≡ take z (drop o u) = ap (λ (ys : List ℕ). ys ++ filler (z - length ys)) x ∙ ap
           (λ (n : ℕ). take z (drop o u) ++ filler (z - n)) l ∙ ap (λ (n : ℕ). take z (drop o u) ++ filler n) (sub_self z) ∙ append-nil (take z (drop o u))
           in
-          ap₂ (λ (p : Place) (zs : List ℕ). yield (packet_lane longest (cond live had no_unit) p zs)) (inside-not left (omega arith)) f
+          ap₂ (λ (p : Option ℕ) (zs : List ℕ). yield (packet_lane longest (cond live had no_unit) p zs)) (inside-not left (omega arith)) f
           ∙ lead-goes h live
           ∙ sym
           (ap₂ yields
@@ -313,7 +313,7 @@ module _ (longest z : ℕ) (zp : 0 < z) (j : ℕ) (carried : ℕ → ℕ) (start
       before-end h =
           let rest : List ℕ = take (z - left) (joined us) ++ filler behind in
           let g : left ≤ z = omega arith in
-          ap₂ (λ (p : Place) (zs : List ℕ). yield (packet_lane longest (cond live had no_unit) p zs)) (inside-at left h) (zone-ends g)
+          ap₂ (λ (p : Option ℕ) (zs : List ℕ). yield (packet_lane longest (cond live had no_unit) p zs)) (inside-at left h) (zone-ends g)
           ∙ ap₂ (λ (xs ys : List ℕ). yield (both (lead longest false (cond live had no_unit) xs) (walk longest ys)))
           (take_at (drop o u) rest left left-length) (drop_at (drop o u) rest left left-length)
           ∙ ap₂ (λ (x y : Yield). yields (x.units ++ y.units) y.held) (lead-ends false live) (rest-due g)
@@ -331,7 +331,7 @@ module _ (longest z : ℕ) (zp : 0 < z) (j : ℕ) (carried : ℕ → ℕ) (start
           let none : take (z - left) (joined us) ++ filler behind ≡ [] = ap₂ (λ (i m : ℕ). take i (joined us) ++ filler m) n f in
           let nil : yields [] no_unit ≡ yields (ends (a + length u) us) (held (a + length u) (o + z - length u) us) = sym
           (ap (λ (xs : List ℕ). yield (walk longest xs)) none ∙ walk-fill 0 one) ∙ rest-due g in
-          ap₂ (λ (p : Place) (zs : List ℕ). yield (packet_lane longest (cond live had no_unit) p zs)) (inside-not left (omega arith))
+          ap₂ (λ (p : Option ℕ) (zs : List ℕ). yield (packet_lane longest (cond live had no_unit) p zs)) (inside-not left (omega arith))
           (zone-ends g ∙ ap (λ (ys : List ℕ). drop o u ++ ys) none ∙ append-nil (drop o u))
           ∙ lead-ends true live
           ∙ ap (λ (xs : List DataUnit). yields xs no_unit) (sym (append-nil (cond live (spanned now a u ∷ []) [])))
@@ -374,7 +374,7 @@ module _ (longest z : ℕ) (zp : 0 < z) (j : ℕ) (carried : ℕ → ℕ) (start
           let d : drop o (u ++ joined us) ≡ drop (o - length u) (joined us) = ap (λ (i : ℕ). drop i (u ++ joined us)) (sym (add-sub_of_le h))
           ∙ drop-append-add u (joined us) (o - length u) in
           let n : o - length u + z ≡ o + z - length u = omega arith in
-          ap₂ (λ (x : DataUnit) (q : Place). yield (packet_lane longest x q (zone_from o (u ∷ us)))) (held-past j carried a o u us h) (ap (inside z) p)
+          ap₂ (λ (x : DataUnit) (q : Option ℕ). yield (packet_lane longest x q (zone_from o (u ∷ us)))) (held-past j carried a o u us h) (ap (inside z) p)
           ∙ ap (λ (xs : List ℕ).
           yield (packet_lane longest (held_from j carried (a + length u) (o - length u) us) (inside z (start_from us (o - length u) - (o - length u)))
           (take z xs ++ filler (z - length (take z xs))))) d

@@ -9,8 +9,8 @@ use borrow.Author.Tests.{eq-eqb}
 use Rattle.rules.specs.declared.Setting.{Setting}
 use Rattle.rules.specs.declared.Reader.{Reader}
 use Rattle.rules.specs.declared.Writer.{Writer}
-use Rattle.rules.specs.declared.Place.{Place}
-use Rattle.rules.specs.declared.Place.TheVariants.{At, Nowhere}
+use Rattle.std.specs.Prelude.{Option}
+use Rattle.std.specs.Prelude.{Some, None}
 use Rattle.rules.specs.declared.Outcome.{Outcome}
 use Rattle.rules.specs.declared.Outcome.TheVariants.{Done, Refused}
 use Rattle.rules.specs.declared.Verdict.{Verdict}
@@ -58,13 +58,13 @@ judged_is s f zero = by-channel (channel_at s (vc f) (bypass f))
     by-test c l true = refl
     by-test c l false = refl
 
-    by-lane : (c : ℕ) (p : Place) → refusal (on_channel f c p) ≡ Done
-    by-lane c Nowhere = refl
-    by-lane c (At l) = by-test c l (command f =? 1)
+    by-lane : (c : ℕ) (p : Option ℕ) → refusal (on_channel f c p) ≡ Done
+    by-lane c None = refl
+    by-lane c (Some l) = by-test c l (command f =? 1)
 
-    by-channel : (p : Place) → refusal (passed s f p) ≡ Done
-    by-channel Nowhere = refl
-    by-channel (At c) = by-lane c (lane_at s c (map f))
+    by-channel : (p : Option ℕ) → refusal (passed s f p) ≡ Done
+    by-channel None = refl
+    by-channel (Some c) = by-lane c (lane_at s c (map f))
 judged_is s f (suc n) = refl
 
 ends_as : (r : Reader) (f h : List ℕ) (a : Lent) → reader_ok r ≡ true → length h ≡ held_size → enough a ≡ true

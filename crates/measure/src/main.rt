@@ -6,7 +6,7 @@
 ghost use Rattle.std.specs.Prelude.{◌≡◌, ◌+◌, ◌%◌, ◌≤◌, ◌∷◌, get_or};
 
 use header::{Data, Head};
-use rules::{Answer, Looked, Outcome, Place, Reader, Setting, Writer};
+use rules::{Answer, Looked, Outcome, Reader, Setting, Writer};
 
 // ---- numbers
 
@@ -151,8 +151,8 @@ fn worth(a: Answer, units: &[u8]) -> u64 {
 fn glance(o: Looked) -> u64 {
     let lane = o.lane;
     let n = match lane {
-        Place::At(l) => plus(l as u64, 1),
-        Place::Nowhere => 0,
+        Some(l) => plus(l as u64, 1),
+        None => 0,
     };
     plus(o.missing, n)
 }

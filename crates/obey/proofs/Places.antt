@@ -7,8 +7,8 @@ use mathlib.Core.List.{List}
 use borrow.Author.Tests.{lt-ltb}
 use Rattle.rules.specs.declared.Reader.{Reader}
 use Rattle.rules.specs.declared.Looked.{Looked}
-use Rattle.rules.specs.declared.Place.{Place}
-use Rattle.rules.specs.declared.Place.TheVariants.{At}
+use Rattle.std.specs.Prelude.{Option}
+use Rattle.std.specs.Prelude.{Some}
 use Rattle.rules.specs.declared.Verdict.{Verdict}
 use Rattle.rules.specs.Settings.{reader_ok}
 use Rattle.rules.specs.Refusals.{judge}
@@ -24,7 +24,7 @@ use Rattle.obey.specs.Requests.{place_number}
 abbrev Near : Looked → Type 0
 Near o = (Inside 8 o.channel) × (Inside 8 o.lane)
 
-place-told : (p : Place) → Inside 8 p → (i : ℕ) → p ≡ At i → place_number p ≡ i + 1
+place-told : (p : Option ℕ) → Inside 8 p → (i : ℕ) → p ≡ Some i → place_number p ≡ i + 1
 unfolding place_number
 place-told p h i e = rw (e, lt-ltb _ _ (rw e at h))
 
@@ -47,8 +47,8 @@ module _ (r : Reader) (f : List ℕ) where
       go true e = judged-near e _ (again-judged r f (good_reader r e) _ (judge-facts r.setting f))
       go false e = unfold on_look in (tt, tt)
 
-  pub channel-told : (i : ℕ) → (look r f).channel ≡ At i → place_number (look r f).channel ≡ i + 1
+  pub channel-told : (i : ℕ) → (look r f).channel ≡ Some i → place_number (look r f).channel ≡ i + 1
   channel-told = place-told _ near.0
 
-  pub lane-told : (i : ℕ) → (look r f).lane ≡ At i → place_number (look r f).lane ≡ i + 1
+  pub lane-told : (i : ℕ) → (look r f).lane ≡ Some i → place_number (look r f).lane ≡ i + 1
   lane-told = place-told _ near.1

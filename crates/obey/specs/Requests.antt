@@ -8,8 +8,8 @@ use Rattle.rules.specs.declared.Taken.{Taken}
 use Rattle.rules.specs.declared.Sender.{Sender}
 use Rattle.rules.specs.declared.Listener.{Listener}
 use Rattle.rules.specs.declared.Looked.{Looked}
-use Rattle.rules.specs.declared.Place.{Place}
-use Rattle.rules.specs.declared.Place.TheVariants.{At, Nowhere}
+use Rattle.std.specs.Prelude.{Option}
+use Rattle.std.specs.Prelude.{Some, None}
 use Rattle.rules.specs.Tests.{◌=?◌, ◌<?◌, ◌≤?◌}
 use Rattle.rules.specs.Octets.{check_of}
 use Rattle.rules.specs.Areas.{laid}
@@ -117,9 +117,9 @@ pub record Left (g : Got) (before after held_area unit_area record_area : List �
 
 -- The place of a channel or a lane and one; 0 for none. There are eight of each at most, so no look names a place past 7 (proofs/Places): the
 -- number of such a one is 0 here.
-unfoldable pub place_number : Place → ℕ
-place_number (At i) = cond (i <? 8) (i + 1) 0
-place_number Nowhere = 0
+unfoldable pub place_number : Option ℕ → ℕ
+place_number (Some i) = cond (i <? 8) (i + 1) 0
+place_number None = 0
 
 unfoldable pub look_row : Looked → List ℕ
 look_row o =

@@ -9,7 +9,7 @@ ghost use Rattle.obey.specs.Requests.{asked, sent, written, sizes_in, read_in, w
 ghost use Rattle.obey.specs.Requests.{desk_after, obeyed};
 
 use rows::{put_reader, put_row, put_writer, reader_in, setting_in, word_in, writer_in};
-use rules::{Answer, Class, Listener, Looked, Outcome, Place, Reader, Sender, Taken, Writer};
+use rules::{Answer, Class, Listener, Looked, Outcome, Reader, Sender, Taken, Writer};
 
 // How many octets of the held, unit and record area a read is lent.
 #[derive(Clone, Copy)]
@@ -130,12 +130,12 @@ fn answer_row(a: Answer) -> [u64; 8]
 }
 
 // The number of a place of a channel or a lane: the place and one, or 0 for none. A place past 7 is in no list, and is 0 too.
-fn place_number(p: Place) -> u64
+fn place_number(p: Option<usize>) -> u64
     ensures { result ≡ place_number p }
 {
     match p {
-        Place::Nowhere => 0,
-        Place::At(i) => {
+        None => 0,
+        Some(i) => {
             if i < 8 {
                 return i as u64 + 1;
             }

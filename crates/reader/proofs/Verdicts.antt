@@ -26,7 +26,7 @@ use Rattle.judge.specs.declared.Sighting.{Sighting}
 use Rattle.judge.specs.declared.Sighting.TheVariants.{Seen}
 use Rattle.judge.specs.Sights.{read_sight, sight_of, Fitting}
 use Rattle.judge.proofs.Sights.{counted-sight, read-sight}
-use Rattle.rules.specs.declared.Place.TheVariants.{At, Nowhere}
+use Rattle.std.specs.Prelude.{Some, None}
 use Rattle.reader.specs.Reads.{short_of, short_refusal, counted_of, OnLane, SeenOn}
 use Rattle.reader.specs.declared.Found.{Found}
 use Rattle.reader.specs.Finds.{Sound, again_of, missing_for, found_of, shown_of}
@@ -135,7 +135,7 @@ module _ (r : Reader) (f h u c : List ℕ) where
   -- What was seen, with its count taken.
   module _ (x : Sight) (m : ℕ) (o : SeenOn r x m f h u c) where
     -- Counted: what the gap leaves.
-    pub counted-kept : x.lane ≡ Nowhere → (g : Gap) → g ≡ gap r x.channel x.count → (t : Taken) → t ≡ counted_of g → ReadGives r f h u c t h u c
+    pub counted-kept : x.lane ≡ None → (g : Gap) → g ≡ gap r x.channel x.count → (t : Taken) → t ≡ counted_of g → ReadGives r f h u c t h u c
     unfolding on_verdict
     counted-kept q g eg t et =
         let w = counted-sight r.setting f x (verdict r f h u c) (sym o.found) q in
@@ -143,7 +143,7 @@ module _ (r : Reader) (f h u c : List ℕ) where
         (et ∙ ap counted_of (eg ∙ ap (gap r x.channel) w.1)) refl
 
     -- Read by lane l.
-    module _ (l : ℕ) (q : x.lane ≡ At l) (g : Gap) (eg : g ≡ gap r x.channel x.count) where
+    module _ (l : ℕ) (q : x.lane ≡ Some l) (g : Gap) (eg : g ≡ gap r x.channel x.count) where
       is_read : (verdict r f h u c ≡ Verdict.Read l) × (x ≡ read_sight r.setting f l)
       is_read = read-sight r.setting f x (verdict r f h u c) l (sym o.found) q
 

@@ -2,8 +2,8 @@
 use Rattle.std.specs.Prelude.{◌≡◌, true, cond, ℕ, ◌^◌, ◌<◌, List}
 use Rattle.rules.specs.declared.Class.{Class}
 use Rattle.rules.specs.declared.Looked.{Looked}
-use Rattle.rules.specs.declared.Place.{Place}
-use Rattle.rules.specs.declared.Place.TheVariants.{At, Nowhere}
+use Rattle.std.specs.Prelude.{Option}
+use Rattle.std.specs.Prelude.{Some, None}
 use Rattle.rules.specs.declared.Reader.{Reader}
 use Rattle.rules.specs.declared.Verdict.{Verdict}
 use Rattle.rules.specs.Settings.{channel, reader_ok}
@@ -41,15 +41,15 @@ found_of r f v = record { sighting = sight_of r.setting f v; missing = (on_look 
 
 -- ---- how a look shows it
 
-abbrev pub class_on : Place → Class
-class_on Nowhere = Class.Counted
-class_on (At l) = Class.Read
+abbrev pub class_on : Option ℕ → Class
+class_on None = Class.Counted
+class_on (Some l) = Class.Read
 
 abbrev pub shown_by : Sighting → ℕ → Looked
-shown_by (Refused n) m = record { class = Class.Refused n; missing = m; channel = Nowhere; lane = Nowhere }
-shown_by Idle m = record { class = Class.Idle; missing = m; channel = Nowhere; lane = Nowhere }
-shown_by (Seen x) m = record { class = class_on x.lane; missing = m; channel = At x.channel; lane = x.lane }
-shown_by (Repeat c) m = record { class = Class.Repeat; missing = m; channel = At c; lane = Nowhere }
+shown_by (Refused n) m = record { class = Class.Refused n; missing = m; channel = None; lane = None }
+shown_by Idle m = record { class = Class.Idle; missing = m; channel = None; lane = None }
+shown_by (Seen x) m = record { class = class_on x.lane; missing = m; channel = Some x.channel; lane = x.lane }
+shown_by (Repeat c) m = record { class = Class.Repeat; missing = m; channel = Some c; lane = None }
 
 abbrev pub shown_of : Found → Looked
 shown_of v = shown_by v.sighting v.missing

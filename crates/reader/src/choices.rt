@@ -6,15 +6,15 @@ ghost use Rattle.rules.specs.Tests.{none};
 ghost use Rattle.rules.specs.Refusals.{channel_at};
 ghost use Rattle.rules.specs.Passes.{left_out, unlisted as unlistedIn};
 
-use rules::{Looked, Place, Setting};
+use rules::{Looked, Setting};
 
 // The number that a place is; 0 where there is none.
-pub fn number_of(p: Place) -> usize
+pub fn number_of(p: Option<usize>) -> usize
     ensures { result ≡ placed p }
 {
     match p {
-        Place::At(i) => i,
-        Place::Nowhere => 0,
+        Some(i) => i,
+        None => 0,
     }
 }
 
@@ -47,12 +47,12 @@ fn is_unlisted(s: Setting, v: u8) -> bool
 {
     let p = setting::channel_at(s, v, 0);
     match p {
-        Place::At(_) => false,
-        Place::Nowhere => {
+        Some(_) => false,
+        None => {
             let q = setting::channel_at(s, v, 1);
             match q {
-                Place::At(_) => false,
-                Place::Nowhere => true,
+                Some(_) => false,
+                None => true,
             }
         }
     }
@@ -71,7 +71,7 @@ fn is_stray(without: [bool; 63], s: Setting, v: u8) -> bool
 }
 
 // The lowest virtual channel that is to be left out and is not listed, if there is one.
-pub fn unlisted(without: [bool; 63], s: Setting) -> Place
+pub fn unlisted(without: [bool; 63], s: Setting) -> Option<usize>
     requires { s.listed ≤ 8 }
     ensures { result ≡ unlistedIn without s }
 {
@@ -79,11 +79,11 @@ pub fn unlisted(without: [bool; 63], s: Setting) -> Place
     while v < 63 {
         let stray = is_stray(without, s, v);
         if stray {
-            return Place::At(v as usize);
+            return Some(v as usize);
         }
         v += 1;
     }
-    Place::Nowhere
+    None
 }
 
 // Whether a frame that a look says this of is to be left out.
@@ -92,8 +92,8 @@ pub fn left_out(without: [bool; 63], s: Setting, o: Looked) -> bool
 {
     let p = o.channel;
     match p {
-        Place::Nowhere => false,
-        Place::At(c) => {
+        None => false,
+        Some(c) => {
             let v = vc_at(s, c);
             is_named(without, v)
         }

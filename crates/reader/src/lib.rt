@@ -5,7 +5,7 @@
 pub mod choices;
 
 ghost use Rattle.std.specs.Prelude.{◌≡◌, ◌≤◌, ◌<◌};
-ghost use Rattle.rules.specs.declared.Place.TheVariants.{Nowhere};
+ghost use Rattle.std.specs.Prelude.{None};
 ghost use Rattle.rules.specs.Settings.{channel_of};
 ghost use Rattle.rules.specs.Calls.{read_on, bare, verdict, looked};
 ghost use Rattle.rules.specs.Promises.{ReaderStarts, ReadGives, LookGives};
@@ -18,8 +18,7 @@ ghost use Rattle.rules.specs.Areas.{held_size, units_size};
 use judge::{Sight, Sighting};
 use lanes::units::{Stand, Terms};
 use rules::{
-    Answer, Class, Gap, Info, Listener, Looked, Outcome, Passed, Place, Reader, Setting, Taken,
-    Verdict,
+    Answer, Class, Gap, Info, Listener, Looked, Outcome, Passed, Reader, Setting, Taken, Verdict,
 };
 
 // ---- what a lane makes of a frame
@@ -204,23 +203,23 @@ fn find(r: Reader, frame: &[u8]) -> Found
 // ---- look
 
 // The class of a frame of a listed channel, by the lane that reads it, if any.
-fn class_on(lane: Place) -> Class
+fn class_on(lane: Option<usize>) -> Class
     ensures { result ≡ class_on lane }
 {
     match lane {
-        Place::Nowhere => Class::Counted,
-        Place::At(_) => Class::Read,
+        None => Class::Counted,
+        Some(_) => Class::Read,
     }
 }
 
 // The answer of a look at a frame that no lane reads: where it is of a channel, with that one's place.
-fn unread(class: Class, missing: u64, channel: Place) -> Looked
-    ensures { result ≡ record { class = class; missing = missing; channel = channel; lane = Nowhere } }
+fn unread(class: Class, missing: u64, channel: Option<usize>) -> Looked
+    ensures { result ≡ record { class = class; missing = missing; channel = channel; lane = None } }
 {
     Looked {
         missing: missing,
         channel: channel,
-        lane: Place::Nowhere,
+        lane: None,
         class: class,
     }
 }
@@ -231,12 +230,12 @@ fn shown(v: Found) -> Looked
 {
     let said = v.sighting;
     match said {
-        Sighting::Refused(n) => unread(Class::Refused(n), v.missing, Place::Nowhere),
-        Sighting::Idle => unread(Class::Idle, v.missing, Place::Nowhere),
+        Sighting::Refused(n) => unread(Class::Refused(n), v.missing, None),
+        Sighting::Idle => unread(Class::Idle, v.missing, None),
         Sighting::Seen(x) => {
             let on = x.lane;
             let class = class_on(on);
-            let at = Place::At(x.channel);
+            let at = Some(x.channel);
             Looked {
                 missing: v.missing,
                 channel: at,
@@ -244,7 +243,7 @@ fn shown(v: Found) -> Looked
                 class: class,
             }
         }
-        Sighting::Repeat(c) => unread(Class::Repeat, v.missing, Place::At(c)),
+        Sighting::Repeat(c) => unread(Class::Repeat, v.missing, Some(c)),
     }
 }
 
@@ -327,8 +326,8 @@ fn take_seen(
     let g = gaps::gap_of(r, x.channel, x.count, missing);
     let on = x.lane;
     match on {
-        Place::Nowhere => counted_of(g),
-        Place::At(l) => read_on(g, l, x, f, h, u, c),
+        None => counted_of(g),
+        Some(l) => read_on(g, l, x, f, h, u, c),
     }
 }
 

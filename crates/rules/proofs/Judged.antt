@@ -8,8 +8,8 @@ use mathlib.Core.List.{List}
 use lib.ListN.{length, take}
 use borrow.Author.Tests.{ltb-true, eqb-true, eqb-false, not-false}
 use Rattle.rules.specs.declared.Setting.{Setting}
-use Rattle.rules.specs.declared.Place.{Place}
-use Rattle.rules.specs.declared.Place.TheVariants.{At, Nowhere}
+use Rattle.std.specs.Prelude.{Option}
+use Rattle.std.specs.Prelude.{Some, None}
 use Rattle.rules.specs.declared.Verdict.{Verdict}
 use Rattle.rules.specs.declared.Verdict.TheVariants.{Refused, Idle, Counted, Read, Repeat}
 use Rattle.rules.specs.Tests.{◌<?◌, ◌=?◌, ◌≠?◌, none, at, given}
@@ -22,7 +22,7 @@ use Rattle.rules.proofs.Tests.{and_left, or-none, Found, first_found, given_skip
 
 -- ---- the rows of the table, none of which applies
 
-pub record Clear (s : Setting) (f : List ℕ) (p : Place) : Type 0 where
+pub record Clear (s : Setting) (f : List ℕ) (p : Option ℕ) : Type 0 where
   pub row₃ : length f ≠? s.length ≡ false
   pub row₄ : not (check_holds s f) ≡ false
   pub row₅ : version f ≠? 0b1100 ≡ false
@@ -34,7 +34,7 @@ pub record Clear (s : Setting) (f : List ℕ) (p : Place) : Type 0 where
   pub row₁₁ : at p (λ (c : ℕ). ocf_flag f ≠? flag (channel s c).ocf) ≡ false
   pub row₁₂ : at p (λ (c : ℕ). at (lane_at s c (map f)) (λ (l : ℕ). command f =? 0 && data_wrong s c l f)) ≡ false
 
-module _ {s : Setting} {f : List ℕ} {p : Place} where
+module _ {s : Setting} {f : List ℕ} {p : Option ℕ} where
   pub none-given : Clear s f p → given (refusals_at s f p) ≡ 0
   unfolding refusals_at
   none-given k =
@@ -80,7 +80,7 @@ points : (p z : ℕ) → (p <? z || p =? 0xFFFF) ≡ true → Inside z (points_t
 unfolding points_to
 points p z e = go (p =? 0xFFFF) (p <? z) refl e
   where
-    go : (a b : Bool) → p <? z ≡ b → (b || a) ≡ true → Inside z (cond a Nowhere (At p))
+    go : (a b : Bool) → p <? z ≡ b → (b || a) ≡ true → Inside z (cond a None (Some p))
     go true b q h = tt
     go false true q h = ltb-true _ _ q
     go false false q h = absurd (false≢true h)
@@ -111,12 +111,12 @@ module _ (s : Setting) (f : List ℕ) where
         pointer = rw q (points (pointer_in s (channel s c) f) (zone s (channel s c)) (not-false _ a.1));
       }
 
-  on-channel : (c : ℕ) → c < s.listed → length f ≡ s.length → (p : Place)
+  on-channel : (c : ℕ) → c < s.listed → length f ≡ s.length → (p : Option ℕ)
       → Found (λ (l : ℕ). (lane s l).channel =? c && (lane s l).map =? map f) s.numbered p
       → at p (λ (l : ℕ). command f =? 0 && data_wrong s c l f) ≡ false → Judged s f (on_channel f c p)
   unfolding on_channel
-  on-channel c h n Nowhere o e = (h, n)
-  on-channel c h n (At l) o e = go (command f =? 1) refl (command f =? 0) refl e
+  on-channel c h n None o e = (h, n)
+  on-channel c h n (Some l) o e = go (command f =? 1) refl (command f =? 0) refl e
     where
       q : (lane s l).channel ≡ c
       q = eqb-true _ _ (and_left _ _ o.1)
@@ -126,11 +126,11 @@ module _ (s : Setting) (f : List ℕ) where
       go false x true y z = data-right c l q o.0 n z
       go false x false y z = absurd (neither 7 49 f x y)
 
-  passed-facts : (p : Place) → Found (λ (c : ℕ). (channel s c).vc =? vc f && (channel s c).service =? bypass f) s.listed p → Clear s f p → Judged s f
+  passed-facts : (p : Option ℕ) → Found (λ (c : ℕ). (channel s c).vc =? vc f && (channel s c).service =? bypass f) s.listed p → Clear s f p → Judged s f
       (passed s f p)
   unfolding passed lane_at
-  passed-facts Nowhere o k = tt
-  passed-facts (At c) o k = on-channel c o.0 (eqb-true _ _ (not-false _ k.row₃)) (lane_at s c (map f)) (first_found _ s.numbered) k.row₁₂
+  passed-facts None o k = tt
+  passed-facts (Some c) o k = on-channel c o.0 (eqb-true _ _ (not-false _ k.row₃)) (lane_at s c (map f)) (first_found _ s.numbered) k.row₁₂
 
   pub judge-facts : Judged s f (judge s f)
   unfolding judge refusals channel_at

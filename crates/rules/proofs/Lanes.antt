@@ -10,8 +10,8 @@ use lib.Seq.{length-take-le}
 use borrow.Author.Tests.{leb-true, leb-false, ltb-true, eqb-true}
 use Rattle.rules.specs.declared.Kind.{Kind}
 use Rattle.rules.specs.declared.Kind.TheVariants.{Packets, Access}
-use Rattle.rules.specs.declared.Place.{Place}
-use Rattle.rules.specs.declared.Place.TheVariants.{At, Nowhere}
+use Rattle.std.specs.Prelude.{Option}
+use Rattle.std.specs.Prelude.{Some, None}
 use Rattle.rules.specs.declared.Measure.{Measure}
 use Rattle.rules.specs.declared.Next.{Next}
 use Rattle.rules.specs.declared.Next.TheVariants.{Give, Skip, Keep, Lose}
@@ -207,15 +207,15 @@ module _ (longest : ℕ) where
       become-total (lead_fate longest on (measure (held.octets ++ xs)) (length held.octets) (length xs)) (unit_from held xs)
       ∙ length-append held.octets xs
 
-  packet-total : (held : DataUnit) (p : Place) (z : List ℕ) → total (packet_lane longest held p z) ≡ length held.octets + length z
+  packet-total : (held : DataUnit) (p : Option ℕ) (z : List ℕ) → total (packet_lane longest held p z) ≡ length held.octets + length z
   unfolding packet_lane walk
-  packet-total held (At p) z =
+  packet-total held (Some p) z =
       let a = lead-total false held (take p z) in
       let b = up_to-total (length (drop p z)) (drop p z) (le_refl _) in
       let c = length-append (take p z) (drop p z) in
       let d = ap length (take-append-drop p z) in
       both-total (lead longest false held (take p z)) (walk longest (drop p z)) (lead-held longest held (take p z)) ∙ omega (arith, a, b, c, d)
-  packet-total held Nowhere z = lead-total true held z
+  packet-total held None z = lead-total true held z
 
   portion-total : (finished begins : Bool) (held : DataUnit) (xs : List ℕ)
       → total (portion longest finished begins held xs) ≡ length held.octets + length xs
@@ -226,16 +226,16 @@ module _ (longest : ℕ) where
   portion-total finished false held xs =
       become-total (follow_fate longest finished (length held.octets) (length xs)) (unit_from held xs) ∙ length-append held.octets xs
 
-  access-total : (begins : Bool) (held : DataUnit) (p : Place) (z : List ℕ) → total (access_lane longest begins held p z) ≡ length held.octets + length z
+  access-total : (begins : Bool) (held : DataUnit) (p : Option ℕ) (z : List ℕ) → total (access_lane longest begins held p z) ≡ length held.octets + length z
   unfolding access_lane total joined
-  access-total begins held (At p) z =
+  access-total begins held (Some p) z =
       let a = portion-total true begins held (take (p + 1) z) in
       let b = length-take (p + 1) z in
       both-total (fills (length z - (p + 1))) (portion longest true begins held (take (p + 1) z)) refl ∙ omega (arith, a, b)
-  access-total begins held Nowhere z = portion-total false begins held z
+  access-total begins held None z = portion-total false begins held z
 
 -- Where every octet goes: held ones and those of the zone are handed out, held, idle, fill or dropped.
-pub lane-total : (k : Kind) (longest rule : ℕ) (held : DataUnit) (p : Place) (z : List ℕ)
+pub lane-total : (k : Kind) (longest rule : ℕ) (held : DataUnit) (p : Option ℕ) (z : List ℕ)
     → total (lane_step k longest rule held p z) ≡ length held.octets + length z
 unfolding lane_step
 lane-total Packets longest rule held p z = packet-total longest held p z
@@ -261,10 +261,10 @@ module _ (longest : ℕ) (one : 1 ≤ longest) where
       lead-cases (λ (f : Fate). few longest (become f (unit_from held xs))) longest on held.octets xs (λ h. omega arith) (omega arith)
       (λ g h. omega (arith, e)) (omega arith)
 
-  packet-below : (held : DataUnit) (p : Place) (z : List ℕ) → few longest (packet_lane longest held p z)
+  packet-below : (held : DataUnit) (p : Option ℕ) (z : List ℕ) → few longest (packet_lane longest held p z)
   unfolding packet_lane walk both
-  packet-below held (At p) z = up_to-below (length (drop p z)) (drop p z)
-  packet-below held Nowhere z = lead-below true held z
+  packet-below held (Some p) z = up_to-below (length (drop p z)) (drop p z)
+  packet-below held None z = lead-below true held z
 
   portion-below : (finished begins : Bool) (held : DataUnit) (xs : List ℕ) → few longest (portion longest finished begins held xs)
   unfolding portion both
@@ -275,12 +275,12 @@ module _ (longest : ℕ) (one : 1 ≤ longest) where
       follow-cases (λ (f : Fate). few longest (become f (unit_from held xs))) longest finished (length held.octets) (length xs)
       (λ h. omega arith) (λ h. omega (arith, e)) (omega arith)
 
-  access-below : (begins : Bool) (held : DataUnit) (p : Place) (z : List ℕ) → few longest (access_lane longest begins held p z)
+  access-below : (begins : Bool) (held : DataUnit) (p : Option ℕ) (z : List ℕ) → few longest (access_lane longest begins held p z)
   unfolding access_lane both
-  access-below begins held (At p) z = portion-below true begins held (take (p + 1) z)
-  access-below begins held Nowhere z = portion-below false begins held z
+  access-below begins held (Some p) z = portion-below true begins held (take (p + 1) z)
+  access-below begins held None z = portion-below false begins held z
 
-pub lane_below : (k : Kind) (longest rule : ℕ) (held : DataUnit) (p : Place) (z : List ℕ) → least k ≤ longest
+pub lane_below : (k : Kind) (longest rule : ℕ) (held : DataUnit) (p : Option ℕ) (z : List ℕ) → least k ≤ longest
     → few longest (lane_step k longest rule held p z)
 unfolding lane_step
 lane_below Packets longest rule held p z h = packet-below longest (omega arith) held p z
@@ -367,14 +367,14 @@ unfolding lead
 lead-sound longest on held xs s =
     become-sound (lead_fate longest on (measure (held.octets ++ xs)) (length held.octets) (length xs)) (unit_from held xs) (sound-from held s xs)
 
-pub lane-sound : (k : Kind) (longest rule : ℕ) (held : DataUnit) (p : Place) (z : List ℕ) → Sound held → MadeSound (lane_step k longest rule held p z)
+pub lane-sound : (k : Kind) (longest rule : ℕ) (held : DataUnit) (p : Option ℕ) (z : List ℕ) → Sound held → MadeSound (lane_step k longest rule held p z)
 unfolding lane_step packet_lane access_lane walk
-lane-sound Packets longest rule held (At p) z s =
+lane-sound Packets longest rule held (Some p) z s =
     both-sound _ _ (lead-sound longest false held (take p z) s) (up_to_sound longest (length (drop p z)) (drop p z))
-lane-sound Packets longest rule held Nowhere z s = lead-sound longest true held z s
-lane-sound Access longest rule held (At p) z s =
+lane-sound Packets longest rule held None z s = lead-sound longest true held z s
+lane-sound Access longest rule held (Some p) z s =
     both-sound _ _ (bare-sound 0 _ 0) (portion-sound longest true (rule =? 0b001) held (take (p + 1) z) s)
-lane-sound Access longest rule held Nowhere z s = portion-sound longest false (rule =? 0b001) held z s
+lane-sound Access longest rule held None z s = portion-sound longest false (rule =? 0b001) held z s
 
 -- ---- few units: each from the pointer on has two octets, and the lead ends one
 
@@ -397,16 +397,16 @@ unfolding portion both
 portion-few longest finished true held xs = become-few (unit_fate longest finished (length xs)) (unit_of xs)
 portion-few longest finished false held xs = become-few (follow_fate longest finished (length held.octets) (length xs)) (unit_from held xs)
 
-pub lane-few : (k : Kind) (longest rule : ℕ) (held : DataUnit) (p : Place) (z : List ℕ)
+pub lane-few : (k : Kind) (longest rule : ℕ) (held : DataUnit) (p : Option ℕ) (z : List ℕ)
     → 2 * length (lane_step k longest rule held p z).units ≤ 2 + length z
 unfolding lane_step packet_lane access_lane lead walk both
-lane-few Packets longest rule held (At p) z =
+lane-few Packets longest rule held (Some p) z =
     let a = become-few (lead_fate longest false (measure (held.octets ++ take p z)) (length held.octets) (length (take p z))) (unit_from held (take p z)) in
     let b = up_to_few longest (length (drop p z)) (drop p z) in
     let c = length-drop p z in
     let d = length-append (lead longest false held (take p z)).units (walk longest (drop p z)).units in
     omega (arith, a, b, c, d)
-lane-few Packets longest rule held Nowhere z =
+lane-few Packets longest rule held None z =
     let a = become-few (lead_fate longest true (measure (held.octets ++ z)) (length held.octets) (length z)) (unit_from held z) in omega (arith, a)
-lane-few Access longest rule held (At p) z = let a = portion-few longest true (rule =? 0b001) held (take (p + 1) z) in omega (arith, a)
-lane-few Access longest rule held Nowhere z = let a = portion-few longest false (rule =? 0b001) held z in omega (arith, a)
+lane-few Access longest rule held (Some p) z = let a = portion-few longest true (rule =? 0b001) held (take (p + 1) z) in omega (arith, a)
+lane-few Access longest rule held None z = let a = portion-few longest false (rule =? 0b001) held z in omega (arith, a)

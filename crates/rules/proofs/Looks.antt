@@ -11,8 +11,8 @@ use Rattle.rules.specs.declared.Class.{Class}
 use Rattle.rules.specs.declared.Looked.{Looked}
 use Rattle.rules.specs.declared.Passed.{Passed}
 use Rattle.rules.specs.declared.Taken.{Taken}
-use Rattle.rules.specs.declared.Place.{Place}
-use Rattle.rules.specs.declared.Place.TheVariants.{At, Nowhere}
+use Rattle.std.specs.Prelude.{Option}
+use Rattle.std.specs.Prelude.{Some, None}
 use Rattle.rules.specs.declared.Verdict.{Verdict}
 use Rattle.rules.specs.Tests.{at, given}
 use Rattle.rules.specs.Settings.{channel, lane, channel_of, reader_ok, with_expect}
@@ -128,9 +128,9 @@ pub pass_all : (n : ℕ) (r : Reader) (f h u c : List ℕ) → pass (replicate n
 unfolding pass left_out pass_by
 pass_all n r f h u c = ap (λ (b : Bool). pass_by b r f h u c) (go (look r f).channel)
   where
-    go : (p : Place) → at p (λ (k : ℕ). get_or (replicate n false) (channel r.setting k).vc false) ≡ false
-    go (At k) = get_d_alike n (channel r.setting k).vc false
-    go Nowhere = refl
+    go : (p : Option ℕ) → at p (λ (k : ℕ). get_or (replicate n false) (channel r.setting k).vc false) ≡ false
+    go (Some k) = get_d_alike n (channel r.setting k).vc false
+    go None = refl
 
 -- A valid state stays valid.
 pub pass_valid : (w : List Bool) (r : Reader) (f h u c : List ℕ) → reader_ok r ≡ true → reader_ok (pass w r f h u c).taken.state ≡ true

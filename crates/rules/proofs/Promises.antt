@@ -20,8 +20,8 @@ use Rattle.rules.specs.declared.Listener.{Listener}
 use Rattle.rules.specs.declared.Looked.{Looked}
 use Rattle.rules.specs.declared.Sender.{Sender}
 use Rattle.rules.specs.declared.Verdict.{Verdict}
-use Rattle.rules.specs.declared.Place.{Place}
-use Rattle.rules.specs.declared.Place.TheVariants.{At, Nowhere}
+use Rattle.std.specs.Prelude.{Option}
+use Rattle.std.specs.Prelude.{Some, None}
 use Rattle.rules.specs.Tests.{◌=?◌, none, Refusal, given}
 use Rattle.rules.specs.Settings.{channel, lane, setting_ok, fresh_reader, fresh_writer, no_reader, no_writer}
 use Rattle.rules.specs.Frames.{vc, map, bypass, command, count_in}
@@ -211,43 +211,43 @@ module _ (r : Reader) (f : List ℕ) where
   s = r.setting
 
   -- Of a frame of channel k: whether it is a repeat, and else whether it is a command or its map in no lane.
-  class-other : vc f =? 63 ≡ false → (k : ℕ) → channel_in s f ≡ k → (p : Place) → lane_at s k (map f) ≡ p → (t : Bool) → command f =? 1 ≡ t
+  class-other : vc f =? 63 ≡ false → (k : ℕ) → channel_in s f ≡ k → (p : Option ℕ) → lane_at s k (map f) ≡ p → (t : Bool) → command f =? 1 ≡ t
       → (b : Bool) → repeats_at r k (count_in (channel s k) f) ≡ b → class_in r f ≡ cond b Class.Repeat (cond (t || none p) Class.Counted Class.Read)
   unfolding class_in count_of
   class-other e k q p o t a b z = rw (e, q, o, a, z)
 
-  lane-passes : vc f =? 63 ≡ false → (k : ℕ) → channel_in s f ≡ k → (p : Place) → lane_at s k (map f) ≡ p
+  lane-passes : vc f =? 63 ≡ false → (k : ℕ) → channel_in s f ≡ k → (p : Option ℕ) → lane_at s k (map f) ≡ p
       → Found (λ (l : ℕ). (lane s l).channel =? k && (lane s l).map =? map f) s.numbered p → Passes r f (again r f (on_channel f k p))
   unfolding again on_channel lane_in
-  lane-passes e k q Nowhere o i = go (command f =? 1) refl (repeats_at r k (count_in (channel s k) f)) refl
+  lane-passes e k q None o i = go (command f =? 1) refl (repeats_at r k (count_in (channel s k) f)) refl
     where
       go : (t : Bool) → command f =? 1 ≡ t → (b : Bool) → repeats_at r k (count_in (channel s k) f) ≡ b
           → Passes r f (cond b (Verdict.Repeat k) (Verdict.Counted k))
-      go t a true z = (q, class-other e k q Nowhere o t a true z)
-      go true a false z = (q, class-other e k q Nowhere o true a false z)
-      go false a false z = (q, class-other e k q Nowhere o false a false z)
-  lane-passes e k q (At l) o i = go (command f =? 1) refl (repeats_at r k (count_in (channel s k) f)) refl
+      go t a true z = (q, class-other e k q None o t a true z)
+      go true a false z = (q, class-other e k q None o true a false z)
+      go false a false z = (q, class-other e k q None o false a false z)
+  lane-passes e k q (Some l) o i = go (command f =? 1) refl (repeats_at r k (count_in (channel s k) f)) refl
     where
       on : (lane s l).channel ≡ k
       on = eqb-true _ _ (and_left _ _ i.1)
 
       go : (t : Bool) → command f =? 1 ≡ t → (b : Bool) → repeats_at r k (count_in (channel s k) f) ≡ b
           → Passes r f (again r f (cond t (Verdict.Counted k) (Verdict.Read l)))
-      go true a true z = rw z (q, class-other e k q (At l) o true a true z)
-      go true a false z = rw z (q, class-other e k q (At l) o true a false z)
-      go false a true z = rw (on, z) (q, class-other e k q (At l) o false a true z)
-      go false a false z = rw (on, z) (q ∙ sym on, rw q (ap placed o), class-other e k q (At l) o false a false z)
+      go true a true z = rw z (q, class-other e k q (Some l) o true a true z)
+      go true a false z = rw z (q, class-other e k q (Some l) o true a false z)
+      go false a true z = rw (on, z) (q, class-other e k q (Some l) o false a true z)
+      go false a false z = rw (on, z) (q ∙ sym on, rw q (ap placed o), class-other e k q (Some l) o false a false z)
 
-  channel-passes : Good s → (p : Place) → channel_at s (vc f) (bypass f) ≡ p
+  channel-passes : Good s → (p : Option ℕ) → channel_at s (vc f) (bypass f) ≡ p
       → Found (λ (k : ℕ). (channel s k).vc =? vc f && (channel s k).service =? bypass f) s.listed p → Clear s f p
       → Passes r f (again r f (passed s f p))
   unfolding passed channel_in lane_at again
-  channel-passes g Nowhere q i k = go (vc f =? 63) refl k.row₉
+  channel-passes g None q i k = go (vc f =? 63) refl k.row₉
     where
       go : (t : Bool) → vc f =? 63 ≡ t → (not t && true) ≡ false → class_in r f ≡ Class.Idle
       go true e z = unfold class_in in rw e
       go false e z = absurd (true≢false z)
-  channel-passes g (At j) q i k =
+  channel-passes g (Some j) q i k =
       let v : (channel s j).vc ≡ vc f = eqb-true _ _ (and_left _ _ i.1) in
       lane-passes (ne_eqb (vc f) 63 (λ (e : vc f ≡ 63). omega (arith, v, e, (g.channels j i.0).vc))) j (ap placed q) (lane_at s j (map f)) refl
       (first_found _ s.numbered)
@@ -391,7 +391,7 @@ module _ (r : Reader) (f : List ℕ) where
       let c : a.channel ≡ b.channel = p.channel ∙ rw k (sym q.channel) in
       let l : a.lane ≡ b.lane = p.lane ∙ rw k (sym q.lane) in
       ap₂ (λ (x : Class) (y : ℕ). record { class = x; missing = y; channel = a.channel; lane = a.lane }) k m
-      ∙ ap₂ (λ (x y : Place). record { class = b.class; missing = b.missing; channel = x; lane = y }) c l
+      ∙ ap₂ (λ (x y : Option ℕ). record { class = b.class; missing = b.missing; channel = x; lane = y }) c l
 
   pub look-by : (a : Looked) → a ≡ look r f → LookGives r f a
   look-by a e = rw e look-gives

@@ -11,7 +11,7 @@ use Rattle.rules.specs.declared.Expects.{Expects}
 use Rattle.rules.specs.declared.Expect.{Expect}
 use Rattle.rules.specs.declared.Reader.{Reader}
 use Rattle.rules.specs.declared.Class.{Class}
-use Rattle.rules.specs.declared.Place.TheVariants.{At}
+use Rattle.std.specs.Prelude.{Some}
 use Rattle.rules.specs.declared.Verdict.{Verdict}
 use Rattle.rules.specs.Settings.{count_at, channel, lane, expect_on, expect, expecting, reader_ok}
 use Rattle.rules.specs.Frames.{count_in}
@@ -36,12 +36,12 @@ count-below s c f o = num-part (channel s c).octets (drop count_at f) (octets_dr
 
 module _ (r : Reader) (f : List ℕ) where
   -- "Missing is now at most 256^n - 2", of a look's answer; a read's is the same (`Looks.same-answers`).
-  pub missing-few : Octets f → (c : ℕ) → (look r f).channel ≡ At c → (look r f).missing + 2 ≤ 256 ^ (channel r.setting c).octets
+  pub missing-few : Octets f → (c : ℕ) → (look r f).channel ≡ Some c → (look r f).missing + 2 ≤ 256 ^ (channel r.setting c).octets
   unfolding look on_look repeats_at missing_at
   missing-few o c = rw (looked-cond r f) (valid (reader_ok r) refl)
     where
       Few : Verdict → Type 0
-      Few v = (on_look v r f).channel ≡ At c → (on_look v r f).missing + 2 ≤ 256 ^ (channel r.setting c).octets
+      Few v = (on_look v r f).channel ≡ Some c → (on_look v r f).missing + 2 ≤ 256 ^ (channel r.setting c).octets
 
       on : GoodReader r → (d : ℕ) → d < r.setting.listed → d ≡ c → repeats_on r f d ≡ false
           → missing_at r d (count_in (channel r.setting d) f) + 2 ≤ 256 ^ (channel r.setting c).octets

@@ -7,8 +7,8 @@ use native.Mathlib.Omega.{arith}
 use mathlib.Core.Bool.{Bool, true, false, cond, ◌&&◌, ◌||◌, and-eq-true_iff, true≢false}
 use mathlib.Core.List.{List, [], ◌∷◌}
 use lib.ListN.{get_or, replicate}
-use Rattle.rules.specs.declared.Place.{Place}
-use Rattle.rules.specs.declared.Place.TheVariants.{At, Nowhere}
+use Rattle.std.specs.Prelude.{Option}
+use Rattle.std.specs.Prelude.{Some, None}
 use Rattle.rules.specs.Tests.{all, every, before, first, Refusal, given}
 
 -- Two numbers are in one order or the other.
@@ -81,47 +81,47 @@ module _ (p : ℕ → Bool) where
 
   -- ---- first
 
-  before-none : (q r : Place) → q ≡ Nowhere → before q r ≡ r
-  before-none q r e = ap (λ (x : Place). before x r) e
+  before-none : (q r : Option ℕ) → q ≡ None → before q r ≡ r
+  before-none q r e = ap (λ (x : Option ℕ). before x r) e
 
-  pub first-none : (n : ℕ) → ((i : ℕ) → i < n → p i ≡ false) → first n p ≡ Nowhere
+  pub first-none : (n : ℕ) → ((i : ℕ) → i < n → p i ≡ false) → first n p ≡ None
   unfolding first
   first-none zero h = refl
   first-none (suc n) h =
-      before-none (first n p) _ (first-none n (λ i l. h i (omega arith))) ∙ ap (λ (t : Bool). cond t (At n) Nowhere) (h n (omega arith))
+      before-none (first n p) _ (first-none n (λ i l. h i (omega arith))) ∙ ap (λ (t : Bool). cond t (Some n) None) (h n (omega arith))
 
-  pub first-at : (n i : ℕ) → i < n → p i ≡ true → ((j : ℕ) → j < i → p j ≡ false) → first n p ≡ At i
+  pub first-at : (n i : ℕ) → i < n → p i ≡ true → ((j : ℕ) → j < i → p j ≡ false) → first n p ≡ Some i
   unfolding first
   first-at zero i l e h = absurd (not-suc-le-zero l)
   first-at (suc n) i l e h =
       same i n
       (λ q.
       before-none (first n p) _ (first-none n (λ j k. h j (omega arith)))
-      ∙ ap (λ (t : Bool). cond t (At n) Nowhere) (ap p (sym q) ∙ e) ∙ ap At (sym q))
-      (λ q. ap (λ (x : Place). before x (cond (p n) (At n) Nowhere)) (first-at n i (omega arith) e h))
+      ∙ ap (λ (t : Bool). cond t (Some n) None) (ap p (sym q) ∙ e) ∙ ap Some (sym q))
+      (λ q. ap (λ (x : Option ℕ). before x (cond (p n) (Some n) None)) (first-at n i (omega arith) e h))
 
   -- What is known of the place found.
-  abbrev pub Found : ℕ → Place → Type 0
-  Found n (At i) = (i < n) × (p i ≡ true)
-  Found n Nowhere = Unit {0}
+  abbrev pub Found : ℕ → Option ℕ → Type 0
+  Found n (Some i) = (i < n) × (p i ≡ true)
+  Found n None = Unit {0}
 
   pub first_found : (n : ℕ) → Found n (first n p)
   unfolding first
   first_found zero = tt
   first_found (suc n) = go (first n p) (first_found n) (p n) refl
     where
-      go : (q : Place) → Found n q → (t : Bool) → p n ≡ t → Found (suc n) (before q (cond t (At n) Nowhere))
-      go (At i) h t e = (omega arith, h.1)
-      go Nowhere h true e = (omega arith, e)
-      go Nowhere h false e = tt
+      go : (q : Option ℕ) → Found n q → (t : Bool) → p n ≡ t → Found (suc n) (before q (cond t (Some n) None))
+      go (Some i) h t e = (omega arith, h.1)
+      go None h true e = (omega arith, e)
+      go None h false e = tt
 
 -- A place that was found is below n, and passes.
-pub found_at : (p : ℕ → Bool) (n i : ℕ) → first n p ≡ At i → (i < n) × (p i ≡ true)
+pub found_at : (p : ℕ → Bool) (n i : ℕ) → first n p ≡ Some i → (i < n) × (p i ≡ true)
 found_at p n i e = go (first n p) (first_found p n) e
   where
-    go : (q : Place) → Found p n q → q ≡ At i → (i < n) × (p i ≡ true)
-    go (At j) h k = let m : j ≡ i = cc in rw (sym m) h
-    go Nowhere h k = let z : ◌≡◌ {A = ℕ} 0 1 = cc in absurd (omega arith)
+    go : (q : Option ℕ) → Found p n q → q ≡ Some i → (i < n) × (p i ≡ true)
+    go (Some j) h k = let m : j ≡ i = cc in rw (sym m) h
+    go None h k = let z : ◌≡◌ {A = ℕ} 0 1 = cc in absurd (omega arith)
 
 -- ---- the refusal given
 

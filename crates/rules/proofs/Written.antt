@@ -14,8 +14,8 @@ use Rattle.rules.specs.declared.Lane.{Lane}
 use Rattle.rules.specs.declared.Setting.{Setting}
 use Rattle.rules.specs.declared.Writer.{Writer}
 use Rattle.rules.specs.declared.Outcome.TheVariants.{Done}
-use Rattle.rules.specs.declared.Place.{Place}
-use Rattle.rules.specs.declared.Place.TheVariants.{At, Nowhere}
+use Rattle.std.specs.Prelude.{Option}
+use Rattle.std.specs.Prelude.{Some, None}
 use Rattle.rules.specs.declared.Verdict.TheVariants.{Counted, Read}
 use Rattle.rules.specs.Tests.{◌<?◌, ◌=?◌, ◌≠?◌, given}
 use Rattle.rules.specs.Octets.{be, num, Field, field, widths, packed, bits, flag, check_of}
@@ -324,7 +324,7 @@ module _ (s : Setting) (g : Good s) (l : ℕ) (lh : l < s.numbered) (k : ℕ) (k
   unfolding data_wrong zone
   right = rw (is-length, is-rule, is-upid, is_pointer, hf, hq, same a.upid a.upid refl)
 
-  pub nothing-applies : Clear s whole (At a.channel)
+  pub nothing-applies : Clear s whole (Some a.channel)
   nothing-applies =
       record {
         row₃ = same _ _ is-length;
@@ -339,12 +339,12 @@ module _ (s : Setting) (g : Good s) (l : ℕ) (lh : l < s.numbered) (k : ℕ) (k
         row₁₂ = rw (is-map, gl.found, is-command, right);
       }
 
-  found : channel_at s (vc whole) (bypass whole) ≡ At a.channel
+  found : channel_at s (vc whole) (bypass whole) ≡ Some a.channel
   found = rw (is-vc, is-bypass) gc.found
 
   none-refuses : given (refusals s whole) ≡ 0
   unfolding refusals
-  none-refuses = ap (λ (q : Place). given (refusals_at s whole q)) found ∙ none-given nothing-applies
+  none-refuses = ap (λ (q : Option ℕ). given (refusals_at s whole q)) found ∙ none-given nothing-applies
 
   -- The reader's checks give the lane that the frame was written on.
   pub is_read : judge s whole ≡ Read l
@@ -375,7 +375,7 @@ pub pointer_small : (z n : ℕ) → z ≤ 4096 → pointer_to (inside z n) < 655
 unfolding inside
 pointer_small z n h = go (n <? z) refl
   where
-    go : (t : Bool) → n <? z ≡ t → pointer_to (cond t (At n) Nowhere) < 65536
+    go : (t : Bool) → n <? z ≡ t → pointer_to (cond t (Some n) None) < 65536
     go true e = let q : n < z = ltb-true _ _ e in omega arith
     go false e = omega arith
 
@@ -383,7 +383,7 @@ pointer_fits : (z n : ℕ) → (pointer_to (inside z n) <? z || pointer_to (insi
 unfolding inside
 pointer_fits z n = go (n <? z) refl (0xFFFF <? z)
   where
-    go : (t : Bool) → n <? z ≡ t → (u : Bool) → (pointer_to (cond t (At n) Nowhere) <? z || pointer_to (cond t (At n) Nowhere) =? 0xFFFF) ≡ true
+    go : (t : Bool) → n <? z ≡ t → (u : Bool) → (pointer_to (cond t (Some n) None) <? z || pointer_to (cond t (Some n) None) =? 0xFFFF) ≡ true
     go true e u = rw e
     go false e u = or-true (0xFFFF <? z)
 

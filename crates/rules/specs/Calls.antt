@@ -13,7 +13,7 @@ use Rattle.rules.specs.declared.Taken.{Taken}
 use Rattle.rules.specs.declared.Listener.{Listener}
 use Rattle.rules.specs.declared.Sender.{Sender}
 use Rattle.rules.specs.declared.Looked.{Looked}
-use Rattle.rules.specs.declared.Place.TheVariants.{At, Nowhere}
+use Rattle.std.specs.Prelude.{Some, None}
 use Rattle.rules.specs.declared.Verdict.{Verdict}
 use Rattle.rules.specs.declared.Gap.{Gap}
 use Rattle.rules.specs.Tests.{◌≤?◌, ◌<?◌, ◌≠?◌, Refusal, refuse, given}
@@ -212,22 +212,22 @@ missing_at r c k = missing (channel r.setting c).octets (expect r c) k
 
 -- A class of no channel and no lane.
 abbrev pub nowhere : Class → Looked
-nowhere k = record { class = k; missing = 0; channel = Nowhere; lane = Nowhere }
+nowhere k = record { class = k; missing = 0; channel = None; lane = None }
 
 -- "Class and missing", and whose the frame is.
 unfoldable pub on_look : Verdict → Reader → List ℕ → Looked
 on_look (Verdict.Refused n) r f = nowhere (Class.Refused n)
 on_look Verdict.Idle r f = nowhere Class.Idle
 on_look (Verdict.Counted c) r f =
-    record { class = Class.Counted; missing = missing_at r c (count_in (channel r.setting c) f); channel = At c; lane = Nowhere }
+    record { class = Class.Counted; missing = missing_at r c (count_in (channel r.setting c) f); channel = Some c; lane = None }
 on_look (Verdict.Read l) r f =
     record {
       class = Class.Read;
       missing = missing_at r (lane r.setting l).channel (count_in (channel_of r.setting l) f);
-      channel = At (lane r.setting l).channel;
-      lane = At l;
+      channel = Some (lane r.setting l).channel;
+      lane = Some l;
     }
-on_look (Verdict.Repeat c) r f = record { class = Class.Repeat; missing = 0; channel = At c; lane = Nowhere }
+on_look (Verdict.Repeat c) r f = record { class = Class.Repeat; missing = 0; channel = Some c; lane = None }
 
 unfoldable pub look : Reader → List ℕ → Looked
 look r f = on_look (looked r f) r f

@@ -6,8 +6,8 @@ use Rattle.rules.specs.declared.Setting.{Setting}
 use Rattle.rules.specs.declared.Reader.{Reader}
 use Rattle.rules.specs.declared.Writer.{Writer}
 use Rattle.rules.specs.declared.Looked.{Looked}
-use Rattle.rules.specs.declared.Place.{Place}
-use Rattle.rules.specs.declared.Place.TheVariants.{At, Nowhere}
+use Rattle.std.specs.Prelude.{Option}
+use Rattle.std.specs.Prelude.{Some, None}
 use Rattle.rules.specs.Tests.{given}
 use Rattle.rules.specs.Octets.{check_of}
 use Rattle.rules.specs.Settings.{no_channel, no_lane, no_reader, no_writer, fresh_reader, held_by, span_by, with_expect, with_slot}
@@ -63,16 +63,16 @@ unfoldable pub shown : Made → List (List ℕ)
 shown m = octets_of m.units ++ (m.held.octets ∷ (m.idle ∷ m.fill ∷ m.dropped ∷ []) ∷ [])
 
 -- A packet lane and an access lane whose longest units have 64 and 42 octets: what is held of one frame, what the pointer points to, the zone.
-abbrev pub packet_step : List ℕ → Place → List ℕ → Made
+abbrev pub packet_step : List ℕ → Option ℕ → List ℕ → Made
 packet_step held p z = lane_step Packets 64 0b000 (unit_of held) p z
 
-abbrev pub unit_step : ℕ → List ℕ → Place → List ℕ → Made
+abbrev pub unit_step : ℕ → List ℕ → Option ℕ → List ℕ → Made
 unit_step rule held p z = lane_step Access 42 rule (unit_of held) p z
 
-abbrev pub of_packets : List ℕ → Place → List ℕ → List (List ℕ)
+abbrev pub of_packets : List ℕ → Option ℕ → List ℕ → List (List ℕ)
 of_packets held p z = shown (packet_step held p z)
 
-abbrev pub of_units : ℕ → List ℕ → Place → List ℕ → List (List ℕ)
+abbrev pub of_units : ℕ → List ℕ → Option ℕ → List ℕ → List (List ℕ)
 of_units rule held p z = shown (unit_step rule held p z)
 
 -- The numbers of the refusals given.
@@ -92,42 +92,42 @@ errors =
     ∷ case 2 (each answer (reads paired (frame₀ ∷ packet_frame 7 1 0 fill21 ∷ recounted 2 frame₁ ∷ [])))
     ((103 ∷ 1 ∷ 10 ∷ 0 ∷ 0 ∷ 0 ∷ 0 ∷ []) ∷ (102 ∷ 0 ∷ 0 ∷ 0 ∷ 0 ∷ 0 ∷ 0 ∷ []) ∷ (103 ∷ 1 ∷ 18 ∷ 0 ∷ 14 ∷ 0 ∷ 0 ∷ []) ∷ [])
     -- "Taking FFFF as 'the packet ended here'." 21 of 60 octets are held.
-    ∷ case 3 (of_packets (take 21 (packet_of 60)) Nowhere data21) (take 42 (packet_of 60) ∷ (0 ∷ 0 ∷ 0 ∷ []) ∷ [])
+    ∷ case 3 (of_packets (take 21 (packet_of 60)) None data21) (take 42 (packet_of 60) ∷ (0 ∷ 0 ∷ 0 ∷ []) ∷ [])
     -- "One counter for both services of a virtual channel."
     ∷ case 4 (each answer (reads paired (frame₀ ∷ access_frame 0 1 20 data21 ∷ frame₁ ∷ [])))
     ((103 ∷ 1 ∷ 10 ∷ 0 ∷ 0 ∷ 0 ∷ 0 ∷ []) ∷ (103 ∷ 1 ∷ 21 ∷ 0 ∷ 0 ∷ 0 ∷ 0 ∷ []) ∷ (103 ∷ 1 ∷ 18 ∷ 0 ∷ 14 ∷ 0 ∷ 0 ∷ []) ∷ [])
     -- "Believing the held packet's length against the pointer and reading on from a false start." Of 18 octets 11 are held, and the
     -- pointer is 9.
-    ∷ case 5 (of_packets (take 11 packet₁) (At 9) (drop 11 packet₁ ++ replicate 14 0xE0)) ([] ∷ (12 ∷ 0 ∷ 20 ∷ []) ∷ []) ∷ []
+    ∷ case 5 (of_packets (take 11 packet₁) (Some 9) (drop 11 packet₁ ++ replicate 14 0xE0)) ([] ∷ (12 ∷ 0 ∷ 20 ∷ []) ∷ []) ∷ []
 
 -- ---- edges of the lanes
 
 unfoldable pub edges : List Case
 edges =
     -- Pointer 0 with octets held: they are dropped. With nothing held it is no fault.
-    case 1 (of_packets (take 11 packet₁) (At 0) fill21 ++ of_packets [] (At 0) fill21) ([] ∷ (21 ∷ 0 ∷ 11 ∷ []) ∷ [] ∷ (21 ∷ 0 ∷ 0 ∷ []) ∷ [])
+    case 1 (of_packets (take 11 packet₁) (Some 0) fill21 ++ of_packets [] (Some 0) fill21) ([] ∷ (21 ∷ 0 ∷ 11 ∷ []) ∷ [] ∷ (21 ∷ 0 ∷ 0 ∷ []) ∷ [])
     -- FFFF, and the packet ends sooner; FFFF, and it ends exactly with the zone; FFFF with nothing held.
-    ∷ case 2 (of_packets (take 11 packet₁) Nowhere (drop 11 packet₁ ++ replicate 14 0x77) ++ (of_packets (take 42 (packet_of 63)) Nowhere data21 ++ of_packets [] Nowhere fill21))
+    ∷ case 2 (of_packets (take 11 packet₁) None (drop 11 packet₁ ++ replicate 14 0x77) ++ (of_packets (take 42 (packet_of 63)) None data21 ++ of_packets [] None fill21))
     ([] ∷ (0 ∷ 0 ∷ 32 ∷ []) ∷ packet_of 63 ∷ [] ∷ (0 ∷ 0 ∷ 0 ∷ []) ∷ [] ∷ (0 ∷ 0 ∷ 21 ∷ []) ∷ [])
     -- Held octets that cannot be read, and held octets that are an idle packet already.
-    ∷ case 3 (of_packets (0x20 ∷ []) (At 7) fill21 ++ of_packets (0xE0 ∷ []) (At 7) fill21) ([] ∷ (14 ∷ 0 ∷ 8 ∷ []) ∷ [] ∷ (14 ∷ 0 ∷ 8 ∷ []) ∷ [])
+    ∷ case 3 (of_packets (0x20 ∷ []) (Some 7) fill21 ++ of_packets (0xE0 ∷ []) (Some 7) fill21) ([] ∷ (14 ∷ 0 ∷ 8 ∷ []) ∷ [] ∷ (14 ∷ 0 ∷ 8 ∷ []) ∷ [])
     -- Fewer than six octets of a packet, and a pointer above 0.
-    ∷ case 4 (of_packets (take 2 packet₀) (At 3) fill21) ([] ∷ (18 ∷ 0 ∷ 5 ∷ []) ∷ [])
+    ∷ case 4 (of_packets (take 2 packet₀) (Some 3) fill21) ([] ∷ (18 ∷ 0 ∷ 5 ∷ []) ∷ [])
     -- An unreadable first octet drops itself and the rest; idle packets before it count.
-    ∷ case 5 (of_packets [] (At 0) ((0xE0 ∷ 0xE0 ∷ 0x20 ∷ []) ++ replicate 18 0xE0)) ([] ∷ (2 ∷ 0 ∷ 19 ∷ []) ∷ [])
+    ∷ case 5 (of_packets [] (Some 0) ((0xE0 ∷ 0xE0 ∷ 0x20 ∷ []) ++ replicate 18 0xE0)) ([] ∷ (2 ∷ 0 ∷ 19 ∷ []) ∷ [])
     -- A packet of 64 is held, one of 65 is dropped at once, and so is an idle one of 65.
-    ∷ case 6 (of_packets [] (At 0) (take 21 (packet_of 64)) ++ (of_packets [] (At 0) (take 21 (packet_of 65)) ++ of_packets [] (At 0) (0x07 ∷ 0xFF ∷ drop 2 (take 21 (packet_of 65)))))
+    ∷ case 6 (of_packets [] (Some 0) (take 21 (packet_of 64)) ++ (of_packets [] (Some 0) (take 21 (packet_of 65)) ++ of_packets [] (Some 0) (0x07 ∷ 0xFF ∷ drop 2 (take 21 (packet_of 65)))))
     (take 21 (packet_of 64) ∷ (0 ∷ 0 ∷ 0 ∷ []) ∷ [] ∷ (0 ∷ 0 ∷ 21 ∷ []) ∷ [] ∷ (0 ∷ 0 ∷ 21 ∷ []) ∷ [])
     -- The longest binds a packet that ends with the lead too: 64 octets are handed out, 65 are not.
-    ∷ case 7 (of_packets (take 63 (packet_of 64)) (At 1) (0x77 ∷ replicate 20 0xE0) ++ of_packets (take 63 (packet_of 65)) (At 2) (0x77 ∷ 0x77 ∷ replicate 19 0xE0))
+    ∷ case 7 (of_packets (take 63 (packet_of 64)) (Some 1) (0x77 ∷ replicate 20 0xE0) ++ of_packets (take 63 (packet_of 65)) (Some 2) (0x77 ∷ 0x77 ∷ replicate 19 0xE0))
     (packet_of 64 ∷ [] ∷ (20 ∷ 0 ∷ 0 ∷ []) ∷ [] ∷ (19 ∷ 0 ∷ 65 ∷ []) ∷ [])
     -- Three octets of a packet at the zone's end are held, and the packet is finished in the next frame.
-    ∷ case 8 (of_packets [] (At 0) (packet₁ ++ take 3 packet₀) ++ of_packets (take 3 packet₀) (At 7) (drop 3 packet₀ ++ replicate 14 0xE0))
+    ∷ case 8 (of_packets [] (Some 0) (packet₁ ++ take 3 packet₀) ++ of_packets (take 3 packet₀) (Some 7) (drop 3 packet₀ ++ replicate 14 0xE0))
     (packet₁ ∷ take 3 packet₀ ∷ (0 ∷ 0 ∷ 0 ∷ []) ∷ packet₀ ∷ [] ∷ (14 ∷ 0 ∷ 0 ∷ []) ∷ [])
     -- An idle packet over two frames counts as idle when it is finished.
-    ∷ case 9 (of_packets (0x07 ∷ 0xFF ∷ 0xC0 ∷ []) (At 7) (0x00 ∷ 0x00 ∷ 0x03 ∷ replicate 4 0x77 ++ replicate 14 0xE0)) ([] ∷ (24 ∷ 0 ∷ 0 ∷ []) ∷ [])
+    ∷ case 9 (of_packets (0x07 ∷ 0xFF ∷ 0xC0 ∷ []) (Some 7) (0x00 ∷ 0x00 ∷ 0x03 ∷ replicate 4 0x77 ++ replicate 14 0xE0)) ([] ∷ (24 ∷ 0 ∷ 0 ∷ []) ∷ [])
     -- 010 with nothing held; 001 over held octets; 42 octets finished, and not; 43 octets.
-    ∷ case 10 (of_units 0b010 [] (At 4) data21 ++ (of_units 0b001 data21 (At 20) data21 ++ (of_units 0b010 data21 (At 20) data21 ++ (of_units 0b010 data21 Nowhere data21 ++ of_units 0b010 (0x77 ∷ data21) (At 20) data21))))
+    ∷ case 10 (of_units 0b010 [] (Some 4) data21 ++ (of_units 0b001 data21 (Some 20) data21 ++ (of_units 0b010 data21 (Some 20) data21 ++ (of_units 0b010 data21 None data21 ++ of_units 0b010 (0x77 ∷ data21) (Some 20) data21))))
     ([] ∷ (0 ∷ 16 ∷ 5 ∷ []) ∷ data21 ∷ [] ∷ (0 ∷ 0 ∷ 21 ∷ []) ∷ replicate 42 0x77 ∷ [] ∷ (0 ∷ 0 ∷ 0 ∷ []) ∷ [] ∷ (0 ∷ 0 ∷ 42 ∷ []) ∷ [] ∷ (0 ∷ 0 ∷ 43 ∷ []) ∷ [])
     -- A command frame after a gap is counted, and its channel's lane drops what it holds; an idle frame changes nothing.
     ∷ case 11 (each answer (reads paired (access_frame 0 1 0xFFFF data21 ∷ forged (2 ∷ 3 ∷ []) (0xA7 ∷ 0xE0 ∷ []) frame₀ ∷ command_frame 3 ∷ [])))
@@ -150,8 +150,8 @@ edges =
     ((0 ∷ 12 ∷ 0 ∷ 12 ∷ 12 ∷ 0 ∷ []) ∷ [])
     -- "Low 11 bits ... all ones": with ten of them, or with the other ten, a packet is not idle.
     ∷ case 14
-    (of_packets [] (At 0) ((0x03 ∷ 0xFF ∷ drop 2 (packet_of 10)) ++ replicate 11 0xE0)
-    ++ of_packets [] (At 0) ((0x07 ∷ 0xFE ∷ drop 2 (packet_of 10)) ++ replicate 11 0xE0))
+    (of_packets [] (Some 0) ((0x03 ∷ 0xFF ∷ drop 2 (packet_of 10)) ++ replicate 11 0xE0)
+    ++ of_packets [] (Some 0) ((0x07 ∷ 0xFE ∷ drop 2 (packet_of 10)) ++ replicate 11 0xE0))
     ((0x03 ∷ 0xFF ∷ drop 2 (packet_of 10)) ∷ [] ∷ (11 ∷ 0 ∷ 0 ∷ []) ∷ (0x07 ∷ 0xFE ∷ drop 2 (packet_of 10)) ∷ [] ∷ (11 ∷ 0 ∷ 0 ∷ []) ∷ []) ∷ []
 
 -- ---- frames sent twice (document 02, A3)
@@ -232,22 +232,22 @@ unfoldable pub spans : List Case
 spans =
     -- The frame that ends a unit counts. One that ends a packet and begins the next, which is whole, or is held; one that carries a packet on.
     case 1
-    (spans_of (packet_step (take 3 packet₀) (At 7) (drop 3 packet₀ ++ packet₀ ++ replicate 4 0xE0))
-    ∷ spans_of (packet_step (take 3 packet₀) (At 7) (drop 3 packet₀ ++ take 14 packet₁))
-    ∷ spans_of (packet_step (take 21 (packet_of 60)) Nowhere data21) ∷ [])
+    (spans_of (packet_step (take 3 packet₀) (Some 7) (drop 3 packet₀ ++ packet₀ ++ replicate 4 0xE0))
+    ∷ spans_of (packet_step (take 3 packet₀) (Some 7) (drop 3 packet₀ ++ take 14 packet₁))
+    ∷ spans_of (packet_step (take 21 (packet_of 60)) None data21) ∷ [])
     ((2 ∷ 1 ∷ 0 ∷ []) ∷ (2 ∷ 1 ∷ []) ∷ (2 ∷ []) ∷ [])
     -- What is dropped, and what was idle, leaves no span: pointer 0; idle packets over two frames, the second of which ends with the zone; 010 with nothing held;
     -- a unit that reaches the longest.
     ∷ case 2
-    (spans_of (packet_step (take 11 packet₁) (At 0) fill21)
-    ∷ spans_of (packet_step (0x07 ∷ 0xFF ∷ 0xC0 ∷ []) (At 7) (0x00 ∷ 0x00 ∷ 0x03 ∷ replicate 4 0x77 ++ replicate 14 0xE0))
-    ∷ spans_of (packet_step (0x07 ∷ 0xFF ∷ 0xC0 ∷ []) Nowhere (0x00 ∷ 0x00 ∷ 0x11 ∷ replicate 18 0x77))
-    ∷ spans_of (unit_step 0b010 [] (At 4) data21) ∷ spans_of (unit_step 0b010 data21 Nowhere data21) ∷ [])
+    (spans_of (packet_step (take 11 packet₁) (Some 0) fill21)
+    ∷ spans_of (packet_step (0x07 ∷ 0xFF ∷ 0xC0 ∷ []) (Some 7) (0x00 ∷ 0x00 ∷ 0x03 ∷ replicate 4 0x77 ++ replicate 14 0xE0))
+    ∷ spans_of (packet_step (0x07 ∷ 0xFF ∷ 0xC0 ∷ []) None (0x00 ∷ 0x00 ∷ 0x11 ∷ replicate 18 0x77))
+    ∷ spans_of (unit_step 0b010 [] (Some 4) data21) ∷ spans_of (unit_step 0b010 data21 None data21) ∷ [])
     ((0 ∷ []) ∷ (0 ∷ []) ∷ (0 ∷ []) ∷ (0 ∷ []) ∷ (0 ∷ []) ∷ [])
     -- 001 over held octets begins anew, finished and not; 010 follows them, finished and not.
     ∷ case 3
-    (spans_of (unit_step 0b001 data21 (At 20) data21) ∷ spans_of (unit_step 0b001 data21 Nowhere data21) ∷ spans_of (unit_step 0b010 data21 (At 20) data21)
-    ∷ spans_of (unit_step 0b010 (take 20 data21) Nowhere data21) ∷ [])
+    (spans_of (unit_step 0b001 data21 (Some 20) data21) ∷ spans_of (unit_step 0b001 data21 None data21) ∷ spans_of (unit_step 0b010 data21 (Some 20) data21)
+    ∷ spans_of (unit_step 0b010 (take 20 data21) None data21) ∷ [])
     ((1 ∷ 0 ∷ []) ∷ (1 ∷ []) ∷ (2 ∷ 0 ∷ []) ∷ (2 ∷ []) ∷ [])
     -- "A held span exceeds the octets held, or is 0 while some are": 1, of a read and of a look; 3 otherwise, for the frame is short. A slot of no lane is not
     -- judged.
@@ -331,9 +331,9 @@ abbrev pub read_refusal : Reader → ℕ → ℕ → ℕ → ℕ
 read_refusal r h u c = class_refusal (read r (take 31 frame₀) (replicate h 0) (replicate u 0) (replicate c 0)).taken.answer.class
 
 -- A look's class and missing, and the places of channel and lane, each and one; 0 for none.
-abbrev pub place_shown : Place → ℕ
-place_shown (At i) = suc i
-place_shown Nowhere = 0
+abbrev pub place_shown : Option ℕ → ℕ
+place_shown (Some i) = suc i
+place_shown None = 0
 
 abbrev pub look_shown : Looked → List ℕ
 look_shown o = class_shown o.class ∷ o.missing ∷ place_shown o.channel ∷ place_shown o.lane ∷ []

@@ -5,8 +5,8 @@ use Rattle.rules.specs.declared.Kind.TheVariants.{Packets}
 use Rattle.rules.specs.declared.Family.TheVariants.{Space, Encapsulation}
 use Rattle.rules.specs.declared.Measure.{Measure}
 use Rattle.rules.specs.declared.Measure.TheVariants.{Lacks, Packet, Idle, Unreadable}
-use Rattle.rules.specs.declared.Place.{Place}
-use Rattle.rules.specs.declared.Place.TheVariants.{At, Nowhere}
+use Rattle.std.specs.Prelude.{Option}
+use Rattle.std.specs.Prelude.{Some, None}
 use Rattle.rules.specs.Settings.{fresh_reader}
 use Rattle.rules.specs.Packets.{measure}
 use Rattle.rules.specs.Reading.{unit_of, lane_step}
@@ -26,7 +26,7 @@ abbrev pub measures : List (List ℕ) → List (List ℕ)
 measures xs = map (λ (x : List ℕ). measure_shown (measure x)) xs
 
 -- A packet lane of this longest: what is held, what the pointer points to, the zone.
-abbrev pub of_lane : ℕ → List ℕ → Place → List ℕ → List (List ℕ)
+abbrev pub of_lane : ℕ → List ℕ → Option ℕ → List ℕ → List (List ℕ)
 of_lane longest held p z = shown (lane_step Packets longest 0b000 (unit_of held) p z)
 
 -- An encapsulation packet of four octets, with a header of two; the header of one of ten, which has eight octets.
@@ -67,23 +67,23 @@ families =
     ((1 ∷ 1 ∷ []) ∷ (1 ∷ 1 ∷ []) ∷ (1 ∷ 3 ∷ []) ∷ (1 ∷ 1 ∷ []) ∷ (1 ∷ 7 ∷ []) ∷ (1 ∷ 1 ∷ []) ∷ (1 ∷ 5 ∷ []) ∷ (1 ∷ 1 ∷ []) ∷ (1 ∷ 1 ∷ []) ∷ [])
     -- Both families in one zone, with idle packets of two, four and one octet; then an encapsulation packet whose header is cut, and its end.
     ∷ case 4
-    (of_lane 64 [] (At 0) (packet₀ ++ short ++ (0xE1 ∷ 0x02 ∷ []) ++ (0xE2 ∷ 0x00 ∷ 0x00 ∷ 0x04 ∷ 0xE0 ∷ []))
-    ++ (of_lane 64 [] (At 18) (replicate 18 0x77 ++ take 3 eight)
-    ++ of_lane 64 (take 3 eight) (At 7) ((0x00 ∷ 0x00 ∷ 0x00 ∷ 0x00 ∷ 0x0A ∷ 0x61 ∷ 0x62 ∷ []) ++ replicate 14 0xE0)))
+    (of_lane 64 [] (Some 0) (packet₀ ++ short ++ (0xE1 ∷ 0x02 ∷ []) ++ (0xE2 ∷ 0x00 ∷ 0x00 ∷ 0x04 ∷ 0xE0 ∷ []))
+    ++ (of_lane 64 [] (Some 18) (replicate 18 0x77 ++ take 3 eight)
+    ++ of_lane 64 (take 3 eight) (Some 7) ((0x00 ∷ 0x00 ∷ 0x00 ∷ 0x00 ∷ 0x0A ∷ 0x61 ∷ 0x62 ∷ []) ++ replicate 14 0xE0)))
     (packet₀ ∷ short ∷ [] ∷ (7 ∷ 0 ∷ 0 ∷ []) ∷ take 3 eight ∷ (0 ∷ 0 ∷ 18 ∷ []) ∷ (eight ++ 0x61 ∷ 0x62 ∷ []) ∷ [] ∷ (14 ∷ 0 ∷ 0 ∷ []) ∷ [])
     -- A cut packet whose size is not known, in the walk: held below the longest, dropped at it.
     ∷ case 5
-    (of_lane 2 [] (At 20) (replicate 21 0x00) ++ (of_lane 2 [] (At 19) (replicate 21 0x00) ++ (of_lane 7 [] (At 0) (take 6 eight) ++ of_lane 7 [] (At 0) (take 7 eight))))
+    (of_lane 2 [] (Some 20) (replicate 21 0x00) ++ (of_lane 2 [] (Some 19) (replicate 21 0x00) ++ (of_lane 7 [] (Some 0) (take 6 eight) ++ of_lane 7 [] (Some 0) (take 7 eight))))
     ((0x00 ∷ []) ∷ (0 ∷ 0 ∷ 20 ∷ []) ∷ [] ∷ (0 ∷ 0 ∷ 21 ∷ []) ∷ take 6 eight ∷ (0 ∷ 0 ∷ 0 ∷ []) ∷ [] ∷ (0 ∷ 0 ∷ 7 ∷ []) ∷ [])
     -- The same of held octets and a lead that may go on; one that had to end fails. With its eighth octet a packet of eight is whole.
     ∷ case 6
-    (of_lane 3 (0x00 ∷ []) Nowhere (0x01 ∷ []) ++ (of_lane 2 (0x00 ∷ []) Nowhere (0x01 ∷ []) ++ (of_lane 64 (0xE6 ∷ []) (At 1) (0x00 ∷ 0xE0 ∷ [])
-    ++ of_lane 8 (0xE7 ∷ replicate 6 0x00) Nowhere (0x08 ∷ []))))
+    (of_lane 3 (0x00 ∷ []) None (0x01 ∷ []) ++ (of_lane 2 (0x00 ∷ []) None (0x01 ∷ []) ++ (of_lane 64 (0xE6 ∷ []) (Some 1) (0x00 ∷ 0xE0 ∷ [])
+    ++ of_lane 8 (0xE7 ∷ replicate 6 0x00) None (0x08 ∷ []))))
     ((0x00 ∷ 0x01 ∷ []) ∷ (0 ∷ 0 ∷ 0 ∷ []) ∷ [] ∷ (0 ∷ 0 ∷ 2 ∷ []) ∷ [] ∷ (1 ∷ 0 ∷ 2 ∷ []) ∷ (0xE7 ∷ replicate 6 0x00 ++ 0x08 ∷ []) ∷ [] ∷ (0 ∷ 0 ∷ 0 ∷ []) ∷ [])
     -- A known size: 64 is held and 65 dropped, idle or not; 2^32 - 1 is dropped. A smallest packet on a lane of longest 2.
     ∷ case 7
-    (of_lane 64 [] (At 0) (0xE5 ∷ 0x40 ∷ []) ++ (of_lane 64 [] (At 0) (0xE5 ∷ 0x41 ∷ []) ++ (of_lane 64 [] (At 0) (0xE1 ∷ 0x41 ∷ [])
-    ++ (of_lane 64 [] (At 0) (0xE7 ∷ replicate 7 0xFF) ++ of_lane 2 [] (At 0) (0xE5 ∷ 0x02 ∷ 0xE0 ∷ [])))))
+    (of_lane 64 [] (Some 0) (0xE5 ∷ 0x40 ∷ []) ++ (of_lane 64 [] (Some 0) (0xE5 ∷ 0x41 ∷ []) ++ (of_lane 64 [] (Some 0) (0xE1 ∷ 0x41 ∷ [])
+    ++ (of_lane 64 [] (Some 0) (0xE7 ∷ replicate 7 0xFF) ++ of_lane 2 [] (Some 0) (0xE5 ∷ 0x02 ∷ 0xE0 ∷ [])))))
     ((0xE5 ∷ 0x40 ∷ []) ∷ (0 ∷ 0 ∷ 0 ∷ []) ∷ [] ∷ (0 ∷ 0 ∷ 2 ∷ []) ∷ [] ∷ (0 ∷ 0 ∷ 2 ∷ []) ∷ [] ∷ (0 ∷ 0 ∷ 8 ∷ []) ∷ (0xE5 ∷ 0x02 ∷ []) ∷ [] ∷ (1 ∷ 0 ∷ 0 ∷ []) ∷ [])
     -- Batches of both families; of an idle packet of each size, a cut one, unreadable ones, and one above the longest.
     ∷ case 8

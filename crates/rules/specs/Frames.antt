@@ -3,8 +3,8 @@ use Rattle.std.specs.Prelude.{ℕ, ◌-◌, Bool, true, cond, List, [], ◌∷�
 use Rattle.rules.specs.declared.Channel.{Channel}
 use Rattle.rules.specs.declared.Lane.{Lane}
 use Rattle.rules.specs.declared.Setting.{Setting}
-use Rattle.rules.specs.declared.Place.{Place}
-use Rattle.rules.specs.declared.Place.TheVariants.{At, Nowhere}
+use Rattle.std.specs.Prelude.{Option}
+use Rattle.std.specs.Prelude.{Some, None}
 use Rattle.rules.specs.Tests.{◌=?◌}
 use Rattle.rules.specs.Octets.{be, num, Field, packed, flag, check_of, fields_of, field_in}
 use Rattle.rules.specs.Settings.{ocf_octets, count_at, insert_at, field_at, zone_at, zone_for, ocf_at, check_at}
@@ -112,9 +112,9 @@ check_holds s f = cond s.check (check_of (take (check_at (length f)) f) =? num (
 
 -- ---- pointers: "FFFF if none starts", "FFFF if the unit goes on"
 
-abbrev pub pointer_to : Place → ℕ
-pointer_to (At i) = i
-pointer_to Nowhere = 0xFFFF
+abbrev pub pointer_to : Option ℕ → ℕ
+pointer_to (Some i) = i
+pointer_to None = 0xFFFF
 
-unfoldable pub points_to : ℕ → Place
-points_to p = cond (p =? 0xFFFF) Nowhere (At p)
+unfoldable pub points_to : ℕ → Option ℕ
+points_to p = cond (p =? 0xFFFF) None (Some p)

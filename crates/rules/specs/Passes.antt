@@ -7,7 +7,7 @@ use Rattle.rules.specs.declared.Class.{Class}
 use Rattle.rules.specs.declared.Answer.{Answer}
 use Rattle.rules.specs.declared.Looked.{Looked}
 use Rattle.rules.specs.declared.Passed.{Passed}
-use Rattle.rules.specs.declared.Place.{Place}
+use Rattle.std.specs.Prelude.{Option}
 use Rattle.rules.specs.declared.Verdict.{Verdict}
 use Rattle.rules.specs.Tests.{first, none, at}
 use Rattle.rules.specs.Settings.{channel}
@@ -17,7 +17,7 @@ use Rattle.rules.specs.Promises.{placed, LookGives}
 
 -- ---- whose a frame is, by what a look answers
 
-unfoldable pub whose_of : Class → Place → Place → Verdict
+unfoldable pub whose_of : Class → Option ℕ → Option ℕ → Verdict
 whose_of Class.Idle c l = Verdict.Idle
 whose_of Class.Counted c l = Verdict.Counted (placed c)
 whose_of Class.Read c l = Verdict.Read (placed l)
@@ -34,7 +34,7 @@ unfoldable pub left_out : List Bool → Setting → Looked → Bool
 left_out without s o = at o.channel (λ (c : ℕ). get_or without (channel s c).vc false)
 
 -- The lowest virtual channel that a decision leaves out and that is not listed, with either service.
-unfoldable pub unlisted : List Bool → Setting → Place
+unfoldable pub unlisted : List Bool → Setting → Option ℕ
 unlisted without s = first 63 (λ (v : ℕ). get_or without v false && (none (channel_at s v 0) && none (channel_at s v 1)))
 
 -- What the look said, and nothing else.

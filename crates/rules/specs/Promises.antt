@@ -13,8 +13,8 @@ use Rattle.rules.specs.declared.Taken.{Taken}
 use Rattle.rules.specs.declared.Looked.{Looked}
 use Rattle.rules.specs.declared.Listener.{Listener}
 use Rattle.rules.specs.declared.Sender.{Sender}
-use Rattle.rules.specs.declared.Place.{Place}
-use Rattle.rules.specs.declared.Place.TheVariants.{At, Nowhere}
+use Rattle.std.specs.Prelude.{Option}
+use Rattle.std.specs.Prelude.{Some, None}
 use Rattle.rules.specs.declared.Gap.{Gap}
 use Rattle.rules.specs.Tests.{◌=?◌, none, Refusal, refuse, given}
 use Rattle.rules.specs.Areas.{laid, joined, part_size}
@@ -86,9 +86,9 @@ pub record WriteGives (w : Writer) (l : ℕ) (batch insert ocf area : List ℕ) 
 -- ---- read: what a frame that passes the checks is, and what is made of it
 
 -- The number that a place is; 0 where there is none.
-abbrev pub placed : Place → ℕ
-placed (At i) = i
-placed Nowhere = 0
+abbrev pub placed : Option ℕ → ℕ
+placed (Some i) = i
+placed None = 0
 
 -- The place of the frame's channel, by virtual channel and service, and the number of its map's lane there.
 unfoldable pub channel_in : Setting → List ℕ → ℕ
@@ -198,19 +198,19 @@ class_missing Class.Repeat m = 0
 class_missing (Class.Refused n) m = 0
 
 -- The channel is that of a frame that is Counted, Read or a repeat, the lane that of one that is Read.
-unfoldable pub class_channel : Class → ℕ → Place
-class_channel Class.Idle c = Nowhere
-class_channel Class.Counted c = At c
-class_channel Class.Read c = At c
-class_channel Class.Repeat c = At c
-class_channel (Class.Refused n) c = Nowhere
+unfoldable pub class_channel : Class → ℕ → Option ℕ
+class_channel Class.Idle c = None
+class_channel Class.Counted c = Some c
+class_channel Class.Read c = Some c
+class_channel Class.Repeat c = Some c
+class_channel (Class.Refused n) c = None
 
-unfoldable pub class_lane : Class → ℕ → Place
-class_lane Class.Idle l = Nowhere
-class_lane Class.Counted l = Nowhere
-class_lane Class.Read l = At l
-class_lane Class.Repeat l = Nowhere
-class_lane (Class.Refused n) l = Nowhere
+unfoldable pub class_lane : Class → ℕ → Option ℕ
+class_lane Class.Idle l = None
+class_lane Class.Counted l = None
+class_lane Class.Read l = Some l
+class_lane Class.Repeat l = None
+class_lane (Class.Refused n) l = None
 
 pub record LookGives (r : Reader) (f : List ℕ) (o : Looked) : Type 0 where
   -- "The first that applies is given, and none otherwise."

@@ -7,8 +7,8 @@ use Rattle.rules.specs.declared.Setting.{Setting}
 use Rattle.rules.specs.declared.Expect.{Expect}
 use Rattle.rules.specs.declared.Slot.{Slot}
 use Rattle.rules.specs.declared.Reader.{Reader}
-use Rattle.rules.specs.declared.Place.{Place}
-use Rattle.rules.specs.declared.Place.TheVariants.{At, Nowhere}
+use Rattle.std.specs.Prelude.{Option}
+use Rattle.std.specs.Prelude.{Some, None}
 use Rattle.rules.specs.declared.Measure.{Measure}
 use Rattle.rules.specs.declared.Measure.TheVariants.{Lacks, Packet, Idle, Unreadable}
 use Rattle.rules.specs.declared.Next.{Next}
@@ -226,9 +226,9 @@ unfoldable pub walk : ℕ → List ℕ → Made
 walk longest xs = walk_up_to longest (length xs) xs
 
 -- "The lead is the octets before the pointer, or the whole zone for FFFF." Told where the first packet starts, or that none does.
-unfoldable pub packet_lane : ℕ → DataUnit → Place → List ℕ → Made
-packet_lane longest held (At p) z = both (lead longest false held (take p z)) (walk longest (drop p z))
-packet_lane longest held Nowhere z = lead longest true held z
+unfoldable pub packet_lane : ℕ → DataUnit → Option ℕ → List ℕ → Made
+packet_lane longest held (Some p) z = both (lead longest false held (take p z)) (walk longest (drop p z))
+packet_lane longest held None z = lead longest true held z
 
 -- ---- "Access lane"
 
@@ -247,13 +247,13 @@ portion longest finished true held xs = both (drops (length held.octets)) (becom
 portion longest finished false held xs = become (follow_fate longest finished (length held.octets) (length xs)) (unit_from held xs)
 
 -- "Octets after the last are fill." Told where the unit's last octet is, or that it goes on.
-unfoldable pub access_lane : ℕ → Bool → DataUnit → Place → List ℕ → Made
-access_lane longest begins held (At p) z = both (fills (length z - (p + 1))) (portion longest true begins held (take (p + 1) z))
-access_lane longest begins held Nowhere z = portion longest false begins held z
+unfoldable pub access_lane : ℕ → Bool → DataUnit → Option ℕ → List ℕ → Made
+access_lane longest begins held (Some p) z = both (fills (length z - (p + 1))) (portion longest true begins held (take (p + 1) z))
+access_lane longest begins held None z = portion longest false begins held z
 
 -- ---- a lane of either kind: its longest, the construction rule, what it holds, what the pointer points to, and the zone
 
-unfoldable pub lane_step : Kind → ℕ → ℕ → DataUnit → Place → List ℕ → Made
+unfoldable pub lane_step : Kind → ℕ → ℕ → DataUnit → Option ℕ → List ℕ → Made
 lane_step Packets longest rule held p z = packet_lane longest held p z
 lane_step Access longest rule held p z = access_lane longest (rule =? 0b001) held p z
 

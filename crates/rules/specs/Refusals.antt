@@ -3,8 +3,8 @@ use Rattle.std.specs.Prelude.{ℕ, zero, suc, ◌-◌, Bool, cond, not, ◌&&◌
 use Rattle.rules.specs.declared.Kind.{Kind}
 use Rattle.rules.specs.declared.Kind.TheVariants.{Packets, Access}
 use Rattle.rules.specs.declared.Setting.{Setting}
-use Rattle.rules.specs.declared.Place.{Place}
-use Rattle.rules.specs.declared.Place.TheVariants.{At, Nowhere}
+use Rattle.std.specs.Prelude.{Option}
+use Rattle.std.specs.Prelude.{Some, None}
 use Rattle.rules.specs.declared.Verdict.{Verdict}
 use Rattle.rules.specs.declared.Verdict.TheVariants.{Refused, Idle, Counted, Read}
 use Rattle.rules.specs.Tests.{◌<?◌, ◌=?◌, ◌≠?◌, first, none, at, Refusal, refuse, given}
@@ -15,11 +15,11 @@ use Rattle.rules.specs.Frames.{version, craft, source_bit, vc, map, end_of_heade
 -- ---- who owns a frame
 
 -- The place of the channel with this virtual channel and service.
-unfoldable pub channel_at : Setting → ℕ → ℕ → Place
+unfoldable pub channel_at : Setting → ℕ → ℕ → Option ℕ
 channel_at s v b = first s.listed (λ (c : ℕ). (channel s c).vc =? v && (channel s c).service =? b)
 
 -- The number of the lane of channel c with this map.
-unfoldable pub lane_at : Setting → ℕ → ℕ → Place
+unfoldable pub lane_at : Setting → ℕ → ℕ → Option ℕ
 lane_at s c m = first s.numbered (λ (l : ℕ). (lane s l).channel =? c && (lane s l).map =? m)
 
 -- ---- the frame's refusals
@@ -37,7 +37,7 @@ data_wrong s c l f =
     || not (pointer_in s (channel s c) f <? zone_for s (channel s c) (length f) || pointer_in s (channel s c) f =? 0xFFFF)
 
 -- The rows of the table, from "frame is not F octets" on, for a frame whose virtual channel and service are listed at the place p.
-unfoldable pub refusals_at : Setting → List ℕ → Place → List Refusal
+unfoldable pub refusals_at : Setting → List ℕ → Option ℕ → List Refusal
 refusals_at s f p =
     -- "frame is not F octets"
     refuse 3 (length f ≠? s.length)
@@ -68,14 +68,14 @@ refusals s f = refusals_at s f (channel_at s (vc f) (bypass f))
 
 -- "Counted: control command set, or the map is in no lane of that channel; ... Read: all else." Of a frame of channel c whose map is in
 -- the lane at the place given.
-unfoldable pub on_channel : List ℕ → ℕ → Place → Verdict
-on_channel f c Nowhere = Counted c
-on_channel f c (At l) = cond (command f =? 1) (Counted c) (Read l)
+unfoldable pub on_channel : List ℕ → ℕ → Option ℕ → Verdict
+on_channel f c None = Counted c
+on_channel f c (Some l) = cond (command f =? 1) (Counted c) (Read l)
 
 -- "Idle: virtual channel 63." No channel has that number.
-unfoldable pub passed : Setting → List ℕ → Place → Verdict
-passed s f Nowhere = Idle
-passed s f (At c) = on_channel f c (lane_at s c (map f))
+unfoldable pub passed : Setting → List ℕ → Option ℕ → Verdict
+passed s f None = Idle
+passed s f (Some c) = on_channel f c (lane_at s c (map f))
 
 -- Refused by this number; 0 is none.
 unfoldable pub judged : Setting → List ℕ → ℕ → Verdict

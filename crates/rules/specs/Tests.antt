@@ -1,7 +1,7 @@
 -- How the rules test: comparisons of numbers, and the ways in which the paper joins tests.
 use Rattle.std.specs.Prelude.{ℕ, zero, suc, Bool, true, false, cond, not, ◌&&◌, List, [], ◌∷◌, leb, ltb, eqb}
-use Rattle.rules.specs.declared.Place.{Place}
-use Rattle.rules.specs.declared.Place.TheVariants.{At, Nowhere}
+use Rattle.std.specs.Prelude.{Option}
+use Rattle.std.specs.Prelude.{Some, None}
 
 infix 68 ◌≤?◌ ◌<?◌ ◌=?◌ ◌≠?◌
 abbrev pub ◌≤?◌ : ℕ → ℕ → Bool
@@ -27,24 +27,24 @@ every zero p = true
 every (suc n) p = every n p && p n
 
 -- The first place, or the second where the first is none.
-abbrev pub before : Place → Place → Place
-before (At i) q = At i
-before Nowhere q = q
+abbrev pub before : Option ℕ → Option ℕ → Option ℕ
+before (Some i) q = Some i
+before None q = q
 
 -- The first number below n that passes.
-unfoldable pub first : ℕ → (ℕ → Bool) → Place
-first zero p = Nowhere
-first (suc n) p = before (first n p) (cond (p n) (At n) Nowhere)
+unfoldable pub first : ℕ → (ℕ → Bool) → Option ℕ
+first zero p = None
+first (suc n) p = before (first n p) (cond (p n) (Some n) None)
 
 -- There is no such place.
-abbrev pub none : Place → Bool
-none (At i) = false
-none Nowhere = true
+abbrev pub none : Option ℕ → Bool
+none (Some i) = false
+none None = true
 
 -- There is such a place, and it passes.
-abbrev pub at : Place → (ℕ → Bool) → Bool
-at (At i) p = p i
-at Nowhere p = false
+abbrev pub at : Option ℕ → (ℕ → Bool) → Bool
+at (Some i) p = p i
+at None p = false
 
 -- A refusal's number, and whether the refusal applies.
 pub record Refusal : Type 0 where

@@ -7,8 +7,8 @@ use Rattle.rules.specs.declared.Setting.{Setting}
 use Rattle.rules.specs.declared.Slot.{Slot}
 use Rattle.rules.specs.declared.Reader.{Reader}
 use Rattle.rules.specs.declared.Writer.{Writer}
-use Rattle.rules.specs.declared.Place.{Place}
-use Rattle.rules.specs.declared.Place.TheVariants.{At, Nowhere}
+use Rattle.std.specs.Prelude.{Option}
+use Rattle.std.specs.Prelude.{Some, None}
 use Rattle.rules.specs.Settings.{channel, lane, channel_of, expect, slot, count, number, zone, setting_ok}
 use Rattle.rules.specs.Frames.{rule_in, pointer_in, points_to}
 use Rattle.rules.specs.Refusals.{channel_at, lane_at, rule_fits}
@@ -33,13 +33,13 @@ pub record GoodChannel (s : Setting) (c : ℕ) : Type 0 where
   pub one : 1 ≤ (channel s c).octets
   pub seven : (channel s c).octets ≤ 7
   pub room : 1 ≤ zone s (channel s c)
-  pub found : channel_at s (channel s c).vc (channel s c).service ≡ At c
+  pub found : channel_at s (channel s c).vc (channel s c).service ≡ Some c
 
 pub record GoodLane (s : Setting) (l : ℕ) : Type 0 where
   pub channel : (lane s l).channel < s.listed
   pub map : (lane s l).map ≤ 15
   pub kind : GoodKind (lane s l).kind (lane s l).longest (lane s l).upid
-  pub found : lane_at s (lane s l).channel (lane s l).map ≡ At l
+  pub found : lane_at s (lane s l).channel (lane s l).map ≡ Some l
 
 pub record Good (s : Setting) : Type 0 where
   pub low : 32 ≤ s.length
@@ -75,9 +75,9 @@ pub record GoodWriter (w : Writer) : Type 0 where
 -- ---- a frame that lane l reads
 
 -- The place that a pointer points to, if any, is in a zone of z octets.
-abbrev pub Inside : ℕ → Place → Type 0
-Inside z (At i) = i < z
-Inside z Nowhere = Unit {0}
+abbrev pub Inside : ℕ → Option ℕ → Type 0
+Inside z (Some i) = i < z
+Inside z None = Unit {0}
 
 pub record Reads (s : Setting) (f : List ℕ) (l : ℕ) : Type 0 where
   pub numbered : l < s.numbered

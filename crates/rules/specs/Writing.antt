@@ -4,8 +4,8 @@ use Rattle.rules.specs.declared.Kind.{Kind}
 use Rattle.rules.specs.declared.Kind.TheVariants.{Packets, Access}
 use Rattle.rules.specs.declared.Setting.{Setting}
 use Rattle.rules.specs.declared.Writer.{Writer}
-use Rattle.rules.specs.declared.Place.{Place}
-use Rattle.rules.specs.declared.Place.TheVariants.{At, Nowhere}
+use Rattle.std.specs.Prelude.{Option}
+use Rattle.std.specs.Prelude.{Some, None}
 use Rattle.rules.specs.Tests.{◌≤?◌, ◌<?◌, ◌=?◌, all}
 use Rattle.rules.specs.Areas.{joined, batch_size}
 use Rattle.rules.specs.Settings.{lane, channel_of, zone, count, number}
@@ -69,8 +69,8 @@ offset_of Packets z b i = start_from (packets b) (i * z) - i * z
 offset_of Access z b i = length b - 1 - i * z
 
 -- An offset that is in a zone of z octets.
-unfoldable pub inside : ℕ → ℕ → Place
-inside z n = cond (n <? z) (At n) Nowhere
+unfoldable pub inside : ℕ → ℕ → Option ℕ
+inside z n = cond (n <? z) (Some n) None
 
 -- "FFFF if none starts." "FFFF if the unit goes on."
 unfoldable pub pointer_of : Kind → ℕ → List ℕ → ℕ → ℕ

@@ -145,19 +145,12 @@ pub struct Taken {
     pub state: Reader,
 }
 
-// A place, or none: of a channel in the list, of a lane, of the octet where a packet starts or a unit ends.
-#[derive(Clone, Copy)]
-pub enum Place {
-    At(usize),
-    Nowhere,
-}
-
 // What a look answers: class, missing frames, the place of the frame's channel if it is Counted, Read or a repeat, and its lane if it is Read.
 #[derive(Clone, Copy)]
 pub struct Looked {
     pub missing: u64,
-    pub channel: Place,
-    pub lane: Place,
+    pub channel: Option<usize>,
+    pub lane: Option<usize>,
     pub class: Class,
 }
 

@@ -3,7 +3,7 @@ use mathlib.Core.Path.{◌≡◌, sym}
 use Prim.Native.Nat.{ℕ, ◌≤◌, ◌<◌}
 use native.Mathlib.Omega.{arith}
 use mathlib.Core.Bool.{Bool, true, false}
-use Rattle.rules.specs.declared.Place.TheVariants.{At, Nowhere}
+use Rattle.std.specs.Prelude.{Some, None}
 use Rattle.rules.specs.Tests.{every, first}
 use Rattle.rules.proofs.Tests.{at_every, every-not, first-at, first-none}
 
@@ -17,9 +17,9 @@ module _ (p : ℕ → Bool) (n i : ℕ) where
   ends h q = sym (at_every p n (λ k l. q k (omega arith)))
 
   -- Number i is the first that passes.
-  pub finds : i < n → p i ≡ true → ((k : ℕ) → k < i → p k ≡ false) → At i ≡ first n p
+  pub finds : i < n → p i ≡ true → ((k : ℕ) → k < i → p k ≡ false) → Some i ≡ first n p
   finds h e q = sym (first-at p n i h e q)
 
   -- No number is left: none passes.
-  pub misses : n ≤ i → ((k : ℕ) → k < i → p k ≡ false) → Nowhere ≡ first n p
+  pub misses : n ≤ i → ((k : ℕ) → k < i → p k ≡ false) → None ≡ first n p
   misses h q = sym (first-none p n (λ k l. q k (omega arith)))

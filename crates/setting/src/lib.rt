@@ -9,7 +9,7 @@ ghost use Rattle.rules.specs.Settings.{kind_ok, lane_ok, lanes_differ, lanes_ok,
 ghost use Rattle.rules.specs.Settings.{fresh_reader, fresh_writer, no_setting, no_reader, no_writer};
 ghost use Rattle.rules.specs.Refusals.{channel_at, lane_at};
 
-use rules::{Channel, Expect, Expects, Kind, Lane, Place, Reader, Setting, Slot, Writer};
+use rules::{Channel, Expect, Expects, Kind, Lane, Reader, Setting, Slot, Writer};
 
 // `a` less `b`, and 0 where `b` is more.
 fn less(a: usize, b: usize) -> usize
@@ -454,7 +454,7 @@ fn channel_is(c: Channel, vc: u8, service: u8) -> bool
 }
 
 // The place of the listed channel with this virtual channel and service.
-pub fn channel_at(s: Setting, vc: u8, service: u8) -> Place
+pub fn channel_at(s: Setting, vc: u8, service: u8) -> Option<usize>
     requires { s.listed ≤ 8 }
     ensures { result ≡ channel_at s vc service }
 {
@@ -465,15 +465,15 @@ pub fn channel_at(s: Setting, vc: u8, service: u8) -> Place
         let c = channels[i];
         let found = channel_is(c, vc, service);
         if found {
-            return Place::At(i);
+            return Some(i);
         }
         i += 1;
     }
-    Place::Nowhere
+    None
 }
 
 // The number of the lane of channel c with this map.
-pub fn lane_at(s: Setting, c: usize, map: u8) -> Place
+pub fn lane_at(s: Setting, c: usize, map: u8) -> Option<usize>
     requires { s.numbered ≤ 8 }
     ensures { result ≡ lane_at s c map }
 {
@@ -483,11 +483,11 @@ pub fn lane_at(s: Setting, c: usize, map: u8) -> Place
         let l = s.lanes[i];
         let found = lane_is(l, c, map);
         if found {
-            return Place::At(i);
+            return Some(i);
         }
         i += 1;
     }
-    Place::Nowhere
+    None
 }
 
 // A channel of zeros.

@@ -9,8 +9,8 @@ use lib.Seq.{take_all, drop-drop}
 use borrow.Author.Tests.{le-leb, lt-leb}
 use Rattle.rules.specs.declared.Channel.{Channel}
 use Rattle.rules.specs.declared.Lane.{Lane}
-use Rattle.rules.specs.declared.Place.{Place}
-use Rattle.rules.specs.declared.Place.TheVariants.{At, Nowhere}
+use Rattle.std.specs.Prelude.{Option}
+use Rattle.std.specs.Prelude.{Some, None}
 use Rattle.rules.specs.Tests.{◌≤?◌, none}
 use Rattle.rules.specs.Settings.{no_setting}
 use Rattle.rules.specs.Refusals.{channel_at, lane_at}
@@ -85,10 +85,10 @@ module _ (d : Draft) (r : Within d) where
       last =
           split 8 d.setting.numbered (λ h. rw (le-leb _ _ h) (forbid-within want.FewerLanes)) (λ h. rw (lt-leb _ _ h) (more-lanes l h))
 
-  lane-of-within : (p : Place) (ns : List ℕ) → Within (add_lane_of p ns d)
+  lane-of-within : (p : Option ℕ) (ns : List ℕ) → Within (add_lane_of p ns d)
   unfolding add_lane_of
-  lane-of-within (At c) ns = add-lane-within _
-  lane-of-within Nowhere ns = forbid-within want.ListedChannel
+  lane-of-within (Some c) ns = add-lane-within _
+  lane-of-within None ns = forbid-within want.ListedChannel
 
   said-within : (s : Says) (ns : List ℕ) → Within (take_said s ns d)
   unfolding take_said

@@ -5,8 +5,8 @@ use mathlib.Core.Bool.{Bool, true, false, cond}
 use mathlib.Core.List.{List}
 use native.Mathlib.Omega.{arith}
 use Rattle.rules.specs.declared.Setting.{Setting}
-use Rattle.rules.specs.declared.Place.{Place}
-use Rattle.rules.specs.declared.Place.TheVariants.{At, Nowhere}
+use Rattle.std.specs.Prelude.{Option}
+use Rattle.std.specs.Prelude.{Some, None}
 use Rattle.rules.specs.Settings.{setting_ok}
 use Rattle.setting_text.specs.declared.Missing.{Missing}
 use Rattle.setting_text.specs.declared.Finding.{Finding}
@@ -25,19 +25,19 @@ from_then : (b : Bool) (f g : Finding) → Bad g → cond b f g ≡ finds.Good �
 from_then true f g h e = e
 from_then false f g h e = absurd (h e)
 
-judged_good : (p : Place) (s : Setting) → judged p s ≡ finds.Good → setting_ok s ≡ true
+judged_good : (p : Option ℕ) (s : Setting) → judged p s ≡ finds.Good → setting_ok s ≡ true
 unfolding judged
-judged_good (At i) s e = let z : ◌≡◌ {A = ℕ} 0 1 = cc in absurd (omega arith)
-judged_good Nowhere s e = go (setting_ok s) e
+judged_good (Some i) s e = let z : ◌≡◌ {A = ℕ} 0 1 = cc in absurd (omega arith)
+judged_good None s e = go (setting_ok s) e
   where
     go : (b : Bool) → cond b finds.Good finds.Other ≡ finds.Good → b ≡ true
     go true q = refl
     go false q = let z : ◌≡◌ {A = ℕ} 0 1 = cc in absurd (omega arith)
 
-all_good : (p : Place) (s : Setting) → all_found p s ≡ finds.Good → setting_ok s ≡ true
+all_good : (p : Option ℕ) (s : Setting) → all_found p s ≡ finds.Good → setting_ok s ≡ true
 unfolding all_found
-all_good (At k) s e = absurd (lacks_bad _ e)
-all_good Nowhere s e = judged_good (zoneless s) s e
+all_good (Some k) s e = absurd (lacks_bad _ e)
+all_good None s e = judged_good (zoneless s) s e
 
 found_good : (g : Gathered) → found g ≡ finds.Good → setting_ok g.draft.setting ≡ true
 unfolding found

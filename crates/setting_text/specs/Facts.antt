@@ -5,8 +5,8 @@ use Rattle.rules.specs.declared.Kind.TheVariants as kinds
 use Rattle.rules.specs.declared.Channel.{Channel}
 use Rattle.rules.specs.declared.Lane.{Lane}
 use Rattle.rules.specs.declared.Setting.{Setting}
-use Rattle.rules.specs.declared.Place.{Place}
-use Rattle.rules.specs.declared.Place.TheVariants.{At, Nowhere}
+use Rattle.std.specs.Prelude.{Option}
+use Rattle.std.specs.Prelude.{Some, None}
 use Rattle.rules.specs.Tests.{◌≤?◌, ◌=?◌, none, at}
 use Rattle.rules.specs.Tests as tests
 use Rattle.rules.specs.Settings.{channel, zone, setting_ok, no_setting}
@@ -130,9 +130,9 @@ lane_of c ns =
     }
 
 -- "A lane of a channel that is not listed."
-unfoldable pub add_lane_of : Place → List ℕ → Draft → Draft
-add_lane_of (At c) ns d = add_lane (lane_of c ns) d
-add_lane_of Nowhere ns d = forbid want.ListedChannel d
+unfoldable pub add_lane_of : Option ℕ → List ℕ → Draft → Draft
+add_lane_of (Some c) ns d = add_lane (lane_of c ns) d
+add_lane_of None ns d = forbid want.ListedChannel d
 
 -- ---- a line
 
@@ -162,24 +162,24 @@ gather n d (l ∷ ls) =
     cond (take_line d l).fits (gather (n + 1) (take_line d l) ls) (record { draft = take_line d l; line = n })
 
 -- "The first channel whose zone has no octet."
-unfoldable pub zoneless : Setting → Place
+unfoldable pub zoneless : Setting → Option ℕ
 zoneless s = tests.first s.listed (λ (i : ℕ). zone s (channel s i) =? 0)
 
 -- A setting that has its zones is valid.
-unfoldable pub judged : Place → Setting → Finding
-judged (At i) s = finds.Zone (channel s i).vc (channel s i).service
-judged Nowhere s = cond (setting_ok s) finds.Good finds.Other
+unfoldable pub judged : Option ℕ → Setting → Finding
+judged (Some i) s = finds.Zone (channel s i).vc (channel s i).service
+judged None s = cond (setting_ok s) finds.Good finds.Other
 
 -- "Something was never said, the first of: frame length, spacecraft, source or destination, insert, check, a channel, a lane."
 unfoldable pub missing : List Missing
 missing = lack.Length ∷ lack.Spacecraft ∷ lack.Direction ∷ lack.Insert ∷ lack.Check ∷ lack.Channel ∷ lack.Lane ∷ []
 
-unfoldable pub lacking : Draft → Place
+unfoldable pub lacking : Draft → Option ℕ
 lacking d = tests.first 7 (λ (k : ℕ). not (get_or d.facts k false))
 
-unfoldable pub all_found : Place → Setting → Finding
-all_found (At k) s = finds.Lacks (get_or missing k lack.Length)
-all_found Nowhere s = judged (zoneless s) s
+unfoldable pub all_found : Option ℕ → Setting → Finding
+all_found (Some k) s = finds.Lacks (get_or missing k lack.Length)
+all_found None s = judged (zoneless s) s
 
 -- The first bad line, or what all lines come to.
 unfoldable pub found : Gathered → Finding

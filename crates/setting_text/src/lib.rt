@@ -14,7 +14,7 @@ ghost use Rattle.setting_text.specs.Table.{VC, SERVICE, ASIDE, item, from, end, 
 ghost use Rattle.setting_text.specs.Places.{Until, Word, seen, moved, most, Bounded, Known, Sound, Gathering};
 ghost use Rattle.setting_text.specs.Facts.{nothing, refuse, forbid, told, with_fact, add_fact, with_channel, with_lane, ocf_unlike, add_channel, channel_of, add_lane, lane_of, add_lane_of, take_said, take_asked, take_line, zoneless, judged, lacking, all_found, found, answered, parsed};
 
-use rules::{Channel, Kind, Lane, Place, Setting};
+use rules::{Channel, Kind, Lane, Setting};
 
 // What was expected at a line that is refused.
 #[derive(Clone, Copy)]
@@ -715,11 +715,11 @@ fn ocf_unlike(s: Setting, c: Channel) -> bool
 {
     let p = setting::channel_at(s, c.vc, 1 - c.service);
     match p {
-        Place::At(i) => {
+        Some(i) => {
             let o = s.channels[i];
             return o.ocf != c.ocf;
         }
-        Place::Nowhere => {
+        None => {
             return false;
         }
     }
@@ -744,7 +744,7 @@ fn add_channel(d: Draft, c: Channel) -> Draft
 {
     let s = d.setting;
     let p = setting::channel_at(s, c.vc, c.service);
-    let Place::Nowhere = p else {
+    let None = p else {
         return forbidden(d, Wanted::NewChannel);
     };
     let unlike = ocf_unlike(s, c);
@@ -792,7 +792,7 @@ fn add_lane(d: Draft, l: Lane) -> Draft
 {
     let s = d.setting;
     let p = setting::lane_at(s, l.channel as usize, l.map);
-    let Place::Nowhere = p else {
+    let None = p else {
         return forbidden(d, Wanted::NewMap);
     };
     if 8 <= s.numbered {
@@ -829,7 +829,7 @@ fn lane_of(channel: u8, numbers: [usize; 14]) -> Lane
 }
 
 // The place of the channel that a line's numbers name.
-fn listed_at(s: Setting, numbers: [usize; 14]) -> Place
+fn listed_at(s: Setting, numbers: [usize; 14]) -> Option<usize>
     requires listed_bound { s.listed ≤ 8 }
     requires bounded { Bounded numbers }
     ensures { result ≡ channel_at s (get_or numbers VC 0) (get_or numbers SERVICE 0) }
@@ -846,7 +846,7 @@ fn add_lane_of(d: Draft, numbers: [usize; 14]) -> Draft
 {
     let s = d.setting;
     let p = listed_at(s, numbers);
-    let Place::At(c) = p else {
+    let Some(c) = p else {
         return forbidden(d, Wanted::ListedChannel);
     };
     let l = lane_of(c as u8, numbers);
@@ -933,7 +933,7 @@ fn take_lines(octets: &[u8]) -> Gathered
 }
 
 // The first channel whose zone has no octet.
-fn zoneless_at(s: Setting) -> Place
+fn zoneless_at(s: Setting) -> Option<usize>
     requires { s.listed ≤ 8 }
     ensures { result ≡ zoneless s }
 {
@@ -943,11 +943,11 @@ fn zoneless_at(s: Setting) -> Place
         let c = s.channels[i];
         let z = setting::zone_of(s, c);
         if z == 0 {
-            return Place::At(i);
+            return Some(i);
         }
         i += 1;
     }
-    Place::Nowhere
+    None
 }
 
 // What a setting is of which every fact was said.
@@ -957,11 +957,11 @@ fn judge(s: Setting) -> Finding
 {
     let p = zoneless_at(s);
     match p {
-        Place::At(i) => {
+        Some(i) => {
             let c = s.channels[i];
             return Finding::Zone(c.vc, c.service);
         }
-        Place::Nowhere => {
+        None => {
             let ok = setting::setting_ok(s);
             if ok {
                 return Finding::Good;
@@ -972,18 +972,18 @@ fn judge(s: Setting) -> Finding
 }
 
 // The first of seven things that was never said.
-fn lacking_at(d: Draft) -> Place
+fn lacking_at(d: Draft) -> Option<usize>
     ensures { result ≡ lacking d }
 {
     let f = d.facts;
     let mut i: usize = 0;
     while i < 7 {
         if !f[i] {
-            return Place::At(i);
+            return Some(i);
         }
         i += 1;
     }
-    Place::Nowhere
+    None
 }
 
 // What a text is of which every line fits.
@@ -993,11 +993,11 @@ fn find_all(d: Draft) -> Finding
 {
     let p = lacking_at(d);
     match p {
-        Place::At(k) => {
+        Some(k) => {
             let m = MISSING;
             return Finding::Lacks(m[k]);
         }
-        Place::Nowhere => {
+        None => {
             let s = d.setting;
             return judge(s);
         }

@@ -16,7 +16,7 @@ use files::Known;
 use intake::{Source, System};
 use outputs::{Kept, Plan};
 use refusals::{First, Refusals, Totals};
-use rules::{Place, Reader, Setting};
+use rules::{Reader, Setting};
 use setting_file::Loaded;
 use std::fs::File;
 use std::random::RandomSource;
@@ -570,8 +570,8 @@ fn all_listed(s: Setting, without: [bool; 63]) -> bool
 {
     let p = reader::choices::unlisted(without, s);
     match p {
-        Place::Nowhere => true,
-        Place::At(v) => {
+        None => true,
+        Some(v) => {
             console::say_count(
                 b"unpack",
                 b"--without=",

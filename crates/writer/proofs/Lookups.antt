@@ -8,7 +8,7 @@ use mathlib.Core.List.{List}
 use lib.ListN.{length, set}
 use Rattle.rules.specs.declared.Writer.{Writer}
 use Rattle.rules.specs.declared.Outcome.TheVariants.{Done, Refused}
-use Rattle.rules.specs.declared.Place.TheVariants.{At, Nowhere}
+use Rattle.std.specs.Prelude.{Some, None}
 use Rattle.rules.specs.Tests.{Refusal, given}
 use Rattle.rules.specs.Areas.{laid}
 use Rattle.rules.specs.Settings.{lane, channel_of, count, number, zone, writer_ok}
@@ -86,16 +86,16 @@ begins-small w l x ok h e =
 
 -- A batch that keeps its rule, and what comes after it; or one that does not.
 pub judged-kept : (w : Writer) (l : ℕ) (batch insert ocf : List ℕ) (x : Upcoming) (start n : ℕ) → x ≡ upcoming_of w l
-    → Keeps x.lane.kind x.lane.longest batch (x.number * x.zone) (At start) → n ≡ given (late_refusals w.setting x batch insert ocf)
+    → Keeps x.lane.kind x.lane.longest batch (x.number * x.zone) (Some start) → n ≡ given (late_refusals w.setting x batch insert ocf)
     → Judges w l batch (batch_refusals w l batch insert ocf) (record { start = start; number = n })
 unfolding given batch_refusals upcoming_of
 judged-kept w l batch insert ocf x start n e k m =
-    let q : Keeps (lane w.setting l).kind (lane w.setting l).longest batch (number w l * zone w.setting (channel_of w.setting l)) (At start) =
+    let q : Keeps (lane w.setting l).kind (lane w.setting l).longest batch (number w l * zone w.setting (channel_of w.setting l)) (Some start) =
     rw e at k in
     record { says = m ∙ ap (λ (y : Upcoming). given (late_refusals w.setting y batch insert ocf)) e ∙ rw q.0; starts = λ z. q.1 }
 
 pub judged_broken : (w : Writer) (l : ℕ) (batch insert ocf : List ℕ) (x : Upcoming) (j : Judged) → x ≡ upcoming_of w l
-    → Keeps x.lane.kind x.lane.longest batch (x.number * x.zone) Nowhere → j ≡ record { start = 0; number = 14 }
+    → Keeps x.lane.kind x.lane.longest batch (x.number * x.zone) None → j ≡ record { start = 0; number = 14 }
     → Judges w l batch (batch_refusals w l batch insert ocf) j
 unfolding given batch_refusals upcoming_of
 judged_broken w l batch insert ocf x j e k r =

@@ -12,7 +12,7 @@ ghost use Rattle.writer.specs.Lookups.{upcoming_of, late_refusals, batch_refusal
 mod frames;
 
 use frames::Upcoming;
-use rules::{Outcome, Place, Sender, Setting, Writer};
+use rules::{Outcome, Sender, Setting, Writer};
 
 // Looks lane l up.
 fn upcoming_of(w: Writer, l: usize) -> Upcoming
@@ -104,7 +104,7 @@ fn batch_refusal(w: Writer, l: usize, batch: &[u8], insert: &[u8], ocf: &[u8]) -
     let kind = a.kind;
     let p = batches::batch_start(kind, a.longest as usize, batch, x.number * x.zone);
     match p {
-        Place::At(start) => {
+        Some(start) => {
             let s = w.setting;
             let n = late_refusal(s, x, batch, insert, ocf);
             return Judged {
@@ -112,7 +112,7 @@ fn batch_refusal(w: Writer, l: usize, batch: &[u8], insert: &[u8], ocf: &[u8]) -
                 number: n,
             };
         }
-        Place::Nowhere => {
+        None => {
             return refused(14);
         }
     }

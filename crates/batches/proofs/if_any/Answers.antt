@@ -1,5 +1,5 @@
 -- By cases on the place.
 use Rattle.batches.proofs.if_any.Goals as goal
 
-pub returns-in-At : goal.returns-in-At
-returns-in-At c = rw c.in-At.is
+pub returns-in-Some : goal.returns-in-Some
+returns-in-Some c = rw c.in-Some.is

@@ -3,7 +3,7 @@ use mathlib.Core.Path.{◌≡◌, sym, ap, ◌∙◌}
 use borrow.Author.Tests.{eq-eqb, ne_eqb}
 use Rattle.rules.specs.Frames.{vc, bypass}
 use Rattle.rules.specs.Refusals.{channel_at}
-use Rattle.rules.specs.declared.Place.TheVariants.{Nowhere}
+use Rattle.std.specs.Prelude.{None}
 use Rattle.rules.specs.declared.Verdict.{Verdict}
 use Rattle.rules.proofs.Valid.{good}
 use Rattle.header.specs.declared.Head.{Head}
@@ -22,9 +22,9 @@ returns-then-h-ne63 c =
     let a = c.args in
     let v = ap (λ (x : Head). x.vc) c.requires.2 in
     let b = ap (λ (x : Head). x.bypass) c.requires.2 in
-    let e : channel_at a.s (vc a.frame.now) (bypass a.frame.now) ≡ Nowhere = rw (sym v, sym b)
-    (sym c.channel_at-p.ensures ∙ c.in-Nowhere.is) in
-    let q : judge_channel a.s a.frame.now Nowhere ≡ Verdict.Refused 9 = rw (sym v, ne_eqb _ _ c.if-h-ne63.true) in
+    let e : channel_at a.s (vc a.frame.now) (bypass a.frame.now) ≡ None = rw (sym v, sym b)
+    (sym c.channel_at-p.ensures ∙ c.in-None.is) in
+    let q : judge_channel a.s a.frame.now None ≡ Verdict.Refused 9 = rw (sym v, ne_eqb _ _ c.if-h-ne63.true) in
     (ap (sight_of a.s a.frame.now) (sym (ap (judge_channel a.s a.frame.now) e ∙ q)), tt)
 
 pub judge_listed-requires : goal.judge_listed-requires
@@ -34,7 +34,7 @@ judge_listed-requires c =
       record {
         ok = p.0;
         listed = channel-found a.s a.h.vc a.h.bypass _
-            (sym c.channel_at-p.ensures ∙ c.in-At.is);
+            (sym c.channel_at-p.ensures ∙ c.in-Some.is);
         whole = p.1;
       },
       p.2,
@@ -46,17 +46,17 @@ returns-else-h-ne63 c =
     let a = c.args in
     let v = ap (λ (x : Head). x.vc) c.requires.2 in
     let b = ap (λ (x : Head). x.bypass) c.requires.2 in
-    let e : channel_at a.s (vc a.frame.now) (bypass a.frame.now) ≡ Nowhere = rw (sym v, sym b)
-    (sym c.channel_at-p.ensures ∙ c.in-Nowhere.is) in
-    let q : judge_channel a.s a.frame.now Nowhere ≡ Verdict.Idle = rw (sym v, eq-eqb _ _ c.if-h-ne63.false) in
+    let e : channel_at a.s (vc a.frame.now) (bypass a.frame.now) ≡ None = rw (sym v, sym b)
+    (sym c.channel_at-p.ensures ∙ c.in-None.is) in
+    let q : judge_channel a.s a.frame.now None ≡ Verdict.Idle = rw (sym v, eq-eqb _ _ c.if-h-ne63.false) in
     (ap (sight_of a.s a.frame.now) (sym (ap (judge_channel a.s a.frame.now) e ∙ q)), tt)
 
-pub returns-in-At : goal.returns-in-At
+pub returns-in-Some : goal.returns-in-Some
 unfolding judge_channel head_of
-returns-in-At c =
+returns-in-Some c =
     let v = ap (λ (x : Head). x.vc) c.requires.2 in
     let b = ap (λ (x : Head). x.bypass) c.requires.2 in (
-      rw (sym v, sym b, sym c.channel_at-p.ensures, c.in-At.is)
+      rw (sym v, sym b, sym c.channel_at-p.ensures, c.in-Some.is)
           c.judge_listed.ensures.0,
       c.judge_listed.ensures.1,
     )

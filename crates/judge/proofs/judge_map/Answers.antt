@@ -27,7 +27,7 @@ returns-then-h-eq1 c =
     rw (
       sym (ap (lane_at a.s a.c) m),
       sym c.lane_at-p.ensures,
-      c.in-At.is,
+      c.in-Some.is,
       sym k,
       eq-eqb _ _ c.if-h-eq1.true,
     ) in
@@ -37,17 +37,17 @@ pub judge_data-requires : goal.judge_data-requires
 judge_data-requires c =
     let a = c.args in
     let p = c.requires in
-    let e = sym c.lane_at-p.ensures ∙ c.in-At.is in
+    let e = sym c.lane_at-p.ensures ∙ c.in-Some.is in
     (p.0, lane-found a.s a.c a.h.map _ e, lane-on a.s a.c a.h.map _ e, p.2)
 
-pub returns-in-Nowhere : goal.returns-in-Nowhere
+pub returns-in-None : goal.returns-in-None
 unfolding judge_map head_of
-returns-in-Nowhere c =
+returns-in-None c =
     let a = c.args in
     let p = c.requires in
     let m = ap (λ (x : Head). x.map) p.1 in
     let e : judge_map a.s a.c a.frame.now (lane_at a.s a.c (map a.frame.now)) ≡ Verdict.Counted a.c =
-    rw (sym (ap (lane_at a.s a.c) m), sym c.lane_at-p.ensures, c.in-Nowhere.is) in
+    rw (sym (ap (lane_at a.s a.c) m), sym c.lane_at-p.ensures, c.in-None.is) in
     c.counted.ensures ∙ counted_is a.s a.frame.now a.c a.k p.2 ∙ ap (sight_of a.s a.frame.now) (sym e)
 
 pub returns-else-h-eq1 : goal.returns-else-h-eq1
@@ -60,7 +60,7 @@ returns-else-h-eq1 c =
     rw (
       sym (ap (lane_at a.s a.c) m),
       sym c.lane_at-p.ensures,
-      c.in-At.is,
+      c.in-Some.is,
       sym k,
       ne_eqb _ _ c.if-h-eq1.false,
     ) c.judge_data.ensures

@@ -7,12 +7,12 @@ use Rattle.lanes.proofs.packet_opening.Goals as goal
 
 pub slice_bounds-lead_of-end : goal.slice_bounds-lead_of-end
 slice_bounds-lead_of-end c =
-    let q = rw c.in-At.is at c.requires.1 in sym (length-take-le _ _ (omega arith))
+    let q = rw c.in-Some.is at c.requires.1 in sym (length-take-le _ _ (omega arith))
 
-pub returns-in-At : goal.returns-in-At
-returns-in-At c =
-    let q = rw c.in-At.is at c.requires.1 in
-    rw c.in-At.is (lead-at _ c.requires.0 _ (omega arith) c.lead_of-fate.ensures)
+pub returns-in-Some : goal.returns-in-Some
+returns-in-Some c =
+    let q = rw c.in-Some.is at c.requires.1 in
+    rw c.in-Some.is (lead-at _ c.requires.0 _ (omega arith) c.lead_of-fate.ensures)
 
-pub returns-in-Nowhere : goal.returns-in-Nowhere
-returns-in-Nowhere c = rw c.in-Nowhere.is (lead-nowhere _ c.requires.0 _ c.lead_of-fate-in-Nowhere.ensures)
+pub returns-in-None : goal.returns-in-None
+returns-in-None c = rw c.in-None.is (lead-nowhere _ c.requires.0 _ c.lead_of-fate-in-None.ensures)

@@ -10,15 +10,15 @@ gap_of-g-requires c =
 pub read_on-requires : goal.read_on-requires
 read_on-requires c =
     on-lane c.args.r c.args.f.now c.args.h.now c.args.u.now c.args.c.now c.args.x c.args.missing c.requires _
-    c.in-At.is _ c.gap_of-g.ensures
+    c.in-Some.is _ c.gap_of-g.ensures
 
-pub returns-in-Nowhere : goal.returns-in-Nowhere
-returns-in-Nowhere c =
+pub returns-in-None : goal.returns-in-None
+returns-in-None c =
     counted-kept c.args.r c.args.f.now c.args.h.now c.args.u.now c.args.c.now c.args.x c.args.missing c.requires
-    c.in-Nowhere.is _ c.gap_of-g.ensures _ c.counted_of.ensures
+    c.in-None.is _ c.gap_of-g.ensures _ c.counted_of.ensures
 
-pub returns-in-At : goal.returns-in-At
-returns-in-At c =
+pub returns-in-Some : goal.returns-in-Some
+returns-in-Some c =
     lane-kept c.args.r c.args.f.now c.args.h.now c.args.u.now c.args.c.now c.args.x c.args.missing c.requires _
-    c.in-At.is _ c.gap_of-g.ensures _
+    c.in-Some.is _ c.gap_of-g.ensures _
     c.read_on.ensures

@@ -11,7 +11,7 @@ returns-in_default c = rw (sym c.channel_at-p.ensures ∙ c.in_default.is) c.for
 pub returns-then-unlike : goal.returns-then-unlike
 unfolding add_channel
 returns-then-unlike c = rw (
-  sym c.channel_at-p.ensures ∙ c.in-Nowhere.is,
+  sym c.channel_at-p.ensures ∙ c.in-None.is,
   sym
       c.ocf_unlike-unlike.ensures ∙ c.if-unlike.true,
 ) c.forbidden-then-unlike.ensures
@@ -20,7 +20,7 @@ pub returns-then-s-ge8 : goal.returns-then-s-ge8
 unfolding add_channel
 returns-then-s-ge8 c = rw (
   sym c.channel_at-p.ensures
-      ∙ c.in-Nowhere.is,
+      ∙ c.in-None.is,
   sym c.ocf_unlike-unlike.ensures
       ∙ c.if-unlike.false,
   le-leb _ _ c.if-s-ge8.true,
@@ -30,7 +30,7 @@ pub returns : goal.returns
 unfolding add_channel
 returns c = rw (
   sym c.channel_at-p.ensures
-      ∙ c.in-Nowhere.is,
+      ∙ c.in-None.is,
   sym c.ocf_unlike-unlike.ensures
       ∙ c.if-unlike.false,
   lt-leb _ _ c.if-s-ge8.false,

@@ -11,7 +11,7 @@ returns-in_default c = rw (sym c.lane_at-p.ensures ∙ c.in_default.is) c.forbid
 pub returns-then-s-ge8 : goal.returns-then-s-ge8
 unfolding add_lane
 returns-then-s-ge8 c = rw (
-  sym c.lane_at-p.ensures ∙ c.in-Nowhere.is,
+  sym c.lane_at-p.ensures ∙ c.in-None.is,
   le-leb _ _
       c.if-s-ge8.true,
 ) c.forbidden-then-s-ge8.ensures
@@ -19,7 +19,7 @@ returns-then-s-ge8 c = rw (
 pub returns : goal.returns
 unfolding add_lane
 returns c = rw (
-  sym c.lane_at-p.ensures ∙ c.in-Nowhere.is,
+  sym c.lane_at-p.ensures ∙ c.in-None.is,
   lt-leb _ _
       c.if-s-ge8.false,
 ) c.put_lane.ensures

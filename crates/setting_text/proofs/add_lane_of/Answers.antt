@@ -13,11 +13,11 @@ returns-in_default c = rw (sym c.listed_at-p.ensures ∙ c.in_default.is) c.forb
 pub overflow_cast-c : goal.overflow_cast-c
 unfolding channel_at
 overflow_cast-c c =
-    let h = (found_at _ _ _ (sym c.listed_at-p.ensures ∙ c.in-At.is)).0 in
+    let h = (found_at _ _ _ (sym c.listed_at-p.ensures ∙ c.in-Some.is)).0 in
     search rules
 
 pub returns : goal.returns
 unfolding add_lane_of
 returns c =
-    rw (sym c.listed_at-p.ensures ∙ c.in-At.is, sym c.lane_of-l.ensures)
+    rw (sym c.listed_at-p.ensures ∙ c.in-Some.is, sym c.lane_of-l.ensures)
     c.add_lane.ensures

@@ -7,12 +7,12 @@ use Rattle.setting_text.proofs.find_all.Goals as goal
 
 pub bounds-m-k : goal.bounds-m-k
 unfolding lacking
-bounds-m-k c = let h = found_at _ _ _ (sym c.lacking_at-p.ensures ∙ c.in-At.is) in search rules
+bounds-m-k c = let h = found_at _ _ _ (sym c.lacking_at-p.ensures ∙ c.in-Some.is) in search rules
 
-pub returns-in-At : goal.returns-in-At
+pub returns-in-Some : goal.returns-in-Some
 unfolding all_found missing
-returns-in-At c = rw (sym c.lacking_at-p.ensures ∙ c.in-At.is)
+returns-in-Some c = rw (sym c.lacking_at-p.ensures ∙ c.in-Some.is)
 
-pub returns-in-Nowhere : goal.returns-in-Nowhere
+pub returns-in-None : goal.returns-in-None
 unfolding all_found
-returns-in-Nowhere c = rw (sym c.lacking_at-p.ensures ∙ c.in-Nowhere.is) c.judge.ensures
+returns-in-None c = rw (sym c.lacking_at-p.ensures ∙ c.in-None.is) c.judge.ensures

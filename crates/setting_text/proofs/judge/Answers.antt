@@ -7,28 +7,28 @@ use Rattle.setting_text.proofs.judge.Goals as goal
 
 pub offset_bounds-s-i : goal.offset_bounds-s-i
 unfolding zoneless
-offset_bounds-s-i c = let h = found_at _ _ _ (sym c.zoneless_at-p.ensures ∙ c.in-At.is) in search rules
+offset_bounds-s-i c = let h = found_at _ _ _ (sym c.zoneless_at-p.ensures ∙ c.in-Some.is) in search rules
 
 pub bounds-s-i : goal.bounds-s-i
 unfolding zoneless
-bounds-s-i c = let h = found_at _ _ _ (sym c.zoneless_at-p.ensures ∙ c.in-At.is) in search rules
+bounds-s-i c = let h = found_at _ _ _ (sym c.zoneless_at-p.ensures ∙ c.in-Some.is) in search rules
 
-pub returns-in-At : goal.returns-in-At
+pub returns-in-Some : goal.returns-in-Some
 unfolding judged
-returns-in-At c = rw (sym c.zoneless_at-p.ensures ∙ c.in-At.is)
+returns-in-Some c = rw (sym c.zoneless_at-p.ensures ∙ c.in-Some.is)
 
 pub returns-then-ok : goal.returns-then-ok
 unfolding judged
 returns-then-ok c = rw (
-  sym c.zoneless_at-p.ensures ∙ c.in-Nowhere.is,
+  sym c.zoneless_at-p.ensures ∙ c.in-None.is,
   sym c.setting_ok-ok.ensures
       ∙ c.if-ok.true,
 )
 
-pub returns-in-Nowhere : goal.returns-in-Nowhere
+pub returns-in-None : goal.returns-in-None
 unfolding judged
-returns-in-Nowhere c = rw (
-  sym c.zoneless_at-p.ensures ∙ c.in-Nowhere.is,
+returns-in-None c = rw (
+  sym c.zoneless_at-p.ensures ∙ c.in-None.is,
   sym c.setting_ok-ok.ensures
       ∙ c.if-ok.false,
 )

@@ -8,16 +8,16 @@ use Rattle.setting_text.proofs.ocf_unlike.Goals as goal
 
 pub offset_bounds-s-i : goal.offset_bounds-s-i
 unfolding channel_at
-offset_bounds-s-i c = let h = found_at _ _ _ (sym c.channel_at-p.ensures ∙ c.in-At.is) in search rules
+offset_bounds-s-i c = let h = found_at _ _ _ (sym c.channel_at-p.ensures ∙ c.in-Some.is) in search rules
 
 pub bounds-s-i : goal.bounds-s-i
 unfolding channel_at
-bounds-s-i c = let h = found_at _ _ _ (sym c.channel_at-p.ensures ∙ c.in-At.is) in search rules
+bounds-s-i c = let h = found_at _ _ _ (sym c.channel_at-p.ensures ∙ c.in-Some.is) in search rules
 
-pub returns-in-At : goal.returns-in-At
+pub returns-in-Some : goal.returns-in-Some
 unfolding ocf_unlike
-returns-in-At c = rw (sym c.channel_at-p.ensures ∙ c.in-At.is)
+returns-in-Some c = rw (sym c.channel_at-p.ensures ∙ c.in-Some.is)
 
-pub returns-in-Nowhere : goal.returns-in-Nowhere
+pub returns-in-None : goal.returns-in-None
 unfolding ocf_unlike
-returns-in-Nowhere c = rw (sym c.channel_at-p.ensures ∙ c.in-Nowhere.is)
+returns-in-None c = rw (sym c.channel_at-p.ensures ∙ c.in-None.is)

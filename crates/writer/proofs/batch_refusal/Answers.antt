@@ -6,14 +6,14 @@ pub overflow_mul-x : goal.overflow_mul-x
 overflow_mul-x c =
     record { fits = begins-small _ _ _ c.requires.0 c.requires.1 c.upcoming_of-x.ensures }
 
-pub returns-in-At : goal.returns-in-At
-returns-in-At c =
+pub returns-in-Some : goal.returns-in-Some
+returns-in-Some c =
     let a = c.args in
     judged-kept a.w a.l a.batch.now a.insert.now a.ocf.now c.upcoming_of-x.result _ _ c.upcoming_of-x.ensures
-    (rw c.in-At.is at c.batch_start-p.ensures) c.late_refusal-n.ensures
+    (rw c.in-Some.is at c.batch_start-p.ensures) c.late_refusal-n.ensures
 
-pub returns-in-Nowhere : goal.returns-in-Nowhere
-returns-in-Nowhere c =
+pub returns-in-None : goal.returns-in-None
+returns-in-None c =
     let a = c.args in
     judged_broken a.w a.l a.batch.now a.insert.now a.ocf.now c.upcoming_of-x.result _ c.upcoming_of-x.ensures
-    (rw c.in-Nowhere.is at c.batch_start-p.ensures) c.refused.ensures
+    (rw c.in-None.is at c.batch_start-p.ensures) c.refused.ensures

@@ -5,12 +5,12 @@ use Rattle.obey.proofs.requests.place_number.Goals as goal
 
 pub returns-then-i-lt8 : goal.returns-then-i-lt8
 unfolding place_number
-returns-then-i-lt8 c = rw (c.in-At.is, lt-ltb _ _ c.if-i-lt8.true)
+returns-then-i-lt8 c = rw (c.in-Some.is, lt-ltb _ _ c.if-i-lt8.true)
 
-pub returns-in-Nowhere : goal.returns-in-Nowhere
+pub returns-in-None : goal.returns-in-None
 unfolding place_number
-returns-in-Nowhere c = rw c.in-Nowhere.is
+returns-in-None c = rw c.in-None.is
 
 pub returns-else-i-lt8 : goal.returns-else-i-lt8
 unfolding place_number
-returns-else-i-lt8 c = rw (c.in-At.is, le-ltb _ _ c.if-i-lt8.false)
+returns-else-i-lt8 c = rw (c.in-Some.is, le-ltb _ _ c.if-i-lt8.false)

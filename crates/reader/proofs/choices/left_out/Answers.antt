@@ -3,22 +3,22 @@ use mathlib.Core.Path.{sym, ap, ◌∙◌}
 use mathlib.Core.Bool.{false}
 use Prim.Native.Nat.{ℕ}
 use lib.ListN.{get_or}
-use Rattle.rules.specs.declared.Place.{Place}
+use Rattle.std.specs.Prelude.{Option}
 use Rattle.rules.specs.Tests.{at}
 use Rattle.rules.specs.Settings.{channel}
 use Rattle.rules.specs.Passes.{left_out}
 use Rattle.reader.proofs.choices.left_out.Goals as goal
 
-pub returns-in-Nowhere : goal.returns-in-Nowhere
+pub returns-in-None : goal.returns-in-None
 unfolding left_out
-returns-in-Nowhere c =
+returns-in-None c =
     let a = c.args in
-    sym (ap (λ (p : Place). at p (λ (i : ℕ). get_or a.without (channel a.s i).vc false)) c.in-Nowhere.is)
+    sym (ap (λ (p : Option ℕ). at p (λ (i : ℕ). get_or a.without (channel a.s i).vc false)) c.in-None.is)
 
-pub returns-in-At : goal.returns-in-At
+pub returns-in-Some : goal.returns-in-Some
 unfolding left_out
-returns-in-At c =
+returns-in-Some c =
     let a = c.args in
     c.is_named.ensures
     ∙ ap (λ (v : ℕ). get_or a.without v false) c.vc_at-v.ensures
-    ∙ sym (ap (λ (p : Place). at p (λ (i : ℕ). get_or a.without (channel a.s i).vc false)) c.in-At.is)
+    ∙ sym (ap (λ (p : Option ℕ). at p (λ (i : ℕ). get_or a.without (channel a.s i).vc false)) c.in-Some.is)
