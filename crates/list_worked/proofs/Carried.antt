@@ -1,12 +1,13 @@
 -- From frame to frame: the listing of what follows goes on from the state and the areas that a read leaves.
 use Prim.Native.Nat.{ℕ, suc, ◌+◌}
 use mathlib.Core.Path.{◌≡◌, refl, sym, ap, subst, ◌∙◌}
-use mathlib.Core.Bool.{Bool, true, false, false≢true}
 use mathlib.Core.List.{List, [], ◌++◌, append_assoc}
 use lib.ListN.{length, replicate, length-append}
 use native.Mathlib.Nat.{zero-add}
 use native.Mathlib.Omega.{arith}
 use borrow.Author.Tests.{ne_eqb}
+use Rattle.std.proofs.Common.{Option, Continue}
+use Rattle.std.specs.ControlFlow.{ForContinue}
 use Rattle.rules.specs.declared.Listener.{Listener}
 use Rattle.rules.specs.declared.Answer.{Answer}
 use Rattle.rules.specs.declared.Reader.{Reader}
@@ -20,7 +21,7 @@ use Rattle.rules.specs.Settings.{setting_ok, ranges_ok, channels_ok, channel_ok,
 use Rattle.rules.specs.Tests.{every, all}
 use lib.Seq.{take_at, drop_at}
 use Rattle.rules.proofs.Calls.{read_setting}
-use Rattle.list_worked.specs.Runs.{lines_of, Reached, GoesOn, Listed}
+use Rattle.list_worked.specs.Runs.{lines_of, Reached, Listed}
 use Rattle.rules.specs.Areas.{held_size, records_size, units_size}
 
 -- One whole frame's line, then the lines of the rest.
@@ -38,17 +39,19 @@ pub begins : Reached 0 (set_up_reader (worked packet_lane)).state (replicate hel
 unfolding lines_of set_up_reader setting_ok ranges_ok channels_ok channel_ok channels_agree lanes_ok lane_ok lanes_differ kind_ok zone every all fresh_reader no_reader no_setting worked
 begins = record { seen = []; said = []; whole = refl; framed = refl; goes = λ n rest. ap (λ (m : ℕ). lines_of m rest) (zero-add n) }
 
--- After one more.
+-- After one more, whichever state is the one handed on.
 pub carried : (k : ℕ) (r : Reader) (h u c f area : List ℕ) (a : Answer) (r' : Reader) (h' u' c' area' : List ℕ) (end : ℕ)
-    → Reached k r h u c → length f ≡ 32 → Listed k (read r f h u c) area a r' h' u' c' area' end → Reached (k + 1) r' h' u' c'
-carried k r h u c f area a r' h' u' c' area' end p e l =
-    record {
+    → Reached k r h u c → length f ≡ 32 → Listed k (read r f h u c) area a r' h' u' c' area' end
+    → ForContinue {B = Option ℕ} (Continue r') (λ s. Reached (k + 1) s h' u' c')
+carried k r h u c f area a r' h' u' c' area' end p e l s on =
+    let same : r' ≡ s = cc in
+    subst (λ (x : Reader). Reached (k + 1) x h' u' c') same (record {
       seen = p.seen ++ f;
       said = p.said ++ line k (read r f h u c).taken.answer;
       whole = omega (arith, length-append p.seen f, p.whole);
       framed = ap (λ (x : Reader). x.setting.length) l.state ∙ ap (λ (x : Setting). x.length) (read_setting r f h u c) ∙ p.framed;
       goes = goes_on;
-    }
+    })
   where
     goes_on : (n : ℕ) (rest : List ℕ) → lines_of (k + 1 + n) (p.seen ++ f ++ rest) ≡ p.said ++ line k (read r f h u c).taken.answer ++ lines n
         (k + 1) r' h' u' c' rest
@@ -65,29 +68,9 @@ carried k r h u c f area a r' h' u' c' area' end p e l =
         ∙ ap (λ (x : List ℕ). p.said ++ line k o.taken.answer ++ lines n (k + 1) r' h' x o.record_area rest) (sym l.units)
         ∙ ap (λ (x : List ℕ). p.said ++ line k o.taken.answer ++ lines n (k + 1) r' h' u' x rest) (sym l.records)
 
--- Where the input may go on, it does from there.
-pub goes_if : (b : Bool) (P : Type 0) → (b ≡ true → P) → GoesOn b P
-unfolding GoesOn
-goes_if true P f = f refl
-goes_if false P f = tt
-
-pub goes_then : (b : Bool) (P : Type 0) → b ≡ true → GoesOn b P → P
-unfolding GoesOn
-goes_then true P e p = p
-goes_then false P e p = absurd (false≢true e)
-
-pub goes_none : (P : Type 0) → GoesOn false P
-unfolding GoesOn
-goes_none P = tt
-
 -- The program's set-up stands before the first frame.
 pub begins-from : (s : Setting) (l : Listener) → s ≡ worked packet_lane → ReaderStarts s l → Reached 0 l.state (replicate held_size 0)
     (replicate units_size 0) (replicate records_size 0)
 begins-from s l e q =
     subst (λ (x : Listener). Reached 0 x.state (replicate held_size 0) (replicate units_size 0) (replicate records_size 0))
     (sym (reader-starts-is s l q ∙ ap set_up_reader e)) begins
-
-pub goes_not : (b : Bool) (P : Type 0) → b ≡ false → GoesOn b P
-unfolding GoesOn
-goes_not true P e = absurd (false≢true (sym e))
-goes_not false P e = tt

@@ -6,7 +6,7 @@ use mathlib.Core.List.{List, [], ◌++◌}
 use lib.Dec.{lit≤}
 use lib.ListN.{length, take, length-append}
 use native.Mathlib.Omega.{arith}
-use borrow.Author.Tests.{eq-eqb, ne_eqb}
+use borrow.Author.Tests.{ne_eqb}
 use Rattle.rules.specs.declared.Answer.{Answer}
 use Rattle.rules.specs.declared.Taken.{Taken}
 use Rattle.rules.specs.Tests.{◌=?◌}
@@ -24,11 +24,6 @@ length-opening k = by (k =? 0)
     by : (t : Bool) → length (cond t (text "frame answer units missing\n") []) ≤ 27
     by true = lit≤ tt
     by false = lit≤ tt
-
-pub put_first : (k : ℕ) (area : List ℕ) (area' : List ℕ) (end : ℕ) → k ≡ 0 → Put (text "frame answer units missing\n") area 0 area' end → Put
-    (opening k) area 0 area' end
-unfolding opening
-put_first k area area' end z p = subst (λ (t : Bool). Put (cond t (text "frame answer units missing\n") []) area 0 area' end) (sym (eq-eqb k 0 z)) p
 
 pub put-later : (k : ℕ) (area : List ℕ) → ((k ≡ 0) → ⊥) → Put (opening k) area 0 area 0
 unfolding opening

@@ -1,5 +1,5 @@
 -- What one frame of a listing prints and leaves, and what a listing carries from frame to frame.
-use Rattle.std.specs.Prelude.{ℕ, ◌+◌, ◌*◌, ◌≤◌, ◌≡◌, Bool, true, false, cond, List, [], ◌++◌, length, replicate}
+use Rattle.std.specs.Prelude.{ℕ, ◌+◌, ◌*◌, ◌≤◌, ◌≡◌, cond, List, [], ◌++◌, length, replicate}
 use Rattle.rules.specs.declared.Answer.{Answer}
 use Rattle.rules.specs.declared.Reader.{Reader}
 use Rattle.rules.specs.Tests.{◌=?◌}
@@ -39,8 +39,3 @@ pub record Reached (k : ℕ) (r : Reader) (h u c : List ℕ) : Type 0 where
   pub whole : length seen ≡ 32 * k
   pub framed : r.setting.length ≡ 32
   pub goes : (n : ℕ) (rest : List ℕ) → lines_of (k + n) (seen ++ rest) ≡ said ++ lines n k r h u c rest
-
--- Where the input may go on.
-unfoldable pub GoesOn : Bool → Type 0 → Type 0
-GoesOn true P = P
-GoesOn false P = Unit {0}

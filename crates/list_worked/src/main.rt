@@ -9,46 +9,48 @@
 // document 01 prints, at the end of "Worked frames".
 #![tactic(auto)]
 
-ghost use Rattle.std.specs.Prelude.{◌≡◌, ◌+◌, ◌≤◌, ◌<◌, false, length};
+ghost use Rattle.std.specs.Prelude.{◌≡◌, ◌+◌, ◌≤◌, ◌<◌, length};
+ghost use Rattle.std.specs.ControlFlow.{ForContinue};
 ghost use Rattle.rules.specs.Worked.{worked, packet_lane};
 ghost use Rattle.rules.specs.Calls.{read};
 ghost use Rattle.listing_text.specs.Puts.{Put};
-ghost use Rattle.list_worked.specs.Runs.{opening, printed, Listed, Reached, GoesOn};
+ghost use Rattle.list_worked.specs.Runs.{opening, printed, Listed, Reached};
 
 use intake::{Source, System, Window};
-use rules::{Answer, Channel, Kind, Lane, Reader, Setting};
+use rules::{Answer, Channel, Kind, Lane, Reader, Setting, Taken};
+use std::ops::ControlFlow;
 
-// The state after a frame, its answer, and where its text ends.
+// The areas that the reader is lent.
+#[derive(Drop)]
+struct Areas {
+    held: [u8; rules::HELD_SIZE],
+    units: [u8; rules::UNITS_SIZE],
+    records: [u8; rules::RECORDS_SIZE],
+}
+
+// What a frame's read answers, and where its text ends.
 #[derive(Clone, Copy)]
 struct Printed {
-    state: Reader,
-    answer: Answer,
+    taken: Taken,
     end: usize,
 }
 
-// The state after a turn, how many frames are listed by then, whether the input may go on, and whether all went well.
-#[derive(Clone, Copy)]
-struct Turn {
-    state: Reader,
-    frames: u64,
-    more: bool,
-    good: bool,
-}
+// What follows a turn: the state for the next one, or after how many frames the listing ends, and none where something failed, which is said by then.
+type Turn = ControlFlow<Option<u64>, Reader>;
 
 // The worked setting with its packet lane.
+#[tactic(auto, unfolding(rules::specs::Worked::worked))]
 fn worked_setting() -> Setting
     ensures { result ≡ worked packet_lane }
 {
-    let none = setting::no_channel();
-    let mut channels = [none; 8];
+    let mut channels = [setting::no_channel(); 8];
     channels[0] = Channel {
         vc: 3,
         service: 0,
         octets: 1,
         ocf: false,
     };
-    let no_lane = setting::no_lane();
-    let mut lanes = [no_lane; 8];
+    let mut lanes = [setting::no_lane(); 8];
     lanes[0] = Lane {
         channel: 0,
         map: 5,
@@ -63,48 +65,42 @@ fn worked_setting() -> Setting
         insert: 0,
         check: false,
         listed: 1,
-        channels: channels,
+        channels,
         numbered: 1,
-        lanes: lanes,
+        lanes,
     }
 }
 
 // Puts what is printed before line k: the title before the first, else nothing.
+#[tactic(auto, unfolding(crate::specs::Runs::opening))]
 fn put_opening(area: &mut [u8], k: u64) -> usize
     requires { 27 ≤ length area.old }
     ensures { Put (opening k) area.old 0 area.new result }
 {
     if k == 0 {
-        return listing_text::put_title(area, 0);
+        listing_text::put_title(area, 0)
+    } else {
+        0
     }
-    0
 }
 
 // Looks at frame k and takes it, with no virtual channel left out, and puts what is printed for it into `area`. An empty input has no frame.
-fn list_frame(
-    k: u64,
-    r: Reader,
-    frame: &[u8],
-    held: &mut [u8],
-    units: &mut [u8],
-    records: &mut [u8],
-    area: &mut [u8],
-) -> Printed
+fn list_frame(k: u64, r: Reader, frame: &[u8], areas: &mut Areas, area: &mut [u8]) -> Printed
     requires { (1 ≤ length frame.now) × (98 ≤ length area.old) }
-    ensures { Listed k (read r frame.now held.old units.old records.old) area.old result.answer result.state held.new units.new records.new area.new result.end }
+    ensures { Listed k (read r frame.now areas.old.held areas.old.units areas.old.records) area.old result.taken.answer result.taken.state areas.new.held areas.new.units areas.new.records area.new result.end }
 {
-    let every = [false; 63];
-    let p = reader::pass(every, r, frame, held, units, records);
-    let t = p.taken;
-    let a = t.answer;
-    let s = t.state;
+    let p = reader::pass(
+        [false; 63],
+        r,
+        frame,
+        &mut areas.held,
+        &mut areas.units,
+        &mut areas.records,
+    );
+    let taken = p.taken;
     let at = put_opening(area, k);
-    let end = listing_text::put_line(area, at, k, a);
-    Printed {
-        state: s,
-        answer: a,
-        end: end,
-    }
+    let end = listing_text::put_line(area, at, k, taken.answer);
+    Printed { taken, end }
 }
 
 // Prints what is printed for frame k, of this answer; whether standard output took it all.
@@ -115,60 +111,35 @@ fn print(system: &System, k: u64, a: Answer, text: &[u8]) -> bool
 }
 
 // Says what the system had against standard input or output, and ends the listing.
-fn failed(system: &System, r: Reader, k: u64, about: &[u8]) -> Turn
-    ensures { (result.more ≡ false) × (result.good ≡ false) }
+fn failed(system: &System, about: &[u8]) -> Turn
+    ensures { ForContinue result (λ r. ⊥) }
 {
     console::say_failed(system, b"list_worked", about);
-    Turn {
-        state: r,
-        frames: k,
-        more: false,
-        good: false,
-    }
+    ControlFlow::Break(None)
 }
 
 // Lists frame k, which has these octets. After a whole frame the listing goes on from what is handed back.
-fn list_came(
-    system: &System,
-    k: u64,
-    r: Reader,
-    f: &[u8],
-    h: &mut [u8],
-    u: &mut [u8],
-    c: &mut [u8],
-) -> Turn
-    requires { Reached k r h.old u.old c.old × (k < 18446744073709551615) × (1 ≤ length f.now) }
-    ensures { GoesOn result.more (Reached (k + 1) result.state h.new u.new c.new) }
+fn list_came(system: &System, k: u64, r: Reader, frame: &[u8], areas: &mut Areas) -> Turn
+    requires { Reached k r areas.old.held areas.old.units areas.old.records × (k < 18446744073709551615) × (1 ≤ length frame.now) }
+    ensures { ForContinue result (λ s. Reached (k + 1) s areas.new.held areas.new.units areas.new.records) }
 {
     let mut area = [0u8; 98];
-    let p = list_frame(k, r, f, h, u, c, &mut area);
-    let a = p.answer;
-    let end = p.end;
-    let s = p.state;
-    let sent = print(system, k, a, &area[..end]);
-    if !sent {
-        return failed(system, s, k, b"standard output");
+    let p = list_frame(k, r, frame, areas, &mut area);
+    let taken = p.taken;
+    if !print(system, k, taken.answer, &area[..p.end]) {
+        return failed(system, b"standard output");
     }
-    Turn {
-        state: s,
-        frames: k + 1,
-        more: f.len() == 32,
-        good: true,
+    if frame.len() == 32 {
+        ControlFlow::Continue(taken.state)
+    } else {
+        ControlFlow::Break(Some(k + 1))
     }
 }
 
 // Reads and lists frame k, if there is one.
-fn list_next(
-    system: &System,
-    input: &Source,
-    k: u64,
-    r: Reader,
-    held: &mut [u8],
-    units: &mut [u8],
-    records: &mut [u8],
-) -> Turn
-    requires { Reached k r held.old units.old records.old × (k < 18446744073709551615) }
-    ensures { GoesOn result.more (Reached (k + 1) result.state held.new units.new records.new) }
+fn list_next(system: &System, input: &Source, k: u64, r: Reader, areas: &mut Areas) -> Turn
+    requires { Reached k r areas.old.held areas.old.units areas.old.records × (k < 18446744073709551615) }
+    ensures { ForContinue result (λ s. Reached (k + 1) s areas.new.held areas.new.units areas.new.records) }
 {
     let mut frame = [0u8; 32];
     let none = Window {
@@ -178,54 +149,37 @@ fn list_next(
     };
     let w = intake::fill_up(system, input, &mut frame, none);
     if !w.good {
-        return failed(system, r, k, b"standard input");
+        return failed(system, b"standard input");
     }
-    let n = w.have;
-    if n == 0 {
-        return Turn {
-            state: r,
-            frames: k,
-            more: false,
-            good: true,
-        };
+    if w.have == 0 {
+        return ControlFlow::Break(Some(k));
     }
-    list_came(system, k, r, &frame[..n], held, units, records)
+    list_came(system, k, r, &frame[..w.have], areas)
 }
 
 // Says how many frames are listed, where all went well.
-fn say_end(t: Turn) {
-    if t.good {
-        console::say_count(b"list_worked", b"done: ", t.frames, b" frames");
+fn say_end(listed: Option<u64>) {
+    if let Some(frames) = listed {
+        console::say_count(b"list_worked", b"done: ", frames, b" frames");
     }
 }
 
 // Lists standard input to its end. A proved loop has to end: this one counts its frames, to a number that no run reaches.
 fn list_all(system: &System) {
     let input = Source::Input(system.rt.stdin());
-    let mut held = [0u8; rules::HELD_SIZE];
-    let mut units = [0u8; rules::UNITS_SIZE];
-    let mut records = [0u8; rules::RECORDS_SIZE];
-    let setting = worked_setting();
-    let l = reader::set_up(setting);
-    let mut state = l.state;
-    let mut k: u64 = 0;
-    while k < 18446744073709551615 {
-        let t = list_next(
-            system,
-            &input,
-            k,
-            state,
-            &mut held,
-            &mut units,
-            &mut records,
-        );
-        if t.more {
-            let after = t.state;
-            state = after;
-            k += 1;
-        } else {
-            say_end(t);
-            break;
+    let mut areas = Areas {
+        held: [0u8; rules::HELD_SIZE],
+        units: [0u8; rules::UNITS_SIZE],
+        records: [0u8; rules::RECORDS_SIZE],
+    };
+    let mut state = reader::set_up(worked_setting()).state;
+    for k in 0..u64::MAX {
+        match list_next(system, &input, k, state, &mut areas) {
+            ControlFlow::Continue(after) => state = after,
+            ControlFlow::Break(listed) => {
+                say_end(listed);
+                break;
+            }
         }
     }
 }
@@ -233,8 +187,7 @@ fn list_all(system: &System) {
 // The program. What it prints and says goes into no input; the listing and what is said may stand in one file.
 fn main(rt: HostRuntime) {
     let system = intake::system_of(rt);
-    let may = console::may_print(&system, b"list_worked", false);
-    if may {
+    if console::may_print(&system, b"list_worked", false) {
         list_all(&system);
     }
 }

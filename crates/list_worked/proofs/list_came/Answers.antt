@@ -1,27 +1,13 @@
--- `list_worked::list_came` meets its contract: the text has room and is what is handed over, and after a whole frame the listing goes on.
-use mathlib.Core.Path.{sym}
-use native.Mathlib.Omega.{arith}
-use lib.Seq.{length-take-le}
-use borrow.Author.Tests.{eqb-true}
-use Rattle.list_worked.proofs.Carried.{carried, goes_not, goes_if}
+-- The text is what is handed over, and after a whole frame the listing goes on.
+use Rattle.list_worked.proofs.Carried.{carried}
 use Rattle.list_worked.proofs.Texts.{cut}
 use Rattle.list_worked.proofs.list_came.Goals as goal
 
-pub slice_bounds-print-end : goal.slice_bounds-print-end
-slice_bounds-print-end c =
-    sym (length-take-le _ _ (omega (arith, c.list_frame-p.ensures.short)))
+pub print-requires : goal.print-requires
+print-requires c = cut c.list_frame-p.ensures.text
 
-pub print-sent-requires : goal.print-sent-requires
-print-sent-requires c =
-    cut c.list_frame-p.ensures.text
-
-pub returns-then-not-sent : goal.returns-then-not-sent
-returns-then-not-sent c = goes_not _ _ c.failed.ensures.0
-
-pub returns : goal.returns
-returns c =
+pub returns-then-frame-eq32 : goal.returns-then-frame-eq32
+returns-then-frame-eq32 c =
     let a = c.args in
-    goes_if _ _
-    (λ e. carried a.k a.r a.h.now a.u.now a.c.now _ _ _ _ _ _ _ _ _ c.requires.0
-    (eqb-true _ _ e)
-    c.list_frame-p.ensures)
+    let m = a.areas.now in
+    carried a.k a.r m.held m.units m.records _ _ _ _ _ _ _ _ _ c.requires.0 c.if-frame-eq32.true c.list_frame-p.ensures

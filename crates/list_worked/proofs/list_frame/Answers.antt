@@ -12,7 +12,8 @@ put_line-end-requires c =
 pub returns : goal.returns
 returns c =
     let a = c.args in
+    let m = a.areas.now in
     let p = c.pass-p in
     listed a.k _ p.result.taken _ _ _ a.area.now _ _ _ _ c.requires.1
-    (p.ensures.got ∙ pass_all 63 a.r a.frame.now a.held.now a.units.now a.records.now)
+    (p.ensures.got ∙ pass_all 63 a.r a.frame.now m.held m.units m.records)
     c.put_opening-at.ensures c.put_line-end.ensures
