@@ -5,17 +5,9 @@
 
 ghost use Rattle.std.specs.Prelude.{◌≡◌, ◌+◌, ◌%◌, ◌≤◌, ◌∷◌, get_or};
 
-use header::{Data, Head};
-use rules::{Answer, Looked, Outcome, Reader, Setting, Writer};
+use rules::{Answer, Channel, Lane, Looked, Outcome, Reader, Setting, Writer};
 
 // ---- numbers
-
-// An octet as a wide number.
-fn wide(x: u8) -> u64
-    ensures { result ≡ x }
-{
-    x as u64
-}
 
 // A sum of low halves, which never wraps.
 fn plus(a: u64, b: u64) -> u64
@@ -24,16 +16,25 @@ fn plus(a: u64, b: u64) -> u64
     a % 0x100000000 + b % 0x100000000
 }
 
+// The sum of all.
+fn sum_of(numbers: &[u64]) -> u64 {
+    numbers.iter().fold(0, |sum, n| plus(sum, *n))
+}
+
 // The last of the first n octets of an area; 0 where there are none, or not as many.
 fn last(area: &[u8], n: usize) -> u64
     ensures { result ≡ get_or (0 ∷ area.now) n 0 }
 {
-    if 0 < n {
-        if n <= area.len() {
-            return wide(area[n - 1]);
-        }
+    if 0 < n && n <= area.len() {
+        u64::from(area[n - 1])
+    } else {
+        0
     }
-    0
+}
+
+// An octet of an area, 0 where there is none.
+fn octet(area: &[u8], i: usize) -> u8 {
+    area.get(i).map_or(0, |x| *x)
 }
 
 // Prints what came out.
@@ -50,120 +51,86 @@ fn tell(frames: u64, sum: u64) {
 // The next octets of standard input, as many as the area has; whether there were as many.
 fn next(area: &mut [u8]) -> bool {
     let n = io::read_full(0, area);
-    if n == 0 {
-        return false;
+    n != 0 && n == area.len()
+}
+
+// Hands on standard input to its end, as many octets at a time as the area has; prints how many times, and a sum of what comes of each.
+fn pass<F: FnMut(&[u8]) -> u64>(area: &mut [u8], mut value: F)
+    requires { F.IsAlwaysCallable value }
+{
+    let mut frames = 0;
+    let mut sum = 0;
+    for k in 0..u64::MAX {
+        if !next(area) {
+            break;
+        }
+        sum = plus(sum, value(area));
+        frames = k + 1;
     }
-    n == area.len()
+    tell(frames, sum);
 }
 
-// What is summed of a header that is read, every field: of the primary header up to its end flag, of the rest, and of the data field's.
-fn names(h: Head) -> u64 {
-    let whose = plus(plus(h.version as u64, h.craft as u64), h.bit as u64);
-    plus(
-        whose,
-        plus(plus(h.vc as u64, h.map as u64), h.ending as u64),
-    )
-}
-
-fn marks(h: Head) -> u64 {
-    let how = plus(plus(h.length as u64, h.bypass as u64), h.command as u64);
-    plus(
-        how,
-        plus(plus(h.spare as u64, h.ocf as u64), h.octets as u64),
-    )
-}
-
-fn rest(d: Data) -> u64 {
-    plus(plus(d.rule as u64, d.upid as u64), d.pointer as u64)
-}
-
-// An octet of an area, 0 where there is none.
-fn octet(area: &[u8], i: usize) -> u8 {
-    if i < area.len() {
-        return area[i];
-    }
-    0
+// What is summed of the headers that are read from the front of a frame, every field.
+fn fields(frame: &[u8]) -> u64 {
+    let h = header::head_of(frame);
+    let d = header::data_of(frame);
+    sum_of(&[
+        h.version as u64,
+        h.craft as u64,
+        h.bit as u64,
+        h.vc as u64,
+        h.map as u64,
+        h.ending as u64,
+        h.length as u64,
+        h.bypass as u64,
+        h.command as u64,
+        h.spare as u64,
+        h.ocf as u64,
+        h.octets as u64,
+        d.rule as u64,
+        d.upid as u64,
+        d.pointer as u64,
+    ])
 }
 
 // The numbers of a primary header and of a data field's header, with octets of a frame for what is written into them.
 fn numbers(s: Setting, area: &[u8]) -> u64 {
-    let channels = s.channels;
-    let lanes = s.lanes;
-    let mut t = s;
-    let mut c = channels[0];
-    let mut l = lanes[0];
-    t.craft = octet(area, 0) as u16;
-    t.bit = octet(area, 1);
-    c.vc = octet(area, 2);
-    l.map = octet(area, 3);
-    t.length = 1 + octet(area, 4) as usize;
-    c.service = octet(area, 5);
-    c.ocf = octet(area, 6) < 128;
-    c.octets = octet(area, 7) % 8;
+    let t = Setting {
+        craft: u16::from(octet(area, 0)),
+        bit: octet(area, 1),
+        length: 1 + usize::from(octet(area, 4)),
+        ..s
+    };
+    let c = Channel {
+        vc: octet(area, 2),
+        service: octet(area, 5),
+        ocf: octet(area, 6) < 128,
+        octets: octet(area, 7) % 8,
+    };
+    let l = Lane {
+        map: octet(area, 3),
+        ..s.lanes[0]
+    };
     let n = header::header_of(t, c, l);
-    let d = header::data_header_of(octet(area, 8), octet(area, 9), octet(area, 10) as usize);
-    plus(plus(n / 0x100000000, n), d)
-}
-
-// What is summed of the octets at hand, by the work's letter: their check, the fields of the two headers read from their front, the numbers of two
-// headers that are written; their first octet otherwise.
-fn value(letter: u8, s: Setting, area: &[u8]) -> u64 {
-    if letter == b'c' {
-        let v = fecf::check_of(area);
-        return v as u64;
-    }
-    if letter == b'h' {
-        let h = header::head_of(area);
-        let d = header::data_of(area);
-        return plus(plus(names(h), marks(h)), rest(d));
-    }
-    if letter == b'f' {
-        return numbers(s, area);
-    }
-    last(area, 1)
-}
-
-// Reads the input, and sums a value of each frame.
-fn pass(letter: u8, s: Setting, area: &mut [u8]) {
-    let mut k: u64 = 0;
-    let mut sum: u64 = 0;
-    while k < 18446744073709551615 {
-        let more = next(area);
-        if !more {
-            tell(k, sum);
-            return;
-        }
-        let v = value(letter, s, area);
-        sum = plus(sum, v);
-        k += 1;
-    }
+    let d = header::data_header_of(octet(area, 8), octet(area, 9), usize::from(octet(area, 10)));
+    sum_of(&[n / 0x100000000, n, d])
 }
 
 // What is summed of a read: what its answer counts, and the last octet that was handed out.
 fn worth(a: Answer, units: &[u8]) -> u64 {
-    let out = plus(a.units as u64, a.octets as u64);
-    let not = plus(a.idle as u64, a.dropped as u64);
-    let octet = last(units, a.octets);
-    plus(plus(out, not), plus(a.missing, octet))
+    sum_of(&[
+        a.units as u64,
+        a.octets as u64,
+        a.idle as u64,
+        a.dropped as u64,
+        a.missing,
+        last(units, a.octets),
+    ])
 }
 
 // What is summed of a look: what is missing, and the lane's number and one.
 fn glance(o: Looked) -> u64 {
-    let lane = o.lane;
-    let n = match lane {
-        Some(l) => plus(l as u64, 1),
-        None => 0,
-    };
-    plus(o.missing, n)
-}
-
-// What is summed of a look at a frame, where the work asks for looks.
-fn look_first(looks: bool, r: Reader, area: &[u8]) -> u64 {
-    if looks {
-        let o = reader::look(r, area);
-        return glance(o);
-    }
-    0
+    plus(o.missing, o.lane.map_or(0, |l| plus(l as u64, 1)))
 }
 
 // A take of each frame, after a look where the work asks for one.
@@ -171,25 +138,17 @@ fn take(looks: bool, s: Setting, area: &mut [u8]) {
     let mut held = [0u8; rules::HELD_SIZE];
     let mut units = [0u8; rules::UNITS_SIZE];
     let mut records = [0u8; rules::RECORDS_SIZE];
-    let l = reader::set_up(s);
-    let mut state = l.state;
-    let mut k: u64 = 0;
-    let mut sum: u64 = 0;
-    while k < 18446744073709551615 {
-        let more = next(area);
-        if !more {
-            break;
-        }
-        let x = look_first(looks, state, area);
-        let t = reader::take(state, area, &mut held, &mut units, &mut records);
-        let a = t.answer;
-        let after = t.state;
-        state = after;
-        let w = worth(a, &units);
-        sum = plus(sum, plus(w, x));
-        k += 1;
-    }
-    tell(k, sum);
+    let mut state = reader::set_up(s).state;
+    pass(area, |frame| {
+        let x = if looks {
+            glance(reader::look(state, frame))
+        } else {
+            0
+        };
+        let t = reader::take(state, frame, &mut held, &mut units, &mut records);
+        state = t.state;
+        plus(worth(t.answer, &units), x)
+    });
 }
 
 // What goes from frame to frame while batches are written.
@@ -198,120 +157,65 @@ struct Course {
     state: Writer,
     frames: u64,
     sum: u64,
-    good: bool,
 }
 
-// What is summed of a frame of n octets: the one before its middle and the last, which are of the zone and of the check or the OCF.
-fn seen(area: &[u8], n: usize) -> u64 {
-    plus(last(area, n / 2), last(area, n))
-}
-
-// A frame of a batch.
-fn write_next(c: Course, size: usize, batch: &[u8], area: &mut [u8]) -> Course {
-    let ocf = [0u8; 4];
-    let none = [0u8; 1];
-    let w = c.state;
-    let t = writer::write(w, 0, batch, &none[..0], &ocf, area);
-    let outcome = t.outcome;
-    let after = t.state;
-    let x = seen(area, size);
-    let sum = plus(c.sum, x);
-    let frames = plus(c.frames, 1);
-    let good = match outcome {
-        Outcome::Done => true,
-        Outcome::Refused(_) => false,
-    };
-    Course {
-        state: after,
-        frames: frames,
-        sum: sum,
-        good: good,
-    }
-}
-
-// All frames of a batch.
-fn write_batch(c: Course, size: usize, batch: &[u8], area: &mut [u8]) -> Course {
-    let mut course = c;
-    let mut k: u64 = 0;
-    while k < 32768 {
-        let t = write_next(course, size, batch, area);
-        course = t;
-        let w = t.state;
-        if w.next[0] == 0 {
-            return t;
+impl Course {
+    // A frame of a batch, of which the octet before its middle and the last are summed, which are of the zone and of the check or the OCF; whether the
+    // batch goes on.
+    fn write_frame(&mut self, size: usize, batch: &[u8], area: &mut [u8]) -> bool {
+        let t = writer::write(self.state, 0, batch, &[], &[0; 4], area);
+        self.state = t.state;
+        self.frames = plus(self.frames, 1);
+        self.sum = sum_of(&[self.sum, last(area, size / 2), last(area, size)]);
+        match t.outcome {
+            Outcome::Done => t.state.next[0] != 0,
+            Outcome::Refused(_) => false,
         }
-        if !t.good {
-            return t;
-        }
-        k += 1;
     }
-    course
+
+    // All frames of a batch.
+    fn write_batch(&mut self, size: usize, batch: &[u8], area: &mut [u8]) {
+        for _ in 0..rules::BATCH_SIZE {
+            if !self.write_frame(size, batch, area) {
+                break;
+            }
+        }
+    }
 }
 
 // The frames of batches of 32,768 octets.
 fn write(s: Setting) {
     let mut batch = [0u8; rules::BATCH_SIZE];
     let mut area = io::buffer();
-    let size = s.length;
-    let l = writer::set_up(s);
-    let w = l.state;
     let mut course = Course {
-        state: w,
+        state: writer::set_up(s).state,
         frames: 0,
         sum: 0,
-        good: true,
     };
-    let mut k: u64 = 0;
-    while k < 18446744073709551615 {
-        let more = next(&mut batch);
-        if !more {
+    for _ in 0..u64::MAX {
+        if !next(&mut batch) {
             break;
         }
-        let t = write_batch(course, size, &batch, &mut area);
-        course = t;
-        k += 1;
+        course.write_batch(s.length, &batch, &mut area);
     }
     tell(course.frames, course.sum);
 }
 
-// Reads the input by batches of 32,768 octets, and does nothing with it.
-fn pass_batches(s: Setting) {
-    let mut batch = [0u8; rules::BATCH_SIZE];
-    pass(b'p', s, &mut batch);
-}
-
 // ---- the program
 
-// The work that a word's first letter says: batches (pass by batches), read (a take), twice (a look, then a take), write; else pass, check, heads (they are read) or fields (they are
-// written), which is a value of each frame.
+// The work that a word's first letter says: batches (pass by batches), check, fields (they are written), heads (they are read), read (a take), twice (a look,
+// then a take), write; else pass, which sums the first octets.
 fn work(letter: u8, s: Setting, area: &mut [u8]) {
-    if letter == b'b' {
-        pass_batches(s);
-        return;
+    match letter {
+        b'b' => pass(&mut [0u8; rules::BATCH_SIZE], |octets| last(octets, 1)),
+        b'c' => pass(area, |frame| u64::from(fecf::check_of(frame))),
+        b'f' => pass(area, |frame| numbers(s, frame)),
+        b'h' => pass(area, fields),
+        b'r' => take(false, s, area),
+        b't' => take(true, s, area),
+        b'w' => write(s),
+        _ => pass(area, |octets| last(octets, 1)),
     }
-    if letter == b'r' {
-        take(false, s, area);
-        return;
-    }
-    if letter == b't' {
-        take(true, s, area);
-        return;
-    }
-    if letter == b'w' {
-        write(s);
-        return;
-    }
-    pass(letter, s, area);
-}
-
-// A length that an area of 4,096 octets has.
-fn within(n: usize) -> usize
-    ensures { result ≤ 4096 }
-{
-    if n < 4096 {
-        return n;
-    }
-    4096
 }
 
 // The program.
@@ -319,16 +223,13 @@ fn main(rt: HostRuntime) {
     let system = intake::system_of(rt);
     let mut word = [0u8; 8];
     console::arg(&system, 1, &mut word);
-    let letter = word[0];
     let mut path = io::buffer();
     let k = console::arg(&system, 2, &mut path);
     let mut text = [0u8; 65537];
-    let l = setting_file::load(&system, b"measure", &path[..k], &mut text);
-    let j = l.judged;
-    let s = j.setting;
+    let j = setting_file::load(&system, b"measure", &path[..k], &mut text).judged;
     if j.good {
         let mut area = io::buffer();
-        let end = within(s.length);
-        work(letter, s, &mut area[..end]);
+        let end = j.setting.length.min(4096);
+        work(word[0], j.setting, &mut area[..end]);
     }
 }
