@@ -1,17 +1,19 @@
 -- A turn of each loop, and what the loop has done at its end.
 use mathlib.Core.Path.{◌≡◌, refl, sym, ap, ap₂, ◌∙◌}
-use Prim.Native.Nat.{ℕ, zero, suc, ◌+◌, ◌-◌, ◌*◌, ◌/◌, ◌%◌, ◌^◌, ◌≤◌, ◌<◌}
+use Prim.Native.Nat.{ℕ, zero, suc, ◌+◌, ◌-◌, ◌*◌, ◌/◌, ◌%◌, ◌^◌, ◌≤◌, ◌<◌, min}
 use native.Mathlib.Nat.{zero-lt-suc, zero-add, le_of_eq, add-sub_of_le, le_antisymm, div-one, div-div-eq-div-mul, pow-succ', pow-suc, pow-le-pow_right, mul-mod_right, mod-eq_of_lt}
 use native.Mathlib.Numerals.{add-one}
 use native.Mathlib.Omega.{arith}
 use mathlib.Core.List.{List, [], ◌∷◌, ◌++◌, append_assoc, append-nil}
-use lib.ListN.{length, get_or, take, drop, set, replicate, length-append, length-drop, length-replicate, drop_of_length-le}
-use lib.Seq.{paste, paste-suc, length-take-le, take_all, take-suc, take-length, drop-cons, drop-drop, set_at}
+use lib.ListN.{length, get_or, take, drop, set, length-append, length-drop, length-take, drop_of_length-le}
+use lib.Seq.{paste, paste-suc, length-take-le, take_all, take-suc, take-length, drop-drop, set_at}
 use lib.Pow.{pow-add}
 use borrow.Rule.Slice.PartMut.{put_mid}
+use Rattle.std.specs.List.{fold}
+use Rattle.std.proofs.lemmas.List.{take_min}
 use Rattle.rules.specs.Octets.{be, num}
 use Rattle.rules.specs.Areas.{laid}
-use Rattle.rules.proofs.Octets.{length-be, octets_each, num-below}
+use Rattle.rules.proofs.Octets.{length-be, Octets, octets_each, num-below}
 
 -- ---- copy: the first i octets are the source's
 
@@ -25,56 +27,35 @@ copy_turn d s dst i h k e =
     ∙ ap (λ (n : ℕ). set (paste d 0 s i) n (get_or s i 0)) (sym (zero-add i))
     ∙ paste-suc d 0 s i 0 (rw zero-add h) k ∙ ap (paste d 0 s) (sym (add-one i))
 
--- The source has ended, or the destination has.
-pub copy_all : (d s dst : List ℕ) (i : ℕ) → i ≤ length d → i ≤ length s → length s ≤ i → dst ≡ paste d 0 s i → dst ≡ laid d 0 (take (length d) s)
-copy_all d s dst i h k l e =
-    let q : take i s ≡ take (length d) s = take_all i s l ∙ sym (take_all (length d) s (omega arith)) in
-    e ∙ copied d s i k ∙ ap (laid d 0) q
+-- As many octets as both lists have, of which the destination then has the source's.
+pub copied_front : (d s new : List ℕ) (n : ℕ) → n ≡ min (length d) (length s) → new ≡ take n s → new ++ drop n d ≡ laid d 0 (take (length d) s)
+unfolding laid
+copied_front d s new n h e =
+    let q : take n s ≡ take (length d) s = rw h (take_min (length d) s) in
+    let l : length (take (length d) s) ≡ n = length-take (length d) s ∙ sym h in
+    rw (e, q, l, zero-add n) refl
 
-pub copy_full : (d s dst : List ℕ) (i : ℕ) → i ≤ length d → i ≤ length s → length d ≤ i → dst ≡ paste d 0 s i → dst ≡ laid d 0 (take (length d) s)
-copy_full d s dst i h k l e = e ∙ copied d s i k ∙ ap (λ (n : ℕ). laid d 0 (take n s)) (le_antisymm h l)
-
--- ---- fill: the first i octets are x
-
-filled_more : (i x : ℕ) (l : List ℕ) → replicate i x ++ x ∷ l ≡ replicate (suc i) x ++ l
-filled_more zero x l = refl
-filled_more (suc i) x l = ap (λ (r : List ℕ). x ∷ r) (filled_more i x l)
-
-pub fill-turn : (d dst : List ℕ) (x i : ℕ) → i < length d → dst ≡ replicate i x ++ drop i d → set dst i x ≡ replicate (i + 1) x ++ drop (i + 1) d
-fill-turn d dst x i h e =
-    ap (λ (l : List ℕ). set l i x) (e ∙ ap (λ (l : List ℕ). replicate i x ++ l) (drop-cons d i 0 h))
-    ∙ set_at (replicate i x) (get_or d i 0) (drop (suc i) d) x i (length-replicate i x) ∙ filled_more i x (drop (suc i) d)
-    ∙ ap (λ (n : ℕ). replicate n x ++ drop n d) (sym (add-one i))
-
-pub fill-full : (d dst : List ℕ) (x i : ℕ) → i ≤ length d → length d ≤ i → dst ≡ replicate i x ++ drop i d → dst ≡ replicate (length d) x
-fill-full d dst x i h l e =
-    e ∙ ap (λ (r : List ℕ). replicate i x ++ r) (drop_of_length-le d l) ∙ append-nil (replicate i x) ∙ ap (λ (n : ℕ). replicate n x) (le_antisymm h l)
-
--- ---- number: the first i octets are read
-
-num-more : (xs : List ℕ) (x : ℕ) → num (xs ++ x ∷ []) ≡ num xs * 256 + x
-unfolding num
-num-more [] x = omega arith
-num-more (y ∷ xs) x =
-    let n : length (xs ++ x ∷ []) ≡ suc (length xs) = length-append xs (x ∷ []) ∙ add-one (length xs) in
-    ap₂ (λ (a b : ℕ). y * a + b) (ap (λ (k : ℕ). 256 ^ k) n ∙ pow-suc 256 (length xs)) (num-more xs x) ∙ regroup y (256 ^ length xs) (num xs) x
-  where
-    regroup : (y p m x : ℕ) → y * (p * 256) + (m * 256 + x) ≡ (y * p + m) * 256 + x
-    regroup y p m x = omega arith
+-- ---- number: the total is of the octets so far
 
 carried : (n x : ℕ) → x < 256 → n % 0x10000000000000000 % 0x100000000000000 * 256 + x ≡ (n * 256 + x) % 0x10000000000000000
 carried n x h = omega arith
 
-pub number-turn : (s : List ℕ) (i v x : ℕ) → i < length s → x ≡ get_or s i 0 → x < 256 → v ≡ num (take i s) % 2 ^ 64
-    → v % 0x100000000000000 * 256 + x ≡ num (take (i + 1) s) % 2 ^ 64
-number-turn s i v x h q b e =
-    ap (λ (w : ℕ). w % 0x100000000000000 * 256 + x) e ∙ carried (num (take i s)) x b
-    ∙ ap (λ (w : ℕ). w % 0x10000000000000000)
-    (ap (λ (y : ℕ). num (take i s) * 256 + y) q ∙ sym (num-more (take i s) (get_or s i 0)) ∙ ap num
-    (sym (take-suc s i 0 h) ∙ ap (λ (n : ℕ). take n s) (sym (add-one i))))
+folded_on : (s : List ℕ) (n v : ℕ) → Octets s → v ≡ n % 2 ^ 64
+    → fold (λ (t x : ℕ). t % 0x100000000000000 * 256 + x) v s ≡ (n * 256 ^ length s + num s) % 2 ^ 64
+unfolding num
+folded_on [] n v o e = e ∙ ap (λ (k : ℕ). k % 2 ^ 64) (omega arith)
+folded_on (x ∷ s) n v o e =
+    folded_on s (n * 256 + x) (v % 0x100000000000000 * 256 + x) o.1
+    (ap (λ (t : ℕ). t % 0x100000000000000 * 256 + x) e ∙ carried n x o.0)
+    ∙ ap (λ (k : ℕ). k % 2 ^ 64) (regroup n x (256 ^ length s) (num s) ∙ ap (λ (p : ℕ). n * p + (x * 256 ^ length s + num s)) (sym (pow-suc 256 (length s))))
+  where
+    regroup : (n x p m : ℕ) → (n * 256 + x) * p + m ≡ n * (p * 256) + (x * p + m)
+    regroup n x p m = omega arith
 
-pub number-all : (s : List ℕ) (i v : ℕ) → i ≤ length s → length s ≤ i → v ≡ num (take i s) % 2 ^ 64 → v ≡ num s % 2 ^ 64
-number-all s i v h l e = e ∙ ap (λ (xs : List ℕ). num xs % 2 ^ 64) (take_all i s l)
+pub folded : (s : List ℕ) (v : ℕ) → ((i : ℕ) → get_or s i 0 < 256) → v ≡ fold (λ (t x : ℕ). t % 0x100000000000000 * 256 + x) 0 s → v ≡ num s % 2 ^ 64
+folded s v o e =
+    let z : 0 * 256 ^ length s + num s ≡ num s = omega arith in
+    e ∙ folded_on s 0 0 (octets_each s o) refl ∙ ap (λ (k : ℕ). k % 2 ^ 64) z
 
 -- ---- spell: from the last octet on
 
@@ -136,8 +117,13 @@ pub none_left : (n : ℕ) → 8 ≤ n → 0 ≡ 256 ^ n % 2 ^ 64
 none_left n h =
     sym (ap (λ (p : ℕ). p % 2 ^ 64) (ap (λ (k : ℕ). 256 ^ k) (sym (add-sub_of_le h)) ∙ pow-add 256 8 (n - 8)) ∙ mul-mod_right (2 ^ 64) (256 ^ (n - 8)))
 
-pub modulus_turn : (m i : ℕ) → m ≡ 256 ^ i → m * 256 ≡ 256 ^ (i + 1)
-modulus_turn m i e = rw (add-one, pow-suc 256 i, e)
+-- A one in front of n octets.
+pub one_moved : (n : ℕ) → 1 * 2 ^ (8 * n) ≡ 256 ^ n
+one_moved zero = refl
+one_moved (suc n) =
+    let longer : 8 * suc n ≡ 8 * n + 8 = omega arith in
+    let here : 1 * (2 ^ (8 * n) * 256) ≡ 1 * 2 ^ (8 * n) * 256 = omega arith in
+    rw (longer, pow-add 2 (8 * n) 8) (here ∙ ap (λ (p : ℕ). p * 256) (one_moved n) ∙ sym (pow-suc 256 n))
 
 pub small : (i k : ℕ) → i ≤ k → 256 ^ i ≤ 256 ^ k
 small i k h = pow-le-pow_right (zero-lt-suc 255) h

@@ -9,54 +9,30 @@ ghost use Rattle.rules.specs.Areas.{laid};
 pub fn least(a: usize, b: usize) -> usize
     ensures { result ≡ min a b }
 {
-    if a < b {
-        return a;
-    }
-    b
+    a.min(b)
 }
 
 // Copies `src` to the front of `dst`, as far as it has room; later octets stay.
 pub fn copy(dst: &mut [u8], src: &[u8])
     ensures { dst.new ≡ laid dst.old 0 (take (length dst.old) src.now) }
 {
-    let mut i: usize = 0;
-    while i < dst.len() {
-        if src.len() <= i {
-            return;
-        }
-        dst[i] = src[i];
-        i += 1;
-    }
+    let n = dst.len().min(src.len());
+    dst[..n].copy_from_slice(&src[..n]);
 }
 
 // Puts `x` into every octet.
 pub fn fill(dst: &mut [u8], x: u8)
     ensures { dst.new ≡ replicate (length dst.old) x }
 {
-    let mut i: usize = 0;
-    while i < dst.len() {
-        dst[i] = x;
-        i += 1;
-    }
-}
-
-fn wide(x: u8) -> u64
-    ensures { result ≡ x }
-{
-    x as u64
+    dst.fill(x);
 }
 
 // The number that the octets spell, modulo 2^64.
 pub fn number(s: &[u8]) -> u64
     ensures { result ≡ num s.now % 2 ^ 64 }
 {
-    let mut v: u64 = 0;
-    let mut i: usize = 0;
-    while i < s.len() {
-        v = v % 0x100000000000000 * 256 + wide(s[i]);
-        i += 1;
-    }
-    v
+    s.iter()
+        .fold(0, |v, x| v % 0x100000000000000 * 256 + u64::from(*x))
 }
 
 // The number that at most eight octets spell.
@@ -72,11 +48,9 @@ pub fn spell(dst: &mut [u8], x: u64)
     ensures { dst.new ≡ be (length dst.old) x }
 {
     let mut v = x;
-    let mut i = dst.len();
-    while 0 < i {
-        i -= 1;
+    for i in (0..dst.len()).rev() {
         dst[i] = (v % 256) as u8;
-        v = v / 256;
+        v /= 256;
     }
 }
 
@@ -84,16 +58,7 @@ pub fn spell(dst: &mut [u8], x: u64)
 pub fn modulus(n: usize) -> u64
     ensures { result ≡ 256 ^ n % 2 ^ 64 }
 {
-    if 8 <= n {
-        return 0;
-    }
-    let mut m: u64 = 1;
-    let mut i: usize = 0;
-    while i < n {
-        m = m * 256;
-        i += 1;
-    }
-    m
+    if n < 8 { 1 << (8 * n) } else { 0 }
 }
 
 // Lays `src` into `area` from octet `from` on.
