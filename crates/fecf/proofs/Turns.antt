@@ -1,12 +1,12 @@
 -- What one turn of each loop of the fold does, and what is there after the last.
 use mathlib.Core.Path.{◌≡◌, refl, sym, ap, ap₂, ◌∙◌}
 use mathlib.Core.List.{List, [], ◌∷◌, ◌++◌}
-use Prim.Native.Nat.{ℕ, zero, suc, ◌+◌, ◌-◌, ◌*◌, ◌≤◌, ◌<◌}
+use Prim.Native.Nat.{ℕ, zero, suc, ◌+◌, ◌-◌, ◌*◌, ◌%◌, ◌≤◌, ◌<◌}
 use native.Mathlib.Nat.{add-zero, not-suc-le-zero, le_of_suc-le-suc, le_antisymm, le_refl}
 use native.Mathlib.Numerals.{add-one}
 use native.Mathlib.Omega.{arith}
-use lib.ListN.{length, get_or, take, drop, set, length-drop, length-take, take-append-drop, drop_of_length-le}
-use lib.Seq.{drop-cons, drop-drop, drop-set-add, take-suc-set, take_all, take_at, drop_at, length-take-le, get_or-take, get_or-drop, paste, paste-suc, drop-paste}
+use lib.ListN.{length, get_or, take, drop, set, length-append, length-drop, length-take, drop_of_length-le}
+use lib.Seq.{drop-cons, drop-drop, drop-set-add, take-suc-set, take_all, take_at, drop_at, length-take-le, get_or-take, get_or-drop, paste}
 use lib.Bits.{bit_xor}
 use borrow.Author.Rules.{part_to_end}
 use borrow.Rule.Slice.PartMut.{put_mid}
@@ -57,32 +57,41 @@ carried-joined u long [] ys = refl
 carried-joined u long (x ∷ xs) ys = carried-joined u (drop 1 long ++ next u long x ∷ []) xs ys
 
 -- A turn of 512 octets: carried on over them, the long register goes back to the front of its area.
-pub far-turn : (a b d xs part : List ℕ) (i : ℕ) → length b ≡ 768 → i + 512 ≤ length xs → part ≡ take (i + 512 - i) (drop i xs)
-    → take 256 (drop (length part) b) ≡ carried 16 (take 256 a) part → d ≡ drop 512 b ++ drop (length b - 512) b
-    → carried 16 (take 256 a) (drop i xs) ≡ carried 16 (take 256 d) (drop (i + 512) xs)
-far-turn a b d xs part i lb h ep eb ed =
-    let n : i + 512 - i ≡ 512 = omega arith in
-    let mine : part ≡ take 512 (drop i xs) = ep ∙ ap (λ (m : ℕ). take m (drop i xs)) n in
-    let long : length part ≡ 512 = ap length mine ∙ length-take-le 512 (drop i xs) (omega (arith, length-drop i xs)) in
-    let front : take 256 d ≡ drop 512 b = ap (take 256) ed ∙ take_at (drop 512 b) (drop (length b - 512) b) 256 (omega (arith, length-drop 512 b)) in
-    let back : take 256 d ≡ carried 16 (take 256 a) (take 512 (drop i xs)) =
-    front
-    ∙ sym (take_all 256 (drop 512 b) (omega (arith, length-drop 512 b)))
-    ∙ ap (λ (m : ℕ). take 256 (drop m b)) (sym long)
-    ∙ eb
-    ∙ ap (carried 16 (take 256 a)) mine in
-    ap (carried 16 (take 256 a)) (sym (take-append-drop 512 (drop i xs)))
-    ∙ carried-joined 16 (take 256 a) (take 512 (drop i xs)) (drop 512 (drop i xs))
-    ∙ ap₂ (carried 16) (sym back) (drop-drop 512 i xs)
+pub far-turn : (a b d block rest : List ℕ) → length b ≡ 768 → length block ≡ 512
+    → take 256 (drop (length block) b) ≡ carried 16 (take 256 a) block → d ≡ paste b 0 (drop 512 b) (length b - 512)
+    → carried 16 (take 256 a) (block ++ rest) ≡ carried 16 (take 256 d) rest
+far-turn a b d block rest lb long eb ed =
+    let back : length (drop 512 b) ≡ 256 = omega (arith, length-drop 512 b) in
+    let all : take (length b - 512) (drop 512 b) ≡ drop 512 b = take_all (length b - 512) (drop 512 b) (omega arith) in
+    let front : take 256 d ≡ drop 512 b =
+    ap (take 256) (ed ∙ ap (λ (l : List ℕ). l ++ drop (0 + (length b - 512)) b) all) ∙ take_at (drop 512 b) (drop (0 + (length b - 512)) b) 256 back in
+    let same : take 256 d ≡ carried 16 (take 256 a) block =
+    front ∙ sym (take_all 256 (drop 512 b) (omega arith)) ∙ ap (λ (m : ℕ). take 256 (drop m b)) (sym long) ∙ eb in
+    carried-joined 16 (take 256 a) block rest ∙ ap (λ (l : List ℕ). carried 16 l rest) (sym same)
 
--- The rest of them.
-pub far-all : (a b xs part : List ℕ) (i : ℕ) → i ≤ length xs → part ≡ take (length xs - i) (drop i xs)
-    → take 256 (drop (length part) b) ≡ carried 16 (take 256 a) part → take 256 (drop (length xs - i) b) ≡ carried 16 (take 256 a) (drop i xs)
-far-all a b xs part i h ep eb =
-    let mine : part ≡ drop i xs = ep ∙ part_to_end xs i in
-    ap (λ (m : ℕ). take 256 (drop m b)) (sym (ap length mine ∙ length-drop i xs)) ∙ eb ∙ ap (carried 16 (take 256 a)) mine
+-- What is left of octets after blocks of 512.
+pub record Blocks (xs rest : List ℕ) : Type 0 where
+  pub count : ℕ
+  pub here : rest ≡ drop (512 * count) xs
+  pub long : 512 * count + length rest ≡ length xs
 
--- ---- octets moved to the front
+pub blocks_none : (xs rest : List ℕ) → rest ≡ xs → Blocks xs rest
+blocks_none xs rest e = record { count = 0; here = e; long = omega (arith, ap length e) }
+
+pub blocks_more : (xs rest block next : List ℕ) → rest ≡ block ++ next → length block ≡ 512 → Blocks xs rest → Blocks xs next
+blocks_more xs rest block next e n w =
+    let after : 512 * w.count + 512 ≡ 512 * (w.count + 1) = omega arith in
+    record {
+      count = w.count + 1;
+      here = sym (drop_at block next 512 n) ∙ ap (drop 512) (sym e ∙ w.here) ∙ drop-drop 512 (512 * w.count) xs ∙ ap (λ (k : ℕ). drop k xs) after;
+      long = let both : length rest ≡ length block + length next = ap length e ∙ length-append block next in omega (arith, w.long);
+    }
+
+-- After the last, what is left is the remainder.
+pub blocks-end : (xs rest : List ℕ) → Blocks xs rest → length rest < 512 → rest ≡ drop (length xs - length xs % 512) xs
+blocks-end xs rest w few = let at : 512 * w.count ≡ length xs - length xs % 512 = omega (arith, w.long) in w.here ∙ ap (λ (k : ℕ). drop k xs) at
+
+-- ---- octets added
 
 -- Where two areas are the same from octet j on, what is read there is the same.
 read_behind : (l a : List ℕ) (j i : ℕ) → j ≤ i → drop j l ≡ drop j a → get_or l i 0 ≡ get_or a i 0
@@ -93,30 +102,6 @@ read_behind l a j i h e =
     ∙ ap (λ (m : List ℕ). get_or m (i - j) 0) e
     ∙ get_or-drop j a (i - j) 0
     ∙ ap (λ (n : ℕ). get_or a n 0) there
-
-front_read : (a : List ℕ) (from j : ℕ) → from + j < length a → get_or (paste a 0 (drop from a) j) (from + j) 0 ≡ get_or (drop from a) j 0
-front_read a from j h =
-    let enough : j ≤ length (drop from a) = omega (arith, length-drop from a) in
-    read_behind (paste a 0 (drop from a) j) a (0 + j) (from + j) (omega arith) (drop-paste a 0 (drop from a) j (omega arith) enough)
-    ∙ sym (get_or-drop from a j 0)
-
-pub front-turn : (a area : List ℕ) (from j : ℕ) → from + j < length a → area ≡ paste a 0 (drop from a) j
-    → set area j (get_or area (from + j) 0) ≡ paste a 0 (drop from a) (j + 1)
-front-turn a area from j h e =
-    let s = drop from a in
-    let none : j ≡ 0 + j = omega arith in
-    ap (λ (l : List ℕ). set l j (get_or l (from + j) 0)) e
-    ∙ ap₂ (set (paste a 0 s j)) none (front_read a from j h)
-    ∙ paste-suc a 0 s j 0 (omega arith) (omega (arith, length-drop from a))
-    ∙ ap (paste a 0 s) (sym (add-one j))
-
-pub front-all : (a area : List ℕ) (from j : ℕ) → length a ≤ from + j → j ≤ length a - from → area ≡ paste a 0 (drop from a) j
-    → area ≡ drop from a ++ drop (length a - from) a
-front-all a area from j h le e =
-    let end : 0 + j ≡ length a - from = omega arith in
-    e ∙ ap₂ ◌++◌ (take_all j (drop from a) (omega (arith, length-drop from a))) (ap (λ (n : ℕ). drop n a) end)
-
--- ---- octets added
 
 plus-read : (xs a : List ℕ) (j i : ℕ) → j ≤ i → get_or (plus (take j xs) a) i 0 ≡ get_or a i 0
 plus-read xs a j i h = read_behind (plus (take j xs) a) a j i h (drop-plus j (take j xs) a (omega (arith, length-take j xs)))

@@ -31,11 +31,9 @@ fn taken(table: &[u16; 256], r: u32, x: u8) -> u32
 fn check_by(table: &[u16; 256], first: u16, octets: &[u8]) -> u16
     ensures { result ≡ from_by table.now first octets.now }
 {
-    let mut r = first as u32;
-    let mut i: usize = 0;
-    while i < octets.len() {
-        r = taken(table, r, octets[i]);
-        i += 1;
+    let mut r = u32::from(first);
+    for x in octets {
+        r = taken(table, r, *x);
     }
     (r % 0x10000) as u16
 }
@@ -47,21 +45,8 @@ fn carry(u: usize, area: &mut [u8], octets: &[u8])
     requires { (0 < u) × (u ≤ 16) × (16 * u + length octets.now ≤ length area.old) }
     ensures { take (16 * u) (drop (length octets.now) area.new) ≡ carried u (take (16 * u) area.old) octets.now }
 {
-    let mut j: usize = 0;
-    while j < octets.len() {
-        area[j + 16 * u] = octets[j] ^ area[j + 12 * u] ^ area[j + 5 * u] ^ area[j];
-        j += 1;
-    }
-}
-
-// Moves the octets of an area from `from` on to its front.
-fn to_front(area: &mut [u8], from: usize)
-    ensures { area.new ≡ drop from area.old ++ drop (length area.old - from) area.old }
-{
-    let mut j: usize = 0;
-    while from + j < area.len() {
-        area[j] = area[from + j];
-        j += 1;
+    for (j, x) in octets.iter().enumerate() {
+        area[j + 16 * u] = *x ^ area[j + 12 * u] ^ area[j + 5 * u] ^ area[j];
     }
 }
 
@@ -69,10 +54,8 @@ fn to_front(area: &mut [u8], from: usize)
 fn add_later(area: &mut [u8], d: usize)
     ensures { area.new ≡ later d area.old }
 {
-    let mut j: usize = 0;
-    while d + j < area.len() {
-        area[j] = area[j] ^ area[d + j];
-        j += 1;
+    for j in 0..area.len().saturating_sub(d) {
+        area[j] ^= area[d + j];
     }
 }
 
@@ -81,10 +64,8 @@ fn add_first(area: &mut [u8], octets: &[u8])
     requires { length octets.now ≤ length area.old }
     ensures { area.new ≡ plus octets.now area.old }
 {
-    let mut j: usize = 0;
-    while j < octets.len() {
-        area[j] = area[j] ^ octets[j];
-        j += 1;
+    for (j, x) in octets.iter().enumerate() {
+        area[j] ^= *x;
     }
 }
 
@@ -112,14 +93,14 @@ fn carry_far(area: &mut [u8], octets: &[u8]) -> usize
     requires { length area.old ≡ 768 }
     ensures { (result < 512) × (take 256 (drop result area.new) ≡ carried 16 (take 256 area.old) octets.now) }
 {
-    let mut i: usize = 0;
-    while 512 <= octets.len() - i {
-        carry(16, area, &octets[i..i + 512]);
-        to_front(area, 512);
-        i += 512;
+    let blocks = octets.chunks_exact(512);
+    let rest = blocks.remainder();
+    for block in blocks {
+        carry(16, area, block);
+        area.copy_within(512.., 0);
     }
-    carry(16, area, &octets[i..]);
-    octets.len() - i
+    carry(16, area, rest);
+    rest.len()
 }
 
 // Makes octets shorter: the long register at the front of the area goes over all of them but the last 16u, and the fold ends over these. The 16u octets that
@@ -187,12 +168,12 @@ fn check_with(table: &[u16; 256], octets: &[u8]) -> u16
     ensures { result ≡ check_by table.now octets.now }
 {
     if octets.len() < 128 {
-        return check_by(table, 0xFFFF, octets);
+        check_by(table, 0xFFFF, octets)
+    } else if octets.len() <= 256 {
+        check_256(table, 0xFF, octets)
+    } else {
+        check_long(table, octets)
     }
-    if octets.len() <= 256 {
-        return check_256(table, 0xFF, octets);
-    }
-    check_long(table, octets)
 }
 
 // The frame check over these octets. The table is lent, since a constant is copied whole wherever it is used.

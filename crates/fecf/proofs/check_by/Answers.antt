@@ -1,11 +1,5 @@
-use Prim.Native.Nat.{ℕ, ◌+◌, ◌%◌, ◌≤◌, ◌<◌}
-use mathlib.Core.Path.{◌≡◌, sym, ap, ◌∙◌}
-use mathlib.Core.List.{List}
-use native.Mathlib.Numerals.{add-one}
-use native.Mathlib.Omega.{arith}
-use lib.ListN.{length, get_or, drop, drop_of_length-le}
-use lib.Seq.{drop-cons}
-use borrow.Author.Rules.{rules}
+use Rattle.std.proofs.Common.{rules, arith, ◌≡◌, ℕ, ◌+◌, ◌%◌, ◌≤◌, ◌<◌, List, length, get_or, drop, sym, ap, ◌∙◌, add-one, drop-cons}
+use lib.ListN.{drop_of_length-le}
 use Rattle.fecf.specs.Remainders.{step_by, from_by}
 use Rattle.fecf.proofs.check_by.Goals as goal
 
@@ -17,16 +11,16 @@ end : (t xs : List ℕ) (i r : ℕ) → length xs ≤ i → from_by t r (drop i 
 unfolding from_by
 end t xs i r h = rw (drop_of_length-le xs h)
 
-pub loop-i-init : goal.loop-i-init
-loop-i-init c =
+pub loop-x-init : goal.loop-x-init
+loop-x-init c =
     let a = c.args in
-    let whole : a.first ≡ a.first % 0x10000 = omega (arith, c.ranges.first.fits) in
-    (search rules, ap (λ (n : ℕ). from_by a.table.now n a.octets.now) whole)
+    let whole : a.first ≡ c.from-r.result % 0x10000 = omega (arith, c.ranges.first.fits) in
+    ap (λ (n : ℕ). from_by a.table.now n a.octets.now) whole
 
-pub loop-i-preserved : goal.loop-i-preserved
-loop-i-preserved c =
-    let l = c.loop-i in
-    (search rules, l.invariant.1 ∙ turn _ _ l.i (l.r % 0x10000) (search rules) ∙ rw c.taken-r.ensures)
+pub loop-x-preserved : goal.loop-x-preserved
+loop-x-preserved c =
+    let l = c.loop-x in
+    l.invariant ∙ turn _ _ l.x-index (l.r % 0x10000) (search rules) ∙ rw c.taken-r.ensures
 
 pub returns : goal.returns
-returns c = sym (c.loop-i.invariant.1 ∙ end _ _ _ _ c.loop-i-test.false)
+returns c = sym (c.loop-x.invariant ∙ end _ _ _ _ c.loop-x-test.false)

@@ -17,6 +17,6 @@ returns-then-octets-le256 c =
     let few : length xs < 257 = omega (arith, c.if-octets-le256.true) in
     simp (le-leb _ _ c.if-octets-lt128.false, lt-leb _ _ few) c.check_256.ensures
 
-pub returns : goal.returns
+pub returns-else-octets-le256 : goal.returns-else-octets-le256
 unfolding check_by
-returns c = simp (le-leb _ _ c.if-octets-lt128.false, le-leb _ _ c.if-octets-le256.false) c.check_long.ensures
+returns-else-octets-le256 c = simp (le-leb _ _ c.if-octets-lt128.false, le-leb _ _ c.if-octets-le256.false) c.check_long.ensures
