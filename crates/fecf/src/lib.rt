@@ -1,7 +1,7 @@
 // The frame check: long inputs are made shorter by powers of the generator, and what is left goes octet by octet, by a table of 256 remainders.
 #![tactic(auto)]
 
-ghost use Rattle.std.specs.Prelude.{◌≡◌, ◌+◌, ◌-◌, ◌*◌, ◌%◌, ◌≤◌, ◌<◌, ◌++◌, length, take, drop};
+ghost use Rattle.std.specs.Prelude.{◌≡◌, ◌+◌, ◌-◌, ◌*◌, ◌%◌, ◌≤◌, ◌<◌, length, take, drop};
 ghost use Rattle.std.specs.Int.Bits.{bit_xor};
 ghost use Rattle.rules.specs.Octets.{check_of};
 ghost use Rattle.fecf.specs.Remainders.{step_by, from_by};

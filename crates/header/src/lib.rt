@@ -2,7 +2,7 @@
 #![tactic(auto)]
 
 ghost use Rattle.std.specs.Prelude.{◌≡◌, ◌+◌, ◌-◌, ◌*◌, ◌/◌, ◌%◌, ◌^◌, ◌≤◌, ◌<◌, [], ◌∷◌, length, take};
-ghost use Rattle.rules.specs.Octets.{num, fields_of, packed, flag};
+ghost use Rattle.rules.specs.Octets.{num, fields_of, packed};
 ghost use Rattle.rules.specs.Settings.{insert_at};
 ghost use Rattle.rules.specs.Frames.{data_widths, header, count_in};
 ghost use Rattle.header.specs.Heads.{head_of, data_of, head_fields, data_fields};
@@ -59,10 +59,7 @@ fn front(octets: &[u8], n: usize) -> u64
     requires { n ≤ 8 }
     ensures { result ≡ num (take n octets.now) }
 {
-    if octets.len() < n {
-        return octets::exact(octets);
-    }
-    octets::exact(&octets[..n])
+    octets::exact(&octets[..n.min(octets.len())])
 }
 
 // The primary header's first twelve fields, each by its first bit and its width as 000 prints them (4.1.2.2 to 4.1.2.11). All are read before any is
@@ -142,23 +139,12 @@ fn data_number(d: Data) -> u64
     rule + upid + pointer
 }
 
-// A flag as the bit that stands for it.
-fn flag_of(b: bool) -> u8
-    ensures { result ≡ flag b }
-{
-    if b {
-        return 1;
-    }
-    0
-}
-
 // The primary header's seven octets as a number: what is written into its fields for a frame of lane l, on channel c.
 pub fn header_of(s: Setting, c: Channel, l: Lane) -> u64
     requires { (1 ≤ s.length) × (s.length ≤ 65536) × (c.octets ≤ 7) }
     ensures { result ≡ packed (header s c l) }
 {
-    let o = flag_of(c.ocf);
-    let h = Head {
+    head_number(Head {
         version: 0b1100,
         craft: s.craft,
         bit: s.bit,
@@ -169,10 +155,9 @@ pub fn header_of(s: Setting, c: Channel, l: Lane) -> u64
         bypass: c.service,
         command: 0,
         spare: 0b00,
-        ocf: o,
+        ocf: u8::from(c.ocf),
         octets: c.octets as usize,
-    };
-    head_number(h)
+    })
 }
 
 // The data field's header as a number.
@@ -180,10 +165,9 @@ pub fn data_header_of(rule: u8, upid: u8, pointer: usize) -> u64
     requires { pointer < 65536 }
     ensures { result ≡ packed (fields_of data_widths (rule ∷ upid ∷ pointer ∷ [])) }
 {
-    let d = Data {
-        rule: rule,
-        upid: upid,
-        pointer: pointer,
-    };
-    data_number(d)
+    data_number(Data {
+        rule,
+        upid,
+        pointer,
+    })
 }
