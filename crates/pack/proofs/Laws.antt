@@ -1,81 +1,74 @@
--- Whether a file may have more, file by file; and from turn to turn of a round.
-use Prim.Native.Nat.{ℕ, zero, suc, ◌+◌, ◌<◌}
-use mathlib.Core.Path.{◌≡◌, refl, sym, subst, ◌∙◌, ap, ap₂}
-use mathlib.Core.Bool.{Bool, true, false, cond}
-use mathlib.Core.List.{List}
-use native.Mathlib.Numerals.{add-one}
+-- From turn to turn of a round.
+use Prim.Native.Nat.{ℕ, ◌+◌, ◌<◌}
 use native.Mathlib.Omega.{arith}
-use Rattle.rules.proofs.Tests.{split}
+use mathlib.Core.Path.{◌≡◌, refl, sym, subst, ◌∙◌}
+use mathlib.Core.Bool.{Bool, true, false, true≢false}
+use mathlib.Core.List.{List}
+use Rattle.std.specs.Prelude.{Option, Some, None, cond, MatchOption}
+use borrow.Author.Tests.{ltb-true}
+use Rattle.rules.specs.Tests.{◌<?◌}
 use Rattle.turns.specs.declared.Course.{Course}
-use Rattle.turns.specs.declared.Move.{Move}
 use Rattle.pack.specs.declared.Files.{Files}
 use Rattle.pack.specs.declared.Place.{Place}
-use Rattle.pack.specs.Rounds.{file_of, any_more, with_file, place_after, Stepped, Dealt, turn, Rounded}
+use Rattle.pack.specs.Rounds.{with_file, has_next, next_turn, next_place, place_after, Stepped, Dealt, turn, Rounded}
 
-pub more-none : (f : Files) → any_more f 0 ≡ false
-unfolding any_more
-more-none f = refl
+below_eight : (k count : ℕ) → next_place k count < 8
+unfolding next_place
+below_eight k count = go ((k + 1) <? count) ((k + 1) <? 8) refl
+  where
+    go : (a b : Bool) → (k + 1) <? 8 ≡ b → cond a (cond b (k + 1) 0) 0 < 8
+    go true true e = ltb-true _ _ e
+    go true false e = omega arith
+    go false b e = omega arith
 
-pub more-next : (f : Files) (n : ℕ) → any_more f n ≡ false → (file_of f n).more ≡ false → any_more f (n + 1) ≡ false
-unfolding any_more
-more-next f n a e = rw (add-one n, e, a)
+module _ (writing : Bool) (c₀ : Course) (f₀ : Files) (insert ocf : List ℕ) where
+  abbrev pub Ended : Place → Type 0
+  Ended p = (p.last < 8) × Rounded writing c₀ f₀ insert ocf p.course p.last
 
-either_true : (b : Bool) → cond b true true ≡ true
-either_true true = refl
-either_true false = refl
+  -- After n turns the next one is file k's. After as many as are counted the round is over.
+  pub record Going (n : ℕ) (p : Place) (areas lists : List ℕ) (k : ℕ) : Type 0 where
+    pub there : k < 8
+    pub dealt : Dealt writing c₀ f₀ insert ocf n k p.course p.files areas lists
+    pub counted : n ≡ 18446744073709551615 → Ended p
 
-found_last : (f : Files) (n : ℕ) → (file_of f n).more ≡ true → any_more f (suc n) ≡ true
-unfolding any_more
-found_last f n e = rw e
+  -- Where a round is after n turns: there is a next one, or it is over.
+  abbrev pub At : ℕ → Place → List ℕ → List ℕ → Type 0
+  At n p areas lists = MatchOption p.next (Ended p) (λ k. Going n p areas lists k)
 
-found_before : (f : Files) (n : ℕ) → any_more f n ≡ true → any_more f (suc n) ≡ true
-unfolding any_more
-found_before f n e = rw e (either_true (file_of f n).more)
+  pub going : (n : ℕ) (p : Place) (areas lists : List ℕ) {k : ℕ} → p.next ≡ Some k → At n p areas lists → Going n p areas lists k
+  going n p areas lists is at = subst (λ (o : Option ℕ). MatchOption o (Ended p) (λ k. Going n p areas lists k)) is at
 
-pub more-found : (f : Files) (n k : ℕ) → k < n → (file_of f k).more ≡ true → any_more f n ≡ true
-more-found f zero k h e = absurd (omega (arith, h))
-more-found f (suc n) k h e =
-    split n k
-    (λ a. found_last f n (subst (λ (j : ℕ). (file_of f j).more ≡ true) (omega (arith, a, h)) e))
-    (λ b. found_before f n (more-found f n k b e))
+module _ {writing : Bool} {c₀ : Course} {f₀ : Files} {insert ocf areas lists areas' lists' : List ℕ} {n k : ℕ} {p q : Place}
+    (g : Going writing c₀ f₀ insert ocf n p areas lists k) (s : Stepped writing p k insert ocf areas lists q areas' lists') where
+  over_by : (b : Bool) → has_next s.move.course (with_file p.files k s.move.source) ≡ b → (b ≡ true → n + 1 ≡ 18446744073709551615)
+      → Ended writing c₀ f₀ insert ocf (place_after p k s.move)
+  over_by b e h = (
+    g.there,
+    record {
+      before = _;
+      files = _;
+      areas = _;
+      lists = _;
+      turns = _;
+      dealt = g.dealt;
+      move = s.move;
+      areas' = _;
+      lists' = _;
+      taken = s.taken;
+      course = refl;
+      over = λ on. h (sym e ∙ on);
+    },
+  )
 
--- ---- a round
-
--- Where a round is after a turn, with what was worked out of it.
-pub place-by : (p : Place) (m : Move) {j : ℕ} {b : Bool} → j ≡ (place_after p m).next → b ≡ (place_after p m).on
-    → record { course = m.course; files = with_file p.files p.next m.source; next = j; last = p.next; on = b } ≡ place_after p m
-place-by p m e f =
-    ap₂
-    (λ (j : ℕ) (b : Bool). record { course = m.course; files = with_file p.files p.next m.source; next = j; last = p.next; on = b })
-    e
-    f
-
-module _ {writing : Bool} {c₀ : Course} {f₀ : Files} {insert ocf areas lists areas' lists' : List ℕ} {n : ℕ} {p q : Place}
-    (d : Dealt writing c₀ f₀ insert ocf n p.next p.course p.files areas lists) (s : Stepped writing p insert ocf areas lists q areas' lists') where
-  -- A turn after which there is a next is dealt out too.
-  pub turn-to : q.on ≡ true → Dealt writing c₀ f₀ insert ocf (n + 1) q.next q.course q.files areas' lists'
-  turn-to on =
-      subst (λ (x : Place). Dealt writing c₀ f₀ insert ocf (n + 1) x.next x.course x.files areas' lists') (sym s.place)
-      (turn d s.taken (sym (ap (λ (x : Place). x.on) s.place) ∙ on))
-
-  -- A round ends with a turn that it came to, if there is no next, or that was the last that is counted.
-  pub ends_with : p.next < 8 → (q.on ≡ true → n + 1 ≡ 18446744073709551615)
-      → (q.last < 8) × Rounded writing c₀ f₀ insert ocf (record { course = q.course; last = q.last })
-  ends_with h over =
-      subst (λ (x : Place). (x.last < 8) × Rounded writing c₀ f₀ insert ocf (record { course = x.course; last = x.last })) (sym s.place) (
-        h,
-        record {
-          before = _;
-          files = _;
-          areas = _;
-          lists = _;
-          turns = _;
-          dealt = d;
-          move = s.move;
-          areas' = _;
-          lists' = _;
-          taken = s.taken;
-          course = refl;
-          over = λ on. over (ap (λ (x : Place). x.on) s.place ∙ on);
-        },
-      )
+  -- A turn: the one after it is dealt out with what it left, or there is none.
+  pub turned : At writing c₀ f₀ insert ocf (n + 1) q areas' lists'
+  unfolding next_turn
+  turned =
+      subst (λ (x : Place). At writing c₀ f₀ insert ocf (n + 1) x areas' lists') (sym s.place)
+      (go (has_next s.move.course (with_file p.files k s.move.source)) refl)
+    where
+      go : (b : Bool) → has_next s.move.course (with_file p.files k s.move.source) ≡ b
+          → MatchOption (cond b (Some (next_place k p.files.count)) None) (Ended writing c₀ f₀ insert ocf (place_after p k s.move))
+          (λ j. Going writing c₀ f₀ insert ocf (n + 1) (place_after p k s.move) areas' lists' j)
+      go true e = record { there = below_eight k p.files.count; dealt = turn g.dealt s.taken e; counted = λ h. over_by true e (λ t. h) }
+      go false e = over_by false e (λ t. absurd (true≢false (sym t)))

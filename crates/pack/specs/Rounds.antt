@@ -1,5 +1,6 @@
 -- Whose turn it is, what a lane's file has, and a round of turns.
-use Rattle.std.specs.Prelude.{ℕ, zero, suc, ◌+◌, ◌≡◌, Bool, true, false, cond, List, get_or, set, replicate}
+use Rattle.std.specs.Prelude.{ℕ, ◌+◌, ◌≡◌, Bool, true, false, cond, Option, Some, None, List, get_or, set, replicate}
+use Rattle.std.specs.List.{list_any}
 use Rattle.rules.specs.Tests.{◌<?◌}
 use Rattle.rules.specs.declared.Kind.{Kind}
 use Rattle.rules.specs.declared.Kind.TheVariants as kinds
@@ -13,7 +14,6 @@ use Rattle.turns.specs.declared.Move.{Move}
 use Rattle.turns.specs.Turns.{TakenAt}
 use Rattle.pack.specs.declared.Files.{Files}
 use Rattle.pack.specs.declared.Place.{Place}
-use Rattle.pack.specs.declared.Round.{Round}
 
 -- "An access lane's file is one unit; or, with a list, the list's units."
 unfoldable pub form_of : Kind → Bool → Form
@@ -46,30 +46,32 @@ file_of f k = get_or f.sources k no_source
 abbrev pub with_file : Files → ℕ → Source → Files
 with_file f k x = record { sources = set f.sources k x; count = f.count }
 
--- One of the first n files may have more.
-unfoldable pub any_more : Files → ℕ → Bool
-any_more f zero = false
-any_more f (suc n) = cond (file_of f n).more true (any_more f n)
+-- One of the files may have more.
+unfoldable pub any_more : Files → Bool
+any_more f = list_any (λ x. x.more) f.sources
 
 -- "A file that is at its end drops out": turns go on while nothing is wrong and a file may have more.
 unfoldable pub has_next : Course → Files → Bool
-has_next c f = cond (sound c.fault) (any_more f 8) false
+has_next c f = cond (sound c.fault) (any_more f) false
 
--- Where a round is after the turn of the file whose turn it was, which left this.
-abbrev pub place_after : Place → Move → Place
-place_after p m = record {
+-- Whose turn is next after file k's, if there is a next one.
+unfoldable pub next_turn : Course → Files → ℕ → Option ℕ
+next_turn c f k = cond (has_next c f) (Some (next_place k f.count)) None
+
+-- Where a round is after the turn of file k, which left this.
+abbrev pub place_after : Place → ℕ → Move → Place
+place_after p k m = record {
   course = m.course;
-  files = with_file p.files p.next m.source;
-  next = next_place p.next p.files.count;
-  last = p.next;
-  on = has_next m.course (with_file p.files p.next m.source);
+  files = with_file p.files k m.source;
+  last = k;
+  next = next_turn m.course (with_file p.files k m.source) k;
 }
 
--- The turn of the file whose turn it is.
-pub record Stepped (writing : Bool) (p : Place) (insert ocf areas lists : List ℕ) (q : Place) (areas' lists' : List ℕ) : Type 0 where
+-- The turn of file k.
+pub record Stepped (writing : Bool) (p : Place) (k : ℕ) (insert ocf areas lists : List ℕ) (q : Place) (areas' lists' : List ℕ) : Type 0 where
   pub move : Move
-  pub taken : TakenAt p.next writing p.course (file_of p.files p.next) insert ocf areas lists move areas' lists'
-  pub place : q ≡ place_after p move
+  pub taken : TakenAt k writing p.course (file_of p.files k) insert ocf areas lists move areas' lists'
+  pub place : q ≡ place_after p k move
 
 -- So many turns dealt out from this course on, with these files and windows of zeros, after each of which there was a next: whose turn that is,
 -- and the course, the files and the windows that it is handed, which are those that the turn before left.
@@ -79,23 +81,24 @@ pub data Dealt (writing : Bool) (c₀ : Course) (f₀ : Files) (insert ocf : Lis
       → TakenAt k writing c (file_of f k) insert ocf areas lists m areas' lists' → has_next m.course (with_file f k m.source) ≡ true
       → Dealt writing c₀ f₀ insert ocf (n + 1) (next_place k f.count) m.course (with_file f k m.source) areas' lists'
 
--- A round: after the turns that were dealt out comes the last one, of the file that is named as the last, and the course is the one that it
--- leaves. After that one there is no next, or turns were counted to a number that no run reaches. What was read in each turn stands open.
-pub record Rounded (writing : Bool) (c₀ : Course) (f₀ : Files) (insert ocf : List ℕ) (r : Round) : Type 0 where
+-- A round to this course: after the turns that were dealt out comes the last one, of the file that is named as the last, and the course is the
+-- one that it leaves. After that one there is no next, or turns were counted to a number that no run reaches. What was read in each turn stands
+-- open.
+pub record Rounded (writing : Bool) (c₀ : Course) (f₀ : Files) (insert ocf : List ℕ) (c' : Course) (last : ℕ) : Type 0 where
   pub before : Course
   pub files : Files
   pub areas : List ℕ
   pub lists : List ℕ
   pub turns : ℕ
-  pub dealt : Dealt writing c₀ f₀ insert ocf turns r.last before files areas lists
+  pub dealt : Dealt writing c₀ f₀ insert ocf turns last before files areas lists
   pub move : Move
   pub areas' : List ℕ
   pub lists' : List ℕ
-  pub taken : TakenAt r.last writing before (file_of files r.last) insert ocf areas lists move areas' lists'
-  pub course : r.course ≡ move.course
-  pub over : has_next r.course (with_file files r.last move.source) ≡ true → turns + 1 ≡ 18446744073709551615
+  pub taken : TakenAt last writing before (file_of files last) insert ocf areas lists move areas' lists'
+  pub course : c' ≡ move.course
+  pub over : has_next c' (with_file files last move.source) ≡ true → turns + 1 ≡ 18446744073709551615
 
 -- These files were gone through, in a round from one course to the other.
 pub record Passed (writing : Bool) (c : Course) (f : Files) (insert ocf : List ℕ) (c' : Course) : Type 0 where
   pub last : ℕ
-  pub rounded : Rounded writing c f insert ocf (record { course = c'; last = last })
+  pub rounded : Rounded writing c f insert ocf c' last

@@ -5,15 +5,16 @@
 // can follow into the system is shown by runs. The stored run is document 01's batch of worked frame 2, on its setting.
 #![tactic(auto)]
 
-ghost use Rattle.std.specs.Prelude.{◌≡◌, ◌<◌, ◌≤◌, length};
+ghost use Rattle.std.specs.Prelude.{◌≡◌, ◌<◌, is_some};
 ghost use Rattle.rules.specs.Settings.{lane, channel, ocf_octets};
-ghost use Rattle.pack.specs.Rounds.{form_of, next_place, any_more, has_next, place_after, Stepped, Rounded, Passed};
-ghost use Rattle.pack.specs.Sources.{fresh_window, unopened_file, look_way, is_access, is_units};
+ghost use Rattle.pack.specs.Rounds.{form_of, next_place, any_more, has_next, next_turn, place_after, Stepped, Rounded, Passed};
+ghost use Rattle.pack.specs.Sources.{fresh_window, is_access, is_units};
 
 use files::Known;
 use intake::{System, Window};
 use rules::{Kind, Lane, Setting};
 use setting_file::Loaded;
+use std::array;
 use streams::file_batches::Wrong;
 use streams::{Fault, Form, Stream};
 use turns::{Course, Inputs, Move, Source};
@@ -63,7 +64,6 @@ fn say_octet(path: &[u8], at: u64, what: &[u8]) {
 // Says what is wrong with the packet at octet `at` of a file.
 fn say_wrong(path: &[u8], at: u64, w: Wrong) {
     match w {
-        Wrong::Nothing => {}
         Wrong::NoPacket => say_octet(
             path,
             at,
@@ -83,23 +83,16 @@ fn say_refused(path: &[u8], n: u8) {
     io::write_all(2, b"\n");
 }
 
-// Says what is wrong with the units of a file of this name, if anything is.
-fn say_unit(path: &[u8], f: Fault) {
-    match f {
+// Says what went wrong with a file of this name, or with its list of that name.
+fn say_fault(system: &System, path: &[u8], list: &[u8], fault: Fault) {
+    match fault {
+        Fault::NotRead => say_failed(system, path),
+        Fault::NotListed => say_failed(system, list),
+        Fault::Packet(at, wrong) => say_wrong(path, at, wrong),
         Fault::NoUnit => say_octet(path, 0, b"expected a unit of at least 1 octet"),
         Fault::LongUnit => say_octet(path, 0, b"a unit above the lane's longest"),
         Fault::CutUnit(at) => say_octet(path, at, b"a unit that the file's end cuts"),
         Fault::Left(at) => say_octet(path, at, b"after the last unit of the list"),
-        _ => {}
-    }
-}
-
-// Says what went wrong with a file of this name, or with its list of that name, if anything did.
-fn say_fault(system: &System, path: &[u8], list: &[u8], f: Fault) {
-    match f {
-        Fault::NotRead => say_failed(system, path),
-        Fault::NotListed => say_failed(system, list),
-        Fault::Packet(at, w) => say_wrong(path, at, w),
         Fault::NoLength(at) => say_octet(
             list,
             at,
@@ -107,7 +100,6 @@ fn say_fault(system: &System, path: &[u8], list: &[u8], f: Fault) {
         ),
         Fault::Refused(n) => say_refused(path, n),
         Fault::NotSent => say_failed(system, b"standard output"),
-        _ => say_unit(path, f),
     }
 }
 
@@ -143,42 +135,33 @@ fn allowed(system: &System, path: &[u8], k: Known, twice: bool) -> bool {
 fn lane_of(s: Setting, l: usize) -> Lane
     ensures { result ≡ lane s l }
 {
-    if l < 8 {
-        return s.lanes[l];
-    }
-    setting::no_lane()
+    s.lanes.get(l).copied().unwrap_or(setting::no_lane())
 }
 
 // How many OCF octets the frames of a lane have.
 fn ocf_of(s: Setting, a: Lane) -> usize
     ensures { result ≡ ocf_octets (channel s a.channel) }
 {
-    let p = a.channel as usize;
-    if p < 8 {
-        let c = s.channels[p];
-        return setting::ocf_octets(c);
-    }
-    0
+    let c = s.channels.get(a.channel as usize).copied();
+    setting::ocf_octets(c.unwrap_or(setting::no_channel()))
 }
 
 // ---- opening
 
 // What a lane's file has, of a lane of this kind, with a list or without.
+#[tactic(auto, unfolding(crate::specs::Rounds::form_of))]
 fn form_of(kind: Kind, listed: bool) -> Form
     ensures { result ≡ form_of kind listed }
 {
-    match kind {
-        Kind::Packets => Form::Packets,
-        Kind::Access => {
-            if listed {
-                return Form::Units;
-            }
-            Form::Unit
-        }
+    match (kind, listed) {
+        (Kind::Packets, _) => Form::Packets,
+        (Kind::Access, true) => Form::Units,
+        (Kind::Access, false) => Form::Unit,
     }
 }
 
 // A window on a file that nothing was read of.
+#[tactic(auto, unfolding(crate::specs::Sources::fresh_window))]
 fn fresh() -> Window
     ensures { result ≡ fresh_window }
 {
@@ -189,57 +172,60 @@ fn fresh() -> Window
     }
 }
 
-// A file that was opened, or not: what it is read from, nothing where it was not, and how many octets its name has.
+// A file that was opened, and how many octets its name has.
 #[derive(Drop)]
 struct Opened {
     file: intake::Source,
     name: usize,
 }
 
-// No file is open.
-fn unopened() -> Opened
-    ensures { result ≡ unopened_file }
-{
-    Opened {
+// What a file and its list are read from, and the names that they were opened by.
+#[derive(Drop)]
+struct Slot {
+    inputs: Inputs,
+    name: [u8; 4096],
+    list_name: [u8; 4096],
+}
+
+// No file is open to be read.
+fn no_inputs() -> Inputs {
+    Inputs {
         file: intake::Source::Nothing,
-        name: 0,
+        list: intake::Source::Nothing,
     }
 }
 
-// Opens a file that is read twice, where nothing stands against it. Says what does; the program then ends, and closes it.
-fn open_file(system: &System, path: &[u8]) -> intake::Source {
+// Room for a file and its list.
+fn no_slot() -> Slot {
+    Slot {
+        inputs: no_inputs(),
+        name: io::buffer(),
+        list_name: io::buffer(),
+    }
+}
+
+// Opens a file that is read twice, where nothing stands against it. Says what does; the program then ends.
+fn open_file(system: &System, path: &[u8]) -> Option<intake::Source> {
     let file = intake::open_read(system, path);
-    if intake::is_open(&file) {} else {
+    if !intake::is_open(&file) {
         say_failed(system, path);
-        return file;
+        return None;
     }
     if allowed(system, path, files::of_source(system, &file), true) {
-        return file;
+        Some(file)
+    } else {
+        None
     }
-    intake::Source::Nothing
 }
 
-// Keeps a name in an area, from octet `to` on.
-fn keep_name(name: &[u8], to: usize, names: &mut [u8])
-    requires { (to ≤ 61440) × (length names.old ≡ 65536) }
-{
-    let end = to + 4096;
-    octets::copy(&mut names[to..end], name);
-}
-
-// Opens the file that word i names after its first `from` octets, and keeps its name from octet `to` of this area on.
-fn open_word(system: &System, i: usize, from: usize, to: usize, names: &mut [u8]) -> Opened
-    requires { (to ≤ 61440) × (length names.old ≡ 65536) }
-{
+// Opens the file that word i names after its first `from` octets, and keeps its name.
+fn open_word(system: &System, i: usize, from: usize, name: &mut [u8; 4096]) -> Option<Opened> {
     let mut word = io::buffer();
     let n = console::arg(system, i, &mut word);
-    let at = intake::least(from, n);
-    keep_name(&word[at..n], to, names);
-    let file = open_file(system, &word[at..n]);
-    Opened {
-        file: file,
-        name: n - at,
-    }
+    let at = from.min(n);
+    octets::copy(name, &word[at..n]);
+    let file = open_file(system, &word[at..n])?;
+    Some(Opened { file, name: n - at })
 }
 
 // Whether word i is an option.
@@ -258,72 +244,45 @@ fn is_list_at(system: &System, i: usize) -> bool {
 
 // The first of n words from word i on that is no option; n where there is none.
 fn past_options(system: &System, i: usize, n: usize) -> usize {
-    let mut j = i;
-    while j < n {
-        if is_option_at(system, j) {} else {
-            break;
-        }
-        j += 1;
-    }
-    j
+    (i..n).find(|j| !is_option_at(system, *j)).unwrap_or(n)
 }
 
-// The list of the file that a word before word i names: the next word, options aside, where it is one; 0 for none.
-fn list_of(system: &System, i: usize, n: usize) -> usize {
+// The list of the file that a word before word i names: the next word, options aside, where it is one.
+fn list_of(system: &System, i: usize, n: usize) -> Option<usize> {
     let j = past_options(system, i, n);
-    if is_list_at(system, j) {
-        return j;
-    }
-    0
+    if is_list_at(system, j) { Some(j) } else { None }
 }
 
-// Opens a list, where a word names one.
-fn open_list(system: &System, j: usize, to: usize, names: &mut [u8]) -> Opened
-    requires { (to ≤ 61440) × (length names.old ≡ 65536) }
-{
-    if j == 0 {
-        return unopened();
-    }
-    open_word(system, j, 8, to, names)
-}
-
-// The source of lane l's file and of its list, which are open.
-fn source_of(s: Setting, l: usize, name: usize, listed: bool, list_name: usize) -> Source {
+// The source of lane l's file and of its list, if it has one, which are open and have names of so many octets.
+fn source_of(s: Setting, l: usize, name: usize, list_name: Option<usize>) -> Source {
     let a = lane_of(s, l);
-    let ocf = ocf_of(s, a);
-    let kind = a.kind;
-    let form = form_of(kind, listed);
-    let window = fresh();
-    let stream = Stream {
-        window: window,
-        list: window,
-        batch: 0,
-        lane: l,
-        longest: a.longest as usize,
-        form: form,
-    };
     Source {
-        stream: stream,
-        name: name,
-        list_name: list_name,
-        ocf: ocf,
+        stream: Stream {
+            window: fresh(),
+            list: fresh(),
+            batch: 0,
+            lane: l,
+            longest: a.longest as usize,
+            form: form_of(a.kind, list_name.is_some()),
+        },
+        name,
+        list_name: list_name.unwrap_or(0),
+        ocf: ocf_of(s, a),
         more: true,
     }
 }
 
-// No source.
+// No source, to fill an area of sources with.
 fn no_source() -> Source {
-    let window = fresh();
-    let stream = Stream {
-        window: window,
-        list: window,
-        batch: 0,
-        lane: 0,
-        longest: 0,
-        form: Form::Packets,
-    };
     Source {
-        stream: stream,
+        stream: Stream {
+            window: fresh(),
+            list: fresh(),
+            batch: 0,
+            lane: 0,
+            longest: 0,
+            form: Form::Packets,
+        },
         name: 0,
         list_name: 0,
         ocf: 0,
@@ -331,96 +290,52 @@ fn no_source() -> Source {
     }
 }
 
-// Whether word j names a list that is not open.
-fn is_missing(j: usize, list: &Opened) -> bool {
-    if j == 0 {
-        return false;
-    }
-    !intake::is_open(&list.file)
-}
-
-// The source of lane l's file, which is open, with the list that word j names, if any does, whose name is kept from octet `to` of this area on.
-// Both are kept among the inputs. Where the list is not opened, there is no source.
-fn with_list(
-    system: &System,
-    s: Setting,
-    l: usize,
-    file: Opened,
-    j: usize,
-    to: usize,
-    names: &mut [u8],
-    inputs: &mut Inputs,
-) -> Source
-    requires { (to ≤ 61440) × (length names.old ≡ 65536) }
-{
-    let list = open_list(system, j, to, names);
-    if is_missing(j, &list) {
-        return no_source();
-    }
-    let x = source_of(s, l, file.name, j != 0, list.name);
-    inputs.file = file.file;
-    inputs.list = list.file;
-    x
-}
-
-// Opens the file of lane l that word i of n names, and its list if it has one, keeps both as the k-th of these inputs, and their names in the
-// k-th parts of this area. Where one is not opened, there is no source.
+// Opens the file of lane l that word i of n names, and its list if it has one, and keeps both in this slot. Where one is not opened, there is no source.
 fn open_source(
     system: &System,
     s: Setting,
     l: usize,
     i: usize,
     n: usize,
-    k: usize,
-    names: &mut [u8],
-    inputs: &mut [Inputs; 8],
-) -> Source
-    requires { (i < n) × (k < 8) × (length names.old ≡ 65536) }
+    slot: &mut Slot,
+) -> Option<Source>
+    requires { i < n }
 {
-    let to = 8192 * k;
-    let file = open_word(system, i, 2, to, names);
-    if intake::is_open(&file.file) {} else {
-        return no_source();
-    }
-    let j = list_of(system, i + 1, n);
-    with_list(system, s, l, file, j, to + 4096, names, &mut inputs[k])
+    let opened = open_word(system, i, 2, &mut slot.name)?;
+    slot.inputs = Inputs {
+        file: opened.file,
+        list: intake::Source::Nothing,
+    };
+    let Some(j) = list_of(system, i + 1, n) else {
+        return Some(source_of(s, l, opened.name, None));
+    };
+    let list = open_word(system, j, 8, &mut slot.list_name)?;
+    slot.inputs.list = list.file;
+    Some(source_of(s, l, opened.name, Some(list.name)))
 }
 
 // ---- turns
 
-// How a pass goes: whether frames are written; whether the files take turns; how many octets of them are a hundredth; whether standard error is
-// a terminal.
+// How frames are written: whether the files take turns; how many octets of them are a hundredth; whether standard error is a terminal.
 #[derive(Clone, Copy)]
-struct Way {
-    writing: bool,
+struct Writing {
     together: bool,
-    live: bool,
     hundredth: u64,
+    live: bool,
 }
 
-// The way of the first pass: nothing is written and nothing said of how far it is, and files come one after another.
-fn look_way() -> Way
-    ensures { result ≡ look_way }
-{
-    Way {
-        writing: false,
-        together: false,
-        live: false,
-        hundredth: 0,
-    }
+// A pass over the files that the command's words name, of which there are so many: how it writes frames, nothing where it only looks; and the insert and
+// OCF octets of each frame.
+#[derive(Clone, Copy)]
+struct Pass<'a> {
+    system: &'a System,
+    words: usize,
+    writing: Option<Writing>,
+    insert: &'a [u8],
+    ocf: &'a [u8],
 }
 
-// Says how far it is, where a frame was written with which that is due.
-fn say_progress(way: Way, before: u64, c: Course) {
-    if before == c.frames {
-        return;
-    }
-    if console::progress::is_due(c.frames) {
-        console::progress::say_far(b"pack", c.frames, way.hundredth, c.octets, way.live);
-    }
-}
-
-// The files of a round, and how many there are.
+// The files of a round, and how many there are: eight places, since no memory is asked for, of which those with no file hold one of zeros.
 #[derive(Clone, Copy)]
 struct Files {
     sources: [Source; 8],
@@ -428,202 +343,148 @@ struct Files {
 }
 
 // Whether a file of these may have more.
+#[tactic(auto, unfolding(crate::specs::Rounds::any_more))]
 fn any_more(f: Files) -> bool
-    ensures { result ≡ any_more f 8 }
+    ensures { result ≡ any_more f }
 {
-    let mut k: usize = 0;
-    while k < 8 {
-        let all = f.sources;
-        let x = all[k];
-        if x.more {
-            return true;
-        }
-        k += 1;
-    }
-    false
+    f.sources.iter().any(|x| x.more)
 }
 
 // Whose turn is next, of so many files: the one after, or again the first.
+#[tactic(auto, unfolding(crate::specs::Rounds::next_place))]
 fn next_place(k: usize, count: usize) -> usize
     requires { k < 8 }
     ensures { (result ≡ next_place k count) × (result < 8) }
 {
     let j = k + 1;
-    if j < count {
-        if j < 8 {
-            return j;
-        }
-    }
-    0
+    if j < count && j < 8 { j } else { 0 }
 }
 
 // Whether a course goes on, with these files.
+#[tactic(auto, unfolding(crate::specs::Rounds::has_next))]
 fn has_next(c: Course, f: Files) -> bool
     ensures { result ≡ has_next c f }
 {
-    let fault = c.fault;
-    if streams::is_sound(fault) {
-        return any_more(f);
-    }
-    false
+    c.fault.is_none() && any_more(f)
 }
 
-// A round of turns: the course after it, and the file that was the last to have one.
-#[derive(Clone, Copy)]
-struct Round {
-    course: Course,
-    last: usize,
-}
-
-// Where a round is: the course and the files, whose turn is next and whose was the last, and whether there is a next one.
+// Where a round is: the course and the files, whose turn the last one was, and whose is next, if there is a next one.
 #[derive(Clone, Copy)]
 struct Place {
     course: Course,
     files: Files,
-    next: usize,
     last: usize,
-    on: bool,
+    next: Option<usize>,
 }
 
-// Where a round is after the turn of the file whose turn it was, which left this.
-fn after_move(p: Place, m: Move) -> Place
-    requires { p.next < 8 }
-    ensures { (result.next < 8) × (result ≡ place_after p m) }
+// Where a round is after the turn of file k, which left this.
+#[tactic(auto, unfolding(crate::specs::Rounds::next_turn))]
+fn after_move(p: Place, k: usize, m: Move) -> Place
+    requires { k < 8 }
+    ensures { result ≡ place_after p k m }
 {
-    let k = p.next;
-    let c = m.course;
-    let x = m.source;
-    let mut f = p.files;
-    f.sources[k] = x;
-    let on = has_next(c, f);
-    let next = next_place(k, f.count);
-    Place {
-        course: c,
-        files: f,
-        next: next,
-        last: k,
-        on: on,
-    }
-}
-
-// The turn of the file whose turn it is.
-fn deal(
-    system: &System,
-    inputs: &[Inputs; 8],
-    way: Way,
-    p: Place,
-    areas: &mut [u8; 524288],
-    lists: &mut [u8; 2048],
-    insert: &[u8],
-    ocf: &[u8],
-) -> Place
-    requires { p.next < 8 }
-    ensures { (result.next < 8) × Stepped way.writing p insert.now ocf.now areas.old lists.old result areas.new lists.new }
-{
-    let k = p.next;
-    let f = p.files;
-    let x = f.sources[k];
-    let m = turns::turn_at(
-        system,
-        &inputs[k],
-        k,
-        way.writing,
-        p.course,
-        x,
-        areas,
-        lists,
-        insert,
-        ocf,
-    );
-    say_progress(way, p.course.frames, m.course);
-    after_move(p, m)
-}
-
-// Deals out turns, a frame each, until all files are at their end or something is wrong: each is handed what the one before left. A proved loop
-// has to end: this one goes to a number of turns that no run reaches.
-fn go_round(
-    system: &System,
-    inputs: &[Inputs; 8],
-    way: Way,
-    c: Course,
-    files: Files,
-    insert: &[u8],
-    ocf: &[u8],
-) -> Round
-    ensures { (result.last < 8) × Rounded way.writing c files insert.now ocf.now result }
-{
-    let mut areas = [0u8; 524288];
-    let mut lists = [0u8; 2048];
-    let mut p = Place {
-        course: c,
-        files: files,
-        next: 0,
-        last: 0,
-        on: true,
+    let mut files = p.files;
+    files.sources[k] = m.source;
+    let next = if has_next(m.course, files) {
+        Some(next_place(k, files.count))
+    } else {
+        None
     };
-    let mut turns: u64 = 0;
-    while turns < 18446744073709551615 {
-        p = deal(system, inputs, way, p, &mut areas, &mut lists, insert, ocf);
-        if p.on {} else {
-            break;
-        }
-        turns += 1;
-    }
-    let d = p.course;
-    Round {
-        course: d,
-        last: p.last,
+    Place {
+        course: m.course,
+        files,
+        last: k,
+        next,
     }
 }
 
 // Closes the files of a round: each is let go.
-fn close_all(inputs: &mut [Inputs; 8]) {
-    let mut k: usize = 0;
-    while k < 8 {
-        inputs[k] = no_inputs();
-        k += 1;
+fn close_all(slots: &mut [Slot; 8]) {
+    for slot in slots.iter_mut() {
+        slot.inputs = no_inputs();
     }
 }
 
-// Says what went wrong with a file whose names stand at the front of these areas.
-fn say_in(system: &System, x: Source, file: &[u8], list: &[u8], fault: Fault) {
-    let a = streams::within(x.name, file);
-    let b = streams::within(x.list_name, list);
-    say_fault(system, &file[..a], &list[..b], fault);
+// Says what went wrong with a file, whose names stand in this slot.
+fn say_of(system: &System, x: Source, slot: &Slot, fault: Fault) {
+    let a = streams::within(x.name, &slot.name);
+    let b = streams::within(x.list_name, &slot.list_name);
+    say_fault(system, &slot.name[..a], &slot.list_name[..b], fault);
 }
 
-// Says what went wrong with file k, whose names stand in the k-th parts of this area.
-fn say_of(system: &System, f: Files, k: usize, names: &[u8], fault: Fault)
-    requires { (k < 8) × (length names.now ≡ 65536) }
-{
-    let all = f.sources;
-    let x = all[k];
-    let from = 8192 * k;
-    let middle = from + 4096;
-    let to = middle + 4096;
-    say_in(system, x, &names[from..middle], &names[middle..to], fault);
-}
+impl Pass<'_> {
+    // Says how far it is, where a frame was written with which that is due.
+    fn say_progress(&self, before: u64, c: Course) {
+        if let Some(w) = self.writing
+            && before != c.frames
+            && console::progress::is_due(c.frames)
+        {
+            console::progress::say_far(b"pack", c.frames, w.hundredth, c.octets, w.live);
+        }
+    }
 
-// A round with these files, whose names stand in this area: says what went wrong, and closes them.
-fn round_on(
-    system: &System,
-    inputs: &mut [Inputs; 8],
-    way: Way,
-    c: Course,
-    f: Files,
-    names: &[u8],
-    insert: &[u8],
-    ocf: &[u8],
-) -> Course
-    requires { length names.now ≡ 65536 }
-    ensures { Passed way.writing c f insert.now ocf.now result }
-{
-    let r = go_round(system, inputs, way, c, f, insert, ocf);
-    let d = r.course;
-    let fault = d.fault;
-    say_of(system, f, r.last, names, fault);
-    close_all(inputs);
-    d
+    // The turn of file k.
+    fn deal(
+        &self,
+        slots: &[Slot; 8],
+        p: Place,
+        k: usize,
+        areas: &mut [u8; 524288],
+        lists: &mut [u8; 2048],
+    ) -> Place
+        requires { k < 8 }
+        ensures { Stepped (is_some self.now.writing) p k self.now.insert.now self.now.ocf.now areas.old lists.old result areas.new lists.new }
+    {
+        let m = turns::turn_at(
+            self.system,
+            &slots[k].inputs,
+            k,
+            self.writing.is_some(),
+            p.course,
+            p.files.sources[k],
+            areas,
+            lists,
+            self.insert,
+            self.ocf,
+        );
+        self.say_progress(p.course.frames, m.course);
+        after_move(p, k, m)
+    }
+
+    // Deals out turns, a frame each, until all files are at their end or something is wrong: each is handed what the one before left. A proved
+    // loop has to end: this one goes to a number of turns that no run reaches.
+    fn go_round(&self, slots: &[Slot; 8], course: Course, files: Files) -> Place
+        ensures { (result.last < 8) × Rounded (is_some self.now.writing) course files self.now.insert.now self.now.ocf.now result.course result.last }
+    {
+        let mut areas = [0u8; 524288];
+        let mut lists = [0u8; 2048];
+        let mut place = Place {
+            course,
+            files,
+            last: 0,
+            next: Some(0),
+        };
+        for _turn in 0..u64::MAX {
+            let Some(k) = place.next else {
+                break;
+            };
+            place = self.deal(slots, place, k, &mut areas, &mut lists);
+        }
+        place
+    }
+
+    // A round with these files: says what went wrong, and closes them.
+    fn round_on(&self, slots: &mut [Slot; 8], c: Course, f: Files) -> Course
+        ensures { Passed (is_some self.now.writing) c f self.now.insert.now self.now.ocf.now result }
+    {
+        let place = self.go_round(slots, c, f);
+        let k = place.last;
+        if let Some(fault) = place.course.fault {
+            say_of(self.system, f.sources[k], &slots[k], fault);
+        }
+        close_all(slots);
+        place.course
+    }
 }
 
 // ---- passes
@@ -635,19 +496,10 @@ struct Stage {
     files: Files,
 }
 
-// No file is open to be read.
-fn no_inputs() -> Inputs {
-    Inputs {
-        file: intake::Source::Nothing,
-        list: intake::Source::Nothing,
-    }
-}
-
 // No files.
 fn no_files() -> Files {
-    let none = no_source();
     Files {
-        sources: [none; 8],
+        sources: [no_source(); 8],
         count: 0,
     }
 }
@@ -656,241 +508,102 @@ fn no_files() -> Files {
 fn add_file(f: Files, x: Source) -> Files {
     let mut g = f;
     if f.count < 8 {
-        let k = f.count;
-        g.sources[k] = x;
-        g.count = k + 1;
+        g.sources[f.count] = x;
+        g.count = f.count + 1;
     }
     g
 }
 
 // With a file more that waits, if it was opened.
-fn with_file(p: Stage, x: Source) -> Stage {
-    let c = p.course;
-    let f = p.files;
-    if x.more {
-        let g = add_file(f, x);
-        return Stage {
-            course: c,
-            files: g,
+fn with_file(p: Stage, x: Option<Source>) -> Stage {
+    match x {
+        Some(x) => Stage {
+            files: add_file(p.files, x),
+            ..p
+        },
+        None => Stage {
+            course: turns::end_with(p.course, Some(Fault::NotRead)),
+            ..p
+        },
+    }
+}
+
+impl Pass<'_> {
+    // Opens lane l's file that word i names, and puts it to those that wait.
+    fn wait_for(&self, slots: &mut [Slot; 8], p: Stage, l: usize, i: usize) -> Stage
+        requires { i < self.now.words }
+    {
+        let slot = &mut slots[p.files.count.min(7)];
+        let setting = p.course.state.setting;
+        with_file(p, open_source(self.system, setting, l, i, self.words, slot))
+    }
+
+    // Takes the files that wait for a round, if all were opened; if not, the program ends, and closes them.
+    fn round_of(&self, slots: &mut [Slot; 8], p: Stage) -> Stage {
+        let course = if p.course.fault.is_none() {
+            self.round_on(slots, p.course, p.files)
+        } else {
+            p.course
         };
-    }
-    let d = turns::end_with(c, Fault::NotRead);
-    Stage {
-        course: d,
-        files: f,
-    }
-}
-
-// Opens lane l's file that word i of n names, and puts it to those that wait.
-fn wait_for(
-    system: &System,
-    inputs: &mut [Inputs; 8],
-    p: Stage,
-    s: Setting,
-    l: usize,
-    i: usize,
-    n: usize,
-    names: &mut [u8],
-) -> Stage
-    requires { (i < n) × (length names.old ≡ 65536) }
-{
-    let k = place_of(p.files);
-    let x = open_source(system, s, l, i, n, k, names, inputs);
-    with_file(p, x)
-}
-
-// Where the next file's names stand.
-fn place_of(f: Files) -> usize
-    ensures { result < 8 }
-{
-    if f.count < 8 {
-        return f.count;
-    }
-    7
-}
-
-// Takes the files that wait for a round, if all were opened; if not, the program ends, and closes them.
-fn round_of(
-    system: &System,
-    inputs: &mut [Inputs; 8],
-    way: Way,
-    p: Stage,
-    names: &[u8],
-    insert: &[u8],
-    ocf: &[u8],
-) -> Stage
-    requires { length names.now ≡ 65536 }
-{
-    let c = p.course;
-    let f = p.files;
-    let none = no_files();
-    let fault = c.fault;
-    if streams::is_sound(fault) {
-        let d = round_on(system, inputs, way, c, f, names, insert, ocf);
-        return Stage {
-            course: d,
-            files: none,
-        };
-    }
-    Stage {
-        course: c,
-        files: none,
-    }
-}
-
-// What word i names.
-fn named_at(system: &System, i: usize, numbered: usize) -> Named {
-    let mut word = io::buffer();
-    let n = console::arg(system, i, &mut word);
-    words::pack_start::name_of(&word[..n], numbered)
-}
-
-// Goes on with word i of n: where it names a lane's file, that waits.
-fn word_on(
-    system: &System,
-    inputs: &mut [Inputs; 8],
-    p: Stage,
-    i: usize,
-    n: usize,
-    names: &mut [u8],
-) -> Stage
-    requires { (i < n) × (length names.old ≡ 65536) }
-{
-    let s = p.course.state.setting;
-    let name = named_at(system, i, s.numbered);
-    match name {
-        Named::ToLane(l) => wait_for(system, inputs, p, s, l, i, n, names),
-        _ => p,
-    }
-}
-
-// The same, with a round for the file where each has one of its own.
-fn stage_on(
-    system: &System,
-    inputs: &mut [Inputs; 8],
-    way: Way,
-    p: Stage,
-    i: usize,
-    n: usize,
-    names: &mut [u8],
-    insert: &[u8],
-    ocf: &[u8],
-) -> Stage
-    requires { (i < n) × (length names.old ≡ 65536) }
-{
-    let q = word_on(system, inputs, p, i, n, names);
-    if way.together {
-        return q;
-    }
-    round_of(system, inputs, way, q, names, insert, ocf)
-}
-
-// Whether nothing went wrong so far.
-fn is_well(p: Stage) -> bool {
-    let c = p.course;
-    let fault = c.fault;
-    streams::is_sound(fault)
-}
-
-// Goes through words from word `from` of n on, as long as nothing is wrong.
-fn each_word(
-    system: &System,
-    inputs: &mut [Inputs; 8],
-    way: Way,
-    p: Stage,
-    from: usize,
-    n: usize,
-    names: &mut [u8],
-    insert: &[u8],
-    ocf: &[u8],
-) -> Stage
-    requires { length names.old ≡ 65536 }
-{
-    let mut q = p;
-    let mut i = from;
-    while i < n {
-        q = stage_on(system, inputs, way, q, i, n, names, insert, ocf);
-        if is_well(q) {} else {
-            return q;
+        Stage {
+            course,
+            files: no_files(),
         }
-        i += 1;
     }
-    q
-}
 
-// Goes through the files that words from word `from` of n on name: each in a round of its own, or all in one.
-fn words_on(
-    system: &System,
-    way: Way,
-    p: Stage,
-    from: usize,
-    n: usize,
-    insert: &[u8],
-    ocf: &[u8],
-) -> Course {
-    let mut names = io::large_buffer();
-    let mut inputs = [
-        no_inputs(),
-        no_inputs(),
-        no_inputs(),
-        no_inputs(),
-        no_inputs(),
-        no_inputs(),
-        no_inputs(),
-        no_inputs(),
-    ];
-    let q = each_word(
-        system,
-        &mut inputs,
-        way,
-        p,
-        from,
-        n,
-        &mut names,
-        insert,
-        ocf,
-    );
-    let r = round_of(system, &mut inputs, way, q, &names, insert, ocf);
-    r.course
-}
+    // What word i names.
+    fn named_at(&self, i: usize, numbered: usize) -> Named {
+        let mut word = io::buffer();
+        let n = console::arg(self.system, i, &mut word);
+        words::pack_start::name_of(&word[..n], numbered)
+    }
 
-// Goes through all files, from a fresh writer on: to look for what is wrong, or to write frames.
-fn pass(
-    system: &System,
-    way: Way,
-    s: Setting,
-    from: usize,
-    n: usize,
-    insert: &[u8],
-    ocf: &[u8],
-) -> Course {
-    let fresh = writer::set_up(s);
-    let w = fresh.state;
-    let c = Course {
-        state: w,
-        frames: 0,
-        octets: 0,
-        fault: Fault::Nothing,
-    };
-    let f = no_files();
-    let p = Stage {
-        course: c,
-        files: f,
-    };
-    words_on(system, way, p, from, n, insert, ocf)
+    // Goes on with word i: where it names a lane's file, that waits, or has a round of its own where the files take no turns.
+    fn stage_on(&self, slots: &mut [Slot; 8], p: Stage, i: usize) -> Stage
+        requires { i < self.now.words }
+    {
+        let q = match self.named_at(i, p.course.state.setting.numbered) {
+            Named::ToLane(l) => self.wait_for(slots, p, l, i),
+            _ => p,
+        };
+        if self.writing.is_some_and(|w| w.together) {
+            q
+        } else {
+            self.round_of(slots, q)
+        }
+    }
+
+    // Goes through words from word `from` on, as long as nothing is wrong.
+    fn each_word(&self, slots: &mut [Slot; 8], p: Stage, from: usize) -> Stage {
+        let mut stage = p;
+        for i in from..self.words {
+            stage = self.stage_on(slots, stage, i);
+            if stage.course.fault.is_some() {
+                break;
+            }
+        }
+        stage
+    }
+
+    // Goes through all files that words from word `from` on name, from a fresh writer on: each in a round of its own, or all in one. Looks for what is wrong, or
+    // writes frames.
+    fn run(&self, s: Setting, from: usize) -> Course {
+        let mut slots = array::from_fn(|_| no_slot());
+        let stage = Stage {
+            course: Course {
+                state: writer::set_up(s).state,
+                frames: 0,
+                octets: 0,
+                fault: None,
+            },
+            files: no_files(),
+        };
+        let stage = self.each_word(&mut slots, stage, from);
+        self.round_of(&mut slots, stage).course
+    }
 }
 
 // ---- the insert and OCF octets
-
-// Says that a word names what a word before it names, if it does.
-fn say_twice(word: &[u8], bad: Bad) {
-    match bad {
-        Bad::InsertTwice => say(word, b"insert is named twice"),
-        Bad::OcfTwice => say(word, b"ocf is named twice"),
-        Bad::LaneTwice => say(word, b"the lane is named twice, which --interleave forbids"),
-        _ => {}
-    }
-}
 
 // Says what is wrong with a word, if anything is.
 fn say_bad(word: &[u8], bad: Bad) {
@@ -900,45 +613,37 @@ fn say_bad(word: &[u8], bad: Bad) {
             word,
             b"expected a lane of the setting, lengths, insert or ocf, then = and a file",
         ),
-        _ => say_twice(word, bad),
-    }
-}
-
-// Whether what is named is the file of an access lane.
-fn is_units(s: Setting, name: Named) -> bool
-    ensures { result ≡ is_units s name }
-{
-    match name {
-        Named::ToLane(l) => {
-            let a = lane_of(s, l);
-            let kind = a.kind;
-            is_access(kind)
-        }
-        Named::Lengths => false,
-        Named::Insert => false,
-        Named::Ocf => false,
-        Named::Option => false,
-        Named::Other => false,
+        Bad::InsertTwice => say(word, b"insert is named twice"),
+        Bad::OcfTwice => say(word, b"ocf is named twice"),
+        Bad::LaneTwice => say(word, b"the lane is named twice, which --interleave forbids"),
+        Bad::Nothing | Bad::NoWord => {}
     }
 }
 
 // Whether a lane of this kind carries access units.
+#[tactic(auto, unfolding(crate::specs::Sources::is_access))]
 fn is_access(kind: Kind) -> bool
     ensures { result ≡ is_access kind }
 {
-    match kind {
-        Kind::Packets => false,
-        Kind::Access => true,
+    matches!(kind, Kind::Access)
+}
+
+// Whether what is named is the file of an access lane.
+#[tactic(auto, unfolding(crate::specs::Sources::is_units))]
+fn is_units(s: Setting, name: Named) -> bool
+    ensures { result ≡ is_units s name }
+{
+    match name {
+        Named::ToLane(l) => is_access(lane_of(s, l).kind),
+        _ => false,
     }
 }
 
 // The plan after word i, which is this. Says what is wrong with it.
 fn plan_word(p: Plan, i: usize, word: &[u8], s: Setting, once: bool) -> Plan {
     let name = words::pack_start::name_of(word, s.numbered);
-    let access = is_units(s, name);
-    let q = words::pack_start::planned(p, i, name, access, once);
-    let bad = q.bad;
-    say_bad(word, bad);
+    let q = words::pack_start::planned(p, i, name, is_units(s, name), once);
+    say_bad(word, q.bad);
     q
 }
 
@@ -956,19 +661,17 @@ fn plan_next(system: &System, p: Plan, i: usize, s: Setting, once: bool) -> Plan
 // The plan of all words from word `from` of n on.
 fn plan_all(system: &System, from: usize, n: usize, s: Setting, once: bool) -> Plan {
     let mut plan = words::pack_start::no_plan();
-    let mut i = from;
-    while i < n {
+    for i in from..n {
         plan = plan_next(system, plan, i, s, once);
-        let bad = plan.bad;
-        if !words::pack_start::is_fine(bad) {
+        if !words::pack_start::is_fine(plan.bad) {
             break;
         }
-        i += 1;
     }
     plan
 }
 
 // Puts the octets of an open file that has exactly n at the front of an area.
+#[tactic(auto, unfolding(crate::specs::Sources::fresh_window))]
 fn load_open(
     system: &System,
     path: &[u8],
@@ -977,36 +680,28 @@ fn load_open(
     area: &mut [u8],
 ) -> bool {
     let mut space = io::buffer();
-    let none = Window {
-        have: 0,
-        at: 0,
-        good: true,
-    };
-    let w = intake::fill_up(system, from, &mut space, none);
+    let w = intake::fill_up(system, from, &mut space, fresh());
     if !w.good {
         say_failed(system, path);
         return false;
     }
-    let have = w.have;
-    if have != n {
+    if w.have != n {
         say_expected(path, n as u64);
         return false;
     }
-    octets::copy(area, &space[..have]);
+    octets::copy(area, &space[..n]);
     true
 }
 
 // The same of a file by its name, where nothing stands against reading it once.
 fn load_file(system: &System, path: &[u8], n: usize, area: &mut [u8]) -> bool {
-    let mut file = intake::open_read(system, path);
-    if intake::is_open(&file) {} else {
+    let file = intake::open_read(system, path);
+    if !intake::is_open(&file) {
         say_failed(system, path);
         return false;
     }
-    if allowed(system, path, files::of_source(system, &file), false) {
-        return load_open(system, path, &mut file, n, area);
-    }
-    false
+    allowed(system, path, files::of_source(system, &file), false)
+        && load_open(system, path, &file, n, area)
 }
 
 // Puts the n octets of the file that argument i names, after its first `from` octets, at the front of an area; argument 0 leaves it.
@@ -1016,74 +711,54 @@ fn load_octets(system: &System, i: usize, from: usize, n: usize, area: &mut [u8]
     }
     let mut word = io::buffer();
     let end = console::arg(system, i, &mut word);
-    let at = intake::least(from, end);
+    let at = from.min(end);
     load_file(system, &word[at..end], n, area)
 }
 
 // ---- the program
 
-// Writes the frames of files that are good, with so many octets to a hundredth of them.
-fn write_frames(
-    system: &System,
-    s: Setting,
-    together: bool,
-    hundredth: u64,
-    from: usize,
-    n: usize,
-    insert: &[u8],
-    ocf: &[u8],
-) {
-    let live = console::progress::is_live(system);
-    let way = Way {
-        writing: true,
-        together: together,
-        live: live,
-        hundredth: hundredth,
-    };
-    let c = pass(system, way, s, from, n, insert, ocf);
-    let fault = c.fault;
-    if streams::is_sound(fault) {
-        say_done(c.frames);
-    }
-}
-
-// Writes the frames, once all files are good. Of the insert octets the setting's are taken.
+// Looks through all files, and where all are good, writes their frames. Of the insert octets the setting's are taken.
 fn pack_files(system: &System, s: Setting, q: Asked, n: usize, insert: &[u8], ocf: &[u8]) {
     let i = streams::within(s.insert, insert);
     let from = after(q.one, n);
-    let look = look_way();
-    let looked = pass(system, look, s, from, n, &insert[..i], ocf);
-    let found = looked.fault;
-    if streams::is_sound(found) {
-        write_frames(
-            system,
-            s,
-            q.first,
-            looked.octets / 100,
-            from,
-            n,
-            &insert[..i],
-            ocf,
-        );
+    let look = Pass {
+        system,
+        words: n,
+        writing: None,
+        insert: &insert[..i],
+        ocf,
+    };
+    let looked = look.run(s, from);
+    if looked.fault.is_some() {
+        return;
+    }
+    let write = Pass {
+        writing: Some(Writing {
+            together: q.first,
+            hundredth: looked.octets / 100,
+            live: console::progress::is_live(system),
+        }),
+        ..look
+    };
+    let written = write.run(s, from);
+    if written.fault.is_none() {
+        say_done(written.frames);
     }
 }
 
 // The word after word i of n.
 fn after(i: usize, n: usize) -> usize {
-    if i < n {
-        return i + 1;
-    }
-    n
+    if i < n { i + 1 } else { n }
 }
 
 // Packs by this setting and plan, with n words.
 fn pack_planned(system: &System, s: Setting, q: Asked, n: usize, p: Plan) {
     let mut insert = [0u8; 64];
     let mut ocf = [0u8; 4];
-    if load_octets(system, p.insert, 7, s.insert, &mut insert) {
-        if load_octets(system, p.ocf, 4, 4, &mut ocf) {
-            pack_files(system, s, q, n, &insert, &ocf);
-        }
+    if load_octets(system, p.insert, 7, s.insert, &mut insert)
+        && load_octets(system, p.ocf, 4, 4, &mut ocf)
+    {
+        pack_files(system, s, q, n, &insert, &ocf);
     }
 }
 
@@ -1091,12 +766,12 @@ fn pack_planned(system: &System, s: Setting, q: Asked, n: usize, p: Plan) {
 fn pack_all(system: &System, s: Setting, q: Asked, n: usize) {
     let from = after(q.one, n);
     let p = plan_all(system, from, n, s, q.first);
-    let bad = p.bad;
-    if words::pack_start::is_fine(bad) {
-        if p.lanes {
-            pack_planned(system, s, q, n, p);
-            return;
-        }
+    if !words::pack_start::is_fine(p.bad) {
+        return;
+    }
+    if p.lanes {
+        pack_planned(system, s, q, n, p);
+    } else {
         say_usage();
     }
 }
@@ -1132,9 +807,9 @@ fn pack_by(system: &System, path: &[u8], q: Asked, n: usize) {
 fn with_name(system: &System, path: &[u8], q: Asked, n: usize) {
     if words::is_dash(path) {
         pack_input(system, q, n);
-        return;
+    } else {
+        pack_by(system, path, q, n);
     }
-    pack_by(system, path, q, n);
 }
 
 // Takes the setting from the command line, and goes on.
@@ -1143,9 +818,9 @@ fn with_words(system: &System, q: Asked, n: usize) {
     let k = console::arg(system, q.one, &mut path);
     if intake::last_failure(system) != 0 {
         say_failed(system, b"SETTING");
-        return;
+    } else {
+        with_name(system, &path[..k], q, n);
     }
-    with_name(system, &path[..k], q, n);
 }
 
 // ---- the command line
@@ -1164,9 +839,9 @@ fn say_unknown(system: &System, i: usize) {
 fn print_text(system: &System, text: &[u8]) {
     if console::write_out(system, text) {
         say_done(0);
-        return;
+    } else {
+        say_failed(system, b"standard output");
     }
-    say_failed(system, b"standard output");
 }
 
 // Prints how the program is called.

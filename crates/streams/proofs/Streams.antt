@@ -2,29 +2,24 @@
 use Prim.Native.Nat.{ℕ, ◌+◌, ◌-◌, ◌≤◌, min}
 use native.Mathlib.Nat.{min-eq_left, min-eq_right}
 use native.Mathlib.Omega.{arith}
-use mathlib.Core.Path.{◌≡◌, refl, sym, ap, subst, ◌∙◌}
+use mathlib.Core.Path.{◌≡◌, sym, ap, ap₂, subst, ◌∙◌}
 use mathlib.Core.List.{List, ◌++◌}
 use lib.ListN.{length, take, drop, length-drop}
 use lib.Seq.{take_all, take-append-le, length-take-le}
 use Rattle.rules.specs.Areas.{laid}
 use Rattle.rules.proofs.Tests.{split}
 use Rattle.rules.proofs.Areas.{length-laid, laid-front}
-use borrow.Author.Tests.{eq-eqb, ne_eqb}
 use lib.Seq.{take-take}
-use Rattle.streams.specs.declared.file_batches.Wrong.{Wrong}
-use Rattle.streams.specs.FileBatches.{gathered, wrong_at}
+use Rattle.std.specs.Prelude.{Option, Some, None, Ok, Err}
+use Rattle.std.specs.Option.{UnwrapsOrElse}
+use Rattle.std.specs.Result.{result_err, result_unwrap_or}
 use Rattle.intake.specs.declared.Window.{Window}
 use Rattle.intake.specs.Windows.{Refilled}
-use Rattle.streams.specs.declared.lengths.Length.{Length}
-use Rattle.streams.specs.declared.lengths.Length.TheVariants as lengths
-use Rattle.streams.specs.declared.lengths.Listed.{Listed}
-use Rattle.streams.specs.Lengths.{next_of as next_length}
 use Rattle.streams.specs.declared.Fault.{Fault}
-use Rattle.streams.specs.declared.Fault.TheVariants as faults
 use Rattle.streams.specs.declared.Stream.{Stream}
-use Rattle.streams.specs.declared.Next.{Next}
+use Rattle.streams.specs.declared.Batch.{Batch}
 use Rattle.streams.specs.declared.Begun.{Begun}
-use Rattle.streams.specs.Streams.{wrong_fault, past, moved, none, some, Kept, next_packets, of_length, by_length, next_listed, next_of, with_batch, BegunOf, Began}
+use Rattle.streams.specs.Streams.{Next, moved, Kept, next_of, no_batch, batch_of, with_batch, BegunOf, Began}
 
 -- What is behind a batch stands at the front once it is moved there.
 pub shifted : (area : List ℕ) (have n : ℕ) → have ≤ length area
@@ -59,54 +54,31 @@ fill-kept {area} {ys} {end} {w} {w'} h k r l =
 
 -- ---- the next batch
 
-module _ (at longest : ℕ) (xs : List ℕ) {n : ℕ} (e : n ≡ gathered longest xs) where
-  pub packets-none : {w : Wrong} {f : Fault} {r : Next} → n ≡ 0 → w ≡ wrong_at longest xs → f ≡ wrong_fault at w → r ≡ none f → r ≡ next_packets at longest xs
-  unfolding next_packets
-  packets-none z v q r = r ∙ ap (λ (g : Fault). none g) (q ∙ ap (λ (x : Wrong). wrong_fault at x) v) ∙ rw (eq-eqb _ _ (sym e ∙ z))
-
-  pub packets-some : (n ≡ 0 → ⊥) → some n 0 ≡ next_packets at longest xs
-  unfolding next_packets
-  packets-some z = ap (λ (i : ℕ). some i 0) e ∙ rw (ne_eqb (gathered longest xs) 0 (λ k. z (e ∙ k)))
-
-module _ (used place at longest have : ℕ) {l : Length} {r : Next} where
-  pub length-end : l ≡ lengths.End → have ≡ 0 → r ≡ none faults.Nothing → r ≡ by_length l used place at longest have
-  unfolding by_length
-  length-end e z q = rw (e, eq-eqb have 0 z) q
-
-  pub length-left : l ≡ lengths.End → (have ≡ 0 → ⊥) → r ≡ none (faults.Left at) → r ≡ by_length l used place at longest have
-  unfolding by_length
-  length-left e z q = rw (e, ne_eqb have 0 z) q
-
-  pub length-of : {n : ℕ} → l ≡ lengths.Of n → r ≡ of_length n used place at longest have → r ≡ by_length l used place at longest have
-  unfolding by_length
-  length-of e q = rw e q
-
-  pub length-other : l ≡ lengths.Other → r ≡ none (faults.NoLength place) → r ≡ by_length l used place at longest have
-  unfolding by_length
-  length-other e q = rw e q
-
-pub listed_by : (at place longest : ℕ) (xs ls : List ℕ) {l : Listed} {here : ℕ} {r : Next} → l ≡ next_length ls → here ≡ past place l.blanks
-    → r ≡ by_length l.length l.used here at longest (length xs) → r ≡ next_listed at place longest xs ls
-unfolding next_listed
-listed_by at place longest xs ls {l} e h q =
-    q ∙ ap (λ (i : ℕ). by_length l.length l.used i at longest (length xs)) h
-    ∙ ap (λ (m : Listed). by_length m.length m.used (past place m.blanks) at longest (length xs)) e
+-- The batch that is next, or else one of no octets.
+pub batch-is : {P : Batch → Type 0} → ((x : Batch) → P x → x ≡ no_batch) → (n : Next) (b : Batch) {o : Option Batch} → o ≡ result_unwrap_or n None
+    → UnwrapsOrElse o P b → b ≡ batch_of n
+batch-is {P} h n b e u = go n (subst (λ (o : Option Batch). UnwrapsOrElse o P b) e u)
+  where
+    go : (n : Next) → UnwrapsOrElse (result_unwrap_or n None) P b → b ≡ batch_of n
+    go (Ok (Some x)) q = q
+    go (Ok None) q = h b q
+    go (Err f) q = h b q
 
 -- A batch begun, by its steps.
-pub begun-by : (s : Stream) (xs list ys : List ℕ) {have : ℕ} {n : Next} {after : Window} {t : Stream} → have ≤ length list
-    → take have list ≡ take s.list.have list → n ≡ next_of s xs (take have list) → ys ≡ laid (take have list) 0 (drop n.used (take have list))
-    → after ≡ moved s.list have n.used → t ≡ with_batch s after n.batch
-    → Began s xs list (record { stream = t; fault = n.fault }) (ys ++ drop have list)
+pub begun-by : (s : Stream) (xs list ys : List ℕ) {have : ℕ} {n : Next} {b : Batch} {after : Window} {f : Option Fault} → have ≤ length list
+    → take have list ≡ take s.list.have list → n ≡ next_of s xs (take have list) → b ≡ batch_of n
+    → ys ≡ laid (take have list) 0 (drop b.used (take have list)) → after ≡ moved s.list have b.used
+    → f ≡ result_err n → Began s xs list (record { stream = with_batch s after b.octets; fault = f }) (ys ++ drop have list)
 unfolding moved
-begun-by s xs list ys {have} {n} {after} {t} h e q z a b =
-    let r : Begun = record { stream = t; fault = n.fault } in
+begun-by s xs list ys {have} {n} {b} {after} {f} h e q d z a g =
+    let r : Begun = record { stream = with_batch s after b.octets; fault = f } in
     let k : length (take have list) ≡ have = length-take-le have list h in
-    let m : t.list.have ≡ have - n.used = ap (λ (u : Stream). u.list.have) b ∙ ap (λ (w : Window). w.have) a in
+    let m : after.have ≡ have - b.used = ap (λ (w : Window). w.have) a in
     let inner : BegunOf s n (take have list) r (ys ++ drop have list) = record {
-      stream = b ∙ ap (λ (w : Window). with_batch s w n.batch) (a ∙ ap (λ (i : ℕ). moved s.list i n.used) (sym k));
-      fault = refl;
-      left = ap (λ (i : ℕ). take i (ys ++ drop have list)) m ∙ ap (λ (zs : List ℕ). take (have - n.used) (zs ++ drop have list)) z
-          ∙ shifted list have n.used h;
+      stream = ap₂ (λ (w : Window) (c : Batch). with_batch s w c.octets) (a ∙ ap₂ (λ (i : ℕ) (c : Batch). moved s.list i c.used) (sym k) d) d;
+      fault = g;
+      left = ap (λ (i : ℕ). take i (ys ++ drop have list)) m ∙ ap (λ (zs : List ℕ). take (have - b.used) (zs ++ drop have list)) z
+          ∙ shifted list have b.used h ∙ ap (λ (c : Batch). drop c.used (take have list)) d;
     } in
     subst (λ (ls : List ℕ). BegunOf s (next_of s xs ls) ls r (ys ++ drop have list)) e
     (subst (λ (x : Next). BegunOf s x (take have list) r (ys ++ drop have list)) q inner)

@@ -10,6 +10,7 @@ use mathlib.Core.List.{List, [], ◌∷◌}
 use lib.ListN.{length, take, drop, length-append, length-drop}
 use lib.Seq.{length-take-le, take_all, take-take, take-add, drop_at}
 use borrow.Author.Tests.{leb-true, ltb-false, le-leb, lt-leb, lt-ltb, le-ltb, ne_eqb}
+use Rattle.std.specs.Prelude.{Some, None}
 use Rattle.rules.specs.declared.Family.{Family}
 use Rattle.rules.specs.declared.Measure.{Measure}
 use Rattle.rules.specs.declared.Measure.TheVariants.{Lacks, Packet, Idle, Unreadable}
@@ -91,11 +92,12 @@ unfolding wrong_at wrong_of
 wrong_window longest w xs h eight = ap (λ (m : Measure). wrong_of longest m (length (take w xs))) (measure-take w xs eight) ∙ go (measure xs)
   where
     cut : (n : ℕ) (t : Bool) → longest <? n ≡ t
-        → cond t (wrong.Long n) (cond (length (take w xs) <? n) wrong.Cut wrong.Nothing) ≡ cond t (wrong.Long n) (cond (length xs <? n) wrong.Cut wrong.Nothing)
+        → cond t (Some (wrong.Long n)) (cond (length (take w xs) <? n) (Some wrong.Cut) None)
+        ≡ cond t (Some (wrong.Long n)) (cond (length xs <? n) (Some wrong.Cut) None)
     cut n true e = refl
     cut n false e = let k : n ≤ longest = ltb-false _ _ e in rw (short-within n w xs (omega arith))
 
-    none : cond (length (take w xs) =? 0) wrong.Nothing wrong.Cut ≡ cond (length xs =? 0) wrong.Nothing wrong.Cut
+    none : cond (length (take w xs) =? 0) None (Some wrong.Cut) ≡ cond (length xs =? 0) None (Some wrong.Cut)
     none =
         split (length xs) w (λ k. rw (take_all w xs k))
         (λ k. let l : length (take w xs) ≡ w = length-take-le w xs (omega arith) in rw
@@ -109,12 +111,12 @@ wrong_window longest w xs h eight = ap (λ (m : Measure). wrong_of longest m (le
 
 -- Octets that are left are a batch and more, or something is wrong with the first packet.
 pub batch_or_wrong : (longest : ℕ) (xs : List ℕ) → longest ≤ batch_size → 0 < length xs
-    → (gathered longest xs ≡ 0 → ⊥) ⊎ (wrong_at longest xs ≡ wrong.Nothing → ⊥)
+    → (gathered longest xs ≡ 0 → ⊥) ⊎ (wrong_at longest xs ≡ None → ⊥)
 unfolding gathered wrong_at wrong_of joined
 batch_or_wrong longest xs h some = go (measure xs) refl
   where
     Either : Measure → Type 0
-    Either m = (length (joined (fitting longest batch_size (packets xs))) ≡ 0 → ⊥) ⊎ (wrong_of longest m (length xs) ≡ wrong.Nothing → ⊥)
+    Either m = (length (joined (fitting longest batch_size (packets xs))) ≡ 0 → ⊥) ⊎ (wrong_of longest m (length xs) ≡ None → ⊥)
 
     batch : (f : Family) (n : ℕ) → measure xs ≡ Packet f n → n ≤ longest → n ≤ length xs → length (joined (fitting longest batch_size (packets xs))) ≡ 0 → ⊥
     batch f n e k l z =

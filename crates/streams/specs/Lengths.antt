@@ -1,8 +1,8 @@
 -- A list of lengths: "decimal numbers with blanks or line feeds between them".
-use Rattle.std.specs.Prelude.{ℕ, suc, ◌+◌, ◌-◌, ◌*◌, min, Bool, true, false, cond, List, [], ◌∷◌, length, get_or, take, drop}
+use Rattle.std.specs.Prelude.{ℕ, ◌+◌, ◌-◌, ◌*◌, min, Bool, true, false, cond, Option, Some, None, Result, Ok, Err, List, [], ◌∷◌, length, get_or, take, drop}
+use Rattle.std.specs.List.{prefix_len}
 use Rattle.rules.specs.Tests.{◌=?◌, ◌<?◌, ◌≤?◌}
-use Rattle.streams.specs.declared.lengths.Length.{Length}
-use Rattle.streams.specs.declared.lengths.Length.TheVariants.{End, Of, Other}
+use Rattle.streams.specs.declared.lengths.NoNumber.{NoNumber}
 use Rattle.streams.specs.declared.lengths.Listed.{Listed}
 
 -- A space, a line feed, a carriage return or a tab.
@@ -11,11 +11,6 @@ is_blank x = cond (x =? 32) true (cond (x =? 10) true (cond (x =? 13) true (x =?
 
 unfoldable pub is_digit : ℕ → Bool
 is_digit x = cond (x <? 48) false (x ≤? 57)
-
--- How many octets from the first on are of this sort.
-unfoldable pub front : (ℕ → Bool) → List ℕ → ℕ
-front p [] = 0
-front p (x ∷ xs) = cond (p x) (suc (front p xs)) 0
 
 -- The number that digits are after those that came to v. What is above 10,000 stays there: no unit is that long.
 unfoldable pub value_from : ℕ → List ℕ → ℕ
@@ -26,17 +21,24 @@ value_from v (x ∷ xs) = value_from (min (v * 10 + (x - 48)) 10000) xs
 unfoldable pub ends_at : List ℕ → Bool
 ends_at xs = cond (length xs =? 0) true (is_blank (get_or xs 0 0))
 
+-- What stands next: a number, nothing more, or something else.
+abbrev pub Word : Type 0
+Word = Result (Option ℕ) NoNumber
+
+abbrev pub other : Word
+other = Err (record {})
+
 -- "A number and the blanks and line feeds before it have fewer than 256 octets together": what stands after b blanks, with d digits.
-unfoldable pub word_of : ℕ → ℕ → List ℕ → Length
+unfoldable pub word_of : ℕ → ℕ → List ℕ → Word
 word_of b d xs =
-    cond (256 ≤? (b + d)) Other
-    (cond (length xs =? b) End
-    (cond (d =? 0) Other
-    (cond (ends_at (drop (b + d) xs)) (Of (value_from 0 (take d (drop b xs)))) Other)))
+    cond (256 ≤? (b + d)) other
+    (cond (length xs =? b) (Ok None)
+    (cond (d =? 0) other
+    (cond (ends_at (drop (b + d) xs)) (Ok (Some (value_from 0 (take d (drop b xs))))) other)))
 
 -- What stands next in a list with these octets.
 unfoldable pub next_of : List ℕ → Listed
 next_of xs =
-    let b : ℕ = front is_blank xs in
-    let d : ℕ = front is_digit (drop b xs) in
+    let b : ℕ = prefix_len is_blank xs in
+    let d : ℕ = prefix_len is_digit (drop b xs) in
     record { length = word_of b d xs; blanks = b; used = b + d }

@@ -5,11 +5,10 @@ ghost use Rattle.streams.specs.FileBatches.{gathered, wrong_of, wrong_at};
 
 use rules::Measure;
 
-// What is wrong with a packet of a file: nothing; it is a packet of neither family; it is idle; it is longer than the lane's longest, and how long;
+// What is wrong with a packet of a file: it is a packet of neither family; it is idle; it is longer than the lane's longest, and how long;
 // the file ends before it does.
 #[derive(Clone, Copy)]
 pub enum Wrong {
-    Nothing,
     NoPacket,
     Idle,
     Long(usize),
@@ -23,17 +22,11 @@ pub fn gather(s: &[u8], longest: usize) -> usize
 {
     let mut i: usize = 0;
     while i < s.len() {
-        let m = packets::measure_at(&s[i..]);
-        let Measure::Packet(_, n) = m else {
+        let Measure::Packet(_, n) = packets::measure_at(&s[i..]) else {
             return i;
         };
-        if s.len() - i < n {
-            return i;
-        }
-        if longest < n {
-            return i;
-        }
-        if rules::BATCH_SIZE - i < n {
+        let room = rules::BATCH_SIZE - i;
+        if s.len() - i < n || longest < n || room < n {
             return i;
         }
         i += n;
@@ -41,49 +34,34 @@ pub fn gather(s: &[u8], longest: usize) -> usize
     i
 }
 
-// What is wrong with a measured packet of which n octets are there.
-fn wrong_of(longest: usize, m: Measure, n: usize) -> Wrong
+// What is wrong with a measured packet of which n octets are there, if anything is.
+#[tactic(auto, unfolding(crate::specs::FileBatches::wrong_of))]
+fn wrong_of(longest: usize, m: Measure, n: usize) -> Option<Wrong>
     ensures { result ≡ wrong_of longest m n }
 {
     match m {
-        Measure::Lacks(_) => {
-            if n == 0 {
-                return Wrong::Nothing;
-            }
-            Wrong::Cut
-        }
-        Measure::Packet(_, size) => {
-            if longest < size {
-                return Wrong::Long(size);
-            }
-            if n < size {
-                return Wrong::Cut;
-            }
-            Wrong::Nothing
-        }
-        Measure::Idle(_) => Wrong::Idle,
-        Measure::Unreadable => Wrong::NoPacket,
+        Measure::Lacks(_) if n == 0 => None,
+        Measure::Lacks(_) => Some(Wrong::Cut),
+        Measure::Packet(_, size) if longest < size => Some(Wrong::Long(size)),
+        Measure::Packet(_, size) if n < size => Some(Wrong::Cut),
+        Measure::Packet(_, _) => None,
+        Measure::Idle(_) => Some(Wrong::Idle),
+        Measure::Unreadable => Some(Wrong::NoPacket),
     }
 }
 
-// What is wrong with the packet at the front, where the octets go to the file's end.
-pub fn wrong_at(s: &[u8], longest: usize) -> Wrong
+// What is wrong with the packet at the front, if anything is, where the octets go to the file's end.
+#[tactic(auto, unfolding(crate::specs::FileBatches::wrong_at))]
+pub fn wrong_at(s: &[u8], longest: usize) -> Option<Wrong>
     ensures { result ≡ wrong_at longest s.now }
 {
-    let m = packets::measure_at(s);
-    wrong_of(longest, m, s.len())
+    wrong_of(longest, packets::measure_at(s), s.len())
 }
 
 // Moves the octets from octet `from` on to the front; those behind them stay.
 pub fn shift(area: &mut [u8], from: usize)
     ensures { area.new ≡ laid area.old 0 (drop from area.old) }
 {
-    let mut i: usize = 0;
-    let mut j = from;
-    while j < area.len() {
-        let x = area[j];
-        area[i] = x;
-        i += 1;
-        j += 1;
-    }
+    let start = from.min(area.len());
+    area.copy_within(start.., 0);
 }

@@ -5,22 +5,21 @@
 pub mod file_batches;
 pub mod lengths;
 
-ghost use Rattle.std.specs.Prelude.{◌≡◌, ◌+◌, ◌-◌, length, take};
+ghost use Rattle.std.specs.Prelude.{◌≡◌, take};
 ghost use Rattle.io.specs.Counts.{IsPrefixLen};
-ghost use Rattle.streams.specs.Streams.{sound, wrong_fault, past as past_of, moved as movedOf, none as noNext, next_packets, next_unit, of_length, next_listed, next_of, with_batch, Began, Kept};
+ghost use Rattle.streams.specs.Streams.{sound, past as past_of, moved as movedOf, next_packets, next_unit, of_length, next_listed, next_of, Began, Kept};
 
 use file_batches::Wrong;
 use intake::{Source, System, Window};
-use lengths::Length;
+use lengths::NoNumber;
 
 // ---- what may go wrong
 
-// What ends the program early: nothing; a file or a list that cannot be read; what is wrong with the packet at an octet of a file; a unit that
-// is empty, above the lane's longest, or cut by the file's end; octets after the last unit; a word of a list that is no length; a batch that
-// the writer refused; standard output.
+// What ends the program early: a file or a list that cannot be read; what is wrong with the packet at an octet of a file; a unit that is empty,
+// above the lane's longest, or cut by the file's end; octets after the last unit; a word of a list that is no length; a batch that the writer
+// refused; standard output.
 #[derive(Clone, Copy)]
 pub enum Fault {
-    Nothing,
     NotRead,
     NotListed,
     Packet(u64, Wrong),
@@ -34,37 +33,10 @@ pub enum Fault {
 }
 
 // Whether nothing went wrong.
-#[tactic(auto, unfolding(crate::specs::Streams::sound))]
-pub fn is_sound(f: Fault) -> bool
-    ensures { result ≡ sound f }
+pub fn is_sound(fault: Option<Fault>) -> bool
+    ensures { result ≡ sound fault }
 {
-    match f {
-        Fault::Nothing => true,
-        Fault::NotRead => false,
-        Fault::NotListed => false,
-        Fault::Packet(_, _) => false,
-        Fault::NoUnit => false,
-        Fault::LongUnit => false,
-        Fault::CutUnit(_) => false,
-        Fault::Left(_) => false,
-        Fault::NoLength(_) => false,
-        Fault::Refused(_) => false,
-        Fault::NotSent => false,
-    }
-}
-
-// What goes wrong with the packet at octet `at`, of which this is wrong.
-#[tactic(auto, unfolding(crate::specs::Streams::wrong_fault))]
-fn wrong_fault(at: u64, w: Wrong) -> Fault
-    ensures { result ≡ wrong_fault at w }
-{
-    match w {
-        Wrong::Nothing => Fault::Nothing,
-        Wrong::NoPacket => Fault::Packet(at, w),
-        Wrong::Idle => Fault::Packet(at, w),
-        Wrong::Long(_) => Fault::Packet(at, w),
-        Wrong::Cut => Fault::Packet(at, w),
-    }
+    fault.is_none()
 }
 
 // ---- windows
@@ -74,36 +46,26 @@ pub fn within(n: usize, area: &[u8]) -> usize
     ensures prefix_len { IsPrefixLen result area.now }
     ensures area_value { take result area.now ≡ take n area.now }
 {
-    intake::least(n, area.len())
+    n.min(area.len())
 }
 
 // The octet n after this one, of a file that no run brings to its end.
+#[tactic(auto, unfolding(crate::specs::Streams::past))]
 pub fn past(at: u64, n: usize) -> u64
     ensures { result ≡ past_of at n }
 {
-    let k = n as u64;
-    if at <= 18446744073709551615 - k {
-        return at + k;
-    }
-    18446744073709551615
+    at.saturating_add(n as u64)
 }
 
 // The window after n of the octets that it holds, which are `have`.
+#[tactic(auto, unfolding(crate::specs::Streams::moved))]
 pub fn moved(w: Window, have: usize, n: usize) -> Window
     ensures { result ≡ movedOf w have n }
 {
-    let at = past(w.at, n);
-    if have < n {
-        return Window {
-            have: 0,
-            at: at,
-            good: w.good,
-        };
-    }
     Window {
-        have: have - n,
-        at: at,
-        good: w.good,
+        have: have.saturating_sub(n),
+        at: past(w.at, n),
+        ..w
     }
 }
 
@@ -113,9 +75,10 @@ pub fn fill(system: &System, source: &Source, w: Window, area: &mut [u8], room: 
 {
     let end = within(room, area);
     if end < w.have {
-        return w;
+        w
+    } else {
+        intake::fill_up(system, source, &mut area[..end], w)
     }
-    intake::fill_up(system, source, &mut area[..end], w)
 }
 
 // ---- the next batch
@@ -134,164 +97,137 @@ pub enum Form {
 pub struct Stream {
     pub window: Window,
     pub list: Window,
+    // A count, and no Option: a batch of no octets would be a second way to say that there is none.
     pub batch: usize,
     pub lane: usize,
     pub longest: usize,
     pub form: Form,
 }
 
-// The next batch: its octets, 0 for none; how many octets of the list it takes; and what is wrong.
-#[derive(Clone, Copy)]
-pub struct Next {
-    pub batch: usize,
-    pub used: usize,
-    pub fault: Fault,
-}
-
-// There is none.
-fn none(fault: Fault) -> Next
-    ensures { result ≡ noNext fault }
-{
-    Next {
-        batch: 0,
-        used: 0,
-        fault: fault,
-    }
+// A batch: its octets, and how many octets of the list it takes. The default is none of either.
+#[derive(Clone, Copy, Default)]
+struct Batch {
+    octets: usize,
+    used: usize,
 }
 
 // The next batch of a packet lane's file, which goes on with these octets at octet `at`.
-fn next_packets(at: u64, longest: usize, octets: &[u8]) -> Next
+#[tactic(auto, unfolding(crate::specs::Streams::next_packets, crate::specs::Streams::wrong_fault))]
+fn next_packets(at: u64, longest: usize, octets: &[u8]) -> Result<Option<Batch>, Fault>
     ensures { result ≡ next_packets at longest octets.now }
 {
     let n = file_batches::gather(octets, longest);
-    if n == 0 {
-        let wrong = file_batches::wrong_at(octets, longest);
-        let fault = wrong_fault(at, wrong);
-        return none(fault);
+    if n != 0 {
+        return Ok(Some(Batch { octets: n, used: 0 }));
     }
-    Next {
-        batch: n,
-        used: 0,
-        fault: Fault::Nothing,
+    match file_batches::wrong_at(octets, longest) {
+        Some(wrong) => Err(Fault::Packet(at, wrong)),
+        None => Ok(None),
     }
 }
 
 // The next batch of an access lane's file that is one unit.
-fn next_unit(at: u64, longest: usize, octets: &[u8]) -> Next
+#[tactic(auto, unfolding(crate::specs::Streams::next_unit))]
+fn next_unit(at: u64, longest: usize, octets: &[u8]) -> Result<Option<Batch>, Fault>
     ensures { result ≡ next_unit at longest octets.now }
 {
+    let n = octets.len();
     if at != 0 {
-        return none(Fault::Nothing);
-    }
-    if octets.len() == 0 {
-        return none(Fault::NoUnit);
-    }
-    if longest < octets.len() {
-        return none(Fault::LongUnit);
-    }
-    Next {
-        batch: octets.len(),
-        used: 0,
-        fault: Fault::Nothing,
+        Ok(None)
+    } else if n == 0 {
+        Err(Fault::NoUnit)
+    } else if longest < n {
+        Err(Fault::LongUnit)
+    } else {
+        Ok(Some(Batch { octets: n, used: 0 }))
     }
 }
 
 // The next batch where the list says that it has n octets: at octet `place` of the list, with so many octets of it, for a file that has
 // `have` more at octet `at`.
-fn of_length(n: usize, used: usize, place: u64, at: u64, longest: usize, have: usize) -> Next
+#[tactic(auto, unfolding(crate::specs::Streams::of_length))]
+fn of_length(
+    n: usize,
+    used: usize,
+    place: u64,
+    at: u64,
+    longest: usize,
+    have: usize,
+) -> Result<Option<Batch>, Fault>
     ensures { result ≡ of_length n used place at longest have }
 {
-    if n == 0 {
-        return none(Fault::NoLength(place));
-    }
-    if longest < n {
-        return none(Fault::NoLength(place));
-    }
-    if have < n {
-        return none(Fault::CutUnit(at));
-    }
-    Next {
-        batch: n,
-        used: used,
-        fault: Fault::Nothing,
+    if n == 0 || longest < n {
+        Err(Fault::NoLength(place))
+    } else if have < n {
+        Err(Fault::CutUnit(at))
+    } else {
+        Ok(Some(Batch { octets: n, used }))
     }
 }
 
 // The next batch of an access lane's file with a list, which goes on with these octets.
-fn next_listed(at: u64, place: u64, longest: usize, octets: &[u8], list: &[u8]) -> Next
+#[tactic(auto, unfolding(crate::specs::Streams::next_listed, crate::specs::Streams::by_length))]
+fn next_listed(
+    at: u64,
+    place: u64,
+    longest: usize,
+    octets: &[u8],
+    list: &[u8],
+) -> Result<Option<Batch>, Fault>
     ensures { result ≡ next_listed at place longest octets.now list.now }
 {
-    let l = lengths::next_of(list);
-    let here = past(place, l.blanks);
-    let length = l.length;
-    match length {
-        Length::End => {
-            if octets.len() == 0 {
-                return none(Fault::Nothing);
-            }
-            none(Fault::Left(at))
-        }
-        Length::Of(n) => of_length(n, l.used, here, at, longest, octets.len()),
-        Length::Other => none(Fault::NoLength(here)),
+    let listed = lengths::next_of(list);
+    let here = past(place, listed.blanks);
+    match listed.length {
+        Ok(Some(n)) => of_length(n, listed.used, here, at, longest, octets.len()),
+        Ok(None) if octets.is_empty() => Ok(None),
+        Ok(None) => Err(Fault::Left(at)),
+        Err(NoNumber) => Err(Fault::NoLength(here)),
     }
 }
 
 // The next batch of a file, of these octets in its window and in the one on its list.
-fn next_of(s: Stream, octets: &[u8], list: &[u8]) -> Next
+#[tactic(auto, unfolding(crate::specs::Streams::next_of, crate::specs::Streams::by_form))]
+fn next_of(s: Stream, octets: &[u8], list: &[u8]) -> Result<Option<Batch>, Fault>
     ensures { result ≡ next_of s octets.now list.now }
 {
-    let w = s.window;
-    let l = s.list;
-    if w.good {} else {
-        return none(Fault::NotRead);
+    if !s.window.good {
+        return Err(Fault::NotRead);
     }
-    if l.good {} else {
-        return none(Fault::NotListed);
+    if !s.list.good {
+        return Err(Fault::NotListed);
     }
-    let form = s.form;
-    match form {
-        Form::Packets => next_packets(w.at, s.longest, octets),
-        Form::Unit => next_unit(w.at, s.longest, octets),
-        Form::Units => next_listed(w.at, l.at, s.longest, octets, list),
+    let at = s.window.at;
+    match s.form {
+        Form::Packets => next_packets(at, s.longest, octets),
+        Form::Unit => next_unit(at, s.longest, octets),
+        Form::Units => next_listed(at, s.list.at, s.longest, octets, list),
     }
 }
 
-// A file whose next batch is at the front of its window, or what is wrong where there is none.
+// A file whose next batch is at the front of its window; or none is, and what is wrong, if anything is. No Result: `Began` promises the file's windows where
+// something is wrong too.
 #[derive(Clone, Copy)]
 pub struct Begun {
     pub stream: Stream,
-    pub fault: Fault,
-}
-
-// The same file with this batch, and this window on its list.
-fn with_batch(s: Stream, list: Window, batch: usize) -> Stream
-    ensures { result ≡ with_batch s list batch }
-{
-    let w = s.window;
-    let form = s.form;
-    Stream {
-        window: w,
-        list: list,
-        batch: batch,
-        lane: s.lane,
-        longest: s.longest,
-        form: form,
-    }
+    pub fault: Option<Fault>,
 }
 
 // Finds the next batch of a file, and moves the window on its list past the batch's length.
 pub fn begin(s: Stream, octets: &[u8], list: &mut [u8]) -> Begun
     ensures { Began s octets.now list.old result list.new }
 {
-    let l = s.list;
-    let have = within(l.have, list);
-    let n = next_of(s, octets, &list[..have]);
-    file_batches::shift(&mut list[..have], n.used);
-    let after = moved(l, have, n.used);
-    let t = with_batch(s, after, n.batch);
-    let fault = n.fault;
+    let have = within(s.list.have, list);
+    let next = next_of(s, octets, &list[..have]);
+    let batch = next.unwrap_or(None).unwrap_or_default();
+    file_batches::shift(&mut list[..have], batch.used);
+    let stream = Stream {
+        list: moved(s.list, have, batch.used),
+        batch: batch.octets,
+        ..s
+    };
     Begun {
-        stream: t,
-        fault: fault,
+        stream,
+        fault: next.err(),
     }
 }

@@ -1,5 +1,5 @@
 -- Frame by frame: what goes from one to the next.
-use Rattle.std.specs.Prelude.{ℕ, ◌+◌, min, ◌≡◌, Bool, cond, not, ◌&&◌, List, take, replicate}
+use Rattle.std.specs.Prelude.{ℕ, ◌+◌, min, ◌≡◌, Bool, cond, not, ◌&&◌, Option, Some, None, List, take, replicate}
 use Rattle.rules.specs.Tests.{◌=?◌}
 use Rattle.rules.specs.declared.Outcome.{Outcome}
 use Rattle.rules.specs.declared.Outcome.TheVariants as outcomes
@@ -12,17 +12,17 @@ use Rattle.streams.specs.declared.Fault.TheVariants as faults
 use Rattle.streams.specs.Streams.{sound, past}
 use Rattle.turns.specs.declared.Course.{Course}
 
-abbrev pub ended : Course → Fault → Course
+abbrev pub ended : Course → Option Fault → Course
 ended c f = record { state = c.state; frames = c.frames; octets = c.octets; fault = f }
 
 unfoldable pub one_more : ℕ → ℕ
 one_more n = min (n + 1) 18446744073709551615
 
 -- Whether standard output took a frame.
-abbrev pub sent_fault : Bool → Fault
-sent_fault sent = cond sent faults.Nothing faults.NotSent
+abbrev pub sent_fault : Bool → Option Fault
+sent_fault sent = cond sent None (Some faults.NotSent)
 
-abbrev pub Sent : Fault → Type 0
+abbrev pub Sent : Option Fault → Type 0
 Sent f = f ≡ sent_fault (sound f)
 
 -- The frame area before a frame is written.
@@ -36,7 +36,7 @@ FrameOf w l batch insert ocf frame = frame ≡ take w.setting.length (write w l 
 -- The course after a write with this outcome, of a frame that standard output took or not.
 unfoldable pub course_of : Course → Outcome → Writer → Bool → Course
 course_of c outcomes.Done w sent = record { state = w; frames = one_more c.frames; octets = c.octets; fault = sent_fault sent }
-course_of c (outcomes.Refused n) w sent = record { state = w; frames = c.frames; octets = c.octets; fault = faults.Refused n }
+course_of c (outcomes.Refused n) w sent = record { state = w; frames = c.frames; octets = c.octets; fault = Some (faults.Refused n) }
 
 unfoldable pub sent_on : Course → Sender → Bool → Course
 sent_on c x sent = course_of c x.outcome x.state sent

@@ -9,7 +9,7 @@
 ghost use Rattle.std.specs.Prelude.{◌≡◌, ◌<◌, length};
 ghost use Rattle.rules.specs.Settings.{number};
 ghost use Rattle.streams.specs.Streams.{Kept};
-ghost use Rattle.turns.specs.Courses.{ended, one_more, Sent, FrameOf, SentNext, CourseOn, goes_on, counted};
+ghost use Rattle.turns.specs.Courses.{ended, Sent, FrameOf, SentNext, CourseOn, goes_on, counted};
 ghost use Rattle.turns.specs.Turns.{worked, Over, Worked, Turned, ReadOn, ReadTurn, after_turn, Taken, TakenAt};
 
 use intake::{System, Window};
@@ -25,40 +25,21 @@ pub struct Course {
     pub state: Writer,
     pub frames: u64,
     pub octets: u64,
-    pub fault: Fault,
+    pub fault: Option<Fault>,
 }
 
 // The same course, ended so.
-pub fn end_with(c: Course, fault: Fault) -> Course
+pub fn end_with(c: Course, fault: Option<Fault>) -> Course
     ensures { result ≡ ended c fault }
 {
-    let w = c.state;
-    Course {
-        state: w,
-        frames: c.frames,
-        octets: c.octets,
-        fault: fault,
-    }
-}
-
-// One more, of a number that no run brings to its end.
-fn one_more(n: u64) -> u64
-    ensures { result ≡ one_more n }
-{
-    if n < 18446744073709551615 {
-        return n + 1;
-    }
-    n
+    Course { fault, ..c }
 }
 
 // The state's number of lane l's next frame, 0 where there is no such lane.
 fn next_number(w: Writer, l: usize) -> usize
     ensures { result ≡ number w l }
 {
-    if l < 8 {
-        return w.next[l];
-    }
-    0
+    w.next.get(l).copied().unwrap_or(0)
 }
 
 // Hands a frame to standard output: the one that the rules write next of a batch.
@@ -70,15 +51,15 @@ fn hand(
     insert: &[u8],
     ocf: &[u8],
     frame: &[u8],
-) -> Fault
+) -> Option<Fault>
     requires { FrameOf w l batch.now insert.now ocf.now frame.now }
     ensures { Sent result }
 {
-    let good = console::write_out(system, frame);
-    if good {
-        return Fault::Nothing;
+    if console::write_out(system, frame) {
+        None
+    } else {
+        Some(Fault::NotSent)
     }
-    Fault::NotSent
 }
 
 // Writes the next frame of a batch, and hands it on.
@@ -95,30 +76,29 @@ fn send_next(
     let w = c.state;
     let mut area = [0u8; 4096];
     let t = writer::write(w, l, batch, insert, ocf, &mut area);
-    let outcome = t.outcome;
-    let after = t.state;
-    match outcome {
+    let after = Course {
+        state: t.state,
+        ..c
+    };
+    match t.outcome {
         Outcome::Done => {
             let end = streams::within(w.setting.length, &area);
             let fault = hand(system, w, l, batch, insert, ocf, &area[..end]);
-            let frames = one_more(c.frames);
             Course {
-                state: after,
-                frames: frames,
-                octets: c.octets,
-                fault: fault,
+                frames: c.frames.saturating_add(1),
+                fault,
+                ..after
             }
         }
         Outcome::Refused(n) => Course {
-            state: after,
-            frames: c.frames,
-            octets: c.octets,
-            fault: Fault::Refused(n),
+            fault: Some(Fault::Refused(n)),
+            ..after
         },
     }
 }
 
 // How a batch goes on: a frame of it where frames are written, and passed over in the first pass.
+#[tactic(auto, unfolding(crate::specs::Courses::CourseOn))]
 fn course_on(
     system: &System,
     writing: bool,
@@ -131,34 +111,28 @@ fn course_on(
     ensures { CourseOn writing c l batch.now insert.now ocf.now result }
 {
     if writing {
-        return send_next(system, c, l, batch, insert, ocf);
+        send_next(system, c, l, batch, insert, ocf)
+    } else {
+        c
     }
-    c
 }
 
 // Whether more frames of lane l's batch follow.
+#[tactic(auto, unfolding(crate::specs::Courses::goes_on))]
 fn goes_on(c: Course, l: usize) -> bool
     ensures { result ≡ goes_on c l }
 {
-    let fault = c.fault;
-    if streams::is_sound(fault) {
-        return next_number(c.state, l) != 0;
-    }
-    false
+    c.fault.is_none() && next_number(c.state, l) != 0
 }
 
 // The same course, with a batch of n octets more that is worked off.
+#[tactic(auto, unfolding(crate::specs::Courses::counted))]
 fn count_batch(c: Course, n: usize) -> Course
     ensures { result ≡ counted c n }
 {
-    let w = c.state;
-    let fault = c.fault;
-    let octets = streams::past(c.octets, n);
     Course {
-        state: w,
-        frames: c.frames,
-        octets: octets,
-        fault: fault,
+        octets: streams::past(c.octets, n),
+        ..c
     }
 }
 
@@ -173,19 +147,14 @@ struct Step {
 }
 
 // The file after its batch, whose window held so many octets.
+#[tactic(auto, unfolding(crate::specs::Turns::worked))]
 fn work_off(s: Stream, have: usize) -> Stream
     ensures { result ≡ worked s have }
 {
-    let window = streams::moved(s.window, have, s.batch);
-    let list = s.list;
-    let form = s.form;
     Stream {
-        window: window,
-        list: list,
+        window: streams::moved(s.window, have, s.batch),
         batch: 0,
-        lane: s.lane,
-        longest: s.longest,
-        form: form,
+        ..s
     }
 }
 
@@ -195,14 +164,10 @@ fn end_batch(d: Course, s: Stream, area: &mut [u8]) -> Step
 {
     let have = streams::within(s.window.have, area);
     streams::file_batches::shift(&mut area[..have], s.batch);
-    let t = work_off(s, have);
-    let e = count_batch(d, s.batch);
-    let fault = d.fault;
-    let more = streams::is_sound(fault);
     Step {
-        course: e,
-        stream: t,
-        more: more,
+        course: count_batch(d, s.batch),
+        stream: work_off(s, have),
+        more: d.fault.is_none(),
     }
 }
 
@@ -220,15 +185,15 @@ fn work(
 {
     let n = streams::within(s.batch, area);
     let d = course_on(system, writing, c, s.lane, &area[..n], insert, ocf);
-    let more = goes_on(d, s.lane);
-    if more {
-        return Step {
+    if goes_on(d, s.lane) {
+        Step {
             course: d,
             stream: s,
             more: true,
-        };
+        }
+    } else {
+        end_batch(d, s, area)
     }
-    end_batch(d, s, area)
 }
 
 // A file's turn, with what its windows hold: where no batch is being worked off, its next one begins.
@@ -248,18 +213,17 @@ fn turn(
         return work(system, writing, c, s, area, insert, ocf);
     }
     let have = streams::within(s.window.have, area);
-    let b = streams::begin(s, &area[..have], list);
-    let t = b.stream;
-    if t.batch == 0 {
-        let fault = b.fault;
-        let d = end_with(c, fault);
-        return Step {
-            course: d,
-            stream: t,
+    let begun = streams::begin(s, &area[..have], list);
+    let stream = begun.stream;
+    if stream.batch == 0 {
+        Step {
+            course: end_with(c, begun.fault),
+            stream,
             more: false,
-        };
+        }
+    } else {
+        work(system, writing, c, stream, area, insert, ocf)
     }
-    work(system, writing, c, t, area, insert, ocf)
 }
 
 // ---- sources
@@ -282,21 +246,11 @@ pub struct Inputs {
     pub list: intake::Source,
 }
 
-// One more than the longest unit, as far as a window goes.
-fn one_past(longest: usize) -> usize {
-    if longest < rules::BATCH_SIZE {
-        return longest + 1;
-    }
-    rules::BATCH_SIZE
-}
-
 // How many octets of a file its window may hold: a unit's file is read one octet past the longest unit, so that more is seen.
 fn room_of(s: Stream) -> usize {
-    let form = s.form;
-    match form {
+    match s.form {
         Form::Packets => 65536,
-        Form::Unit => one_past(s.longest),
-        Form::Units => one_past(s.longest),
+        Form::Unit | Form::Units => s.longest.saturating_add(1).min(rules::BATCH_SIZE),
     }
 }
 
@@ -305,9 +259,10 @@ fn read_list(system: &System, from: &intake::Source, l: Window, list: &mut [u8])
     ensures { Kept l list.old result list.new }
 {
     if intake::is_open(from) {
-        return streams::fill(system, from, l, list, 256);
+        streams::fill(system, from, l, list, 256)
+    } else {
+        l
     }
-    l
 }
 
 // Reads on where no batch is being worked off.
@@ -318,17 +273,10 @@ fn read_on(system: &System, inputs: &Inputs, x: Source, area: &mut [u8], list: &
     if s.batch != 0 {
         return s;
     }
-    let room = room_of(s);
-    let window = streams::fill(system, &inputs.file, s.window, area, room);
-    let listed = read_list(system, &inputs.list, s.list, list);
-    let form = s.form;
     Stream {
-        window: window,
-        list: listed,
-        batch: 0,
-        lane: s.lane,
-        longest: s.longest,
-        form: form,
+        window: streams::fill(system, &inputs.file, s.window, area, room_of(s)),
+        list: read_list(system, &inputs.list, s.list, list),
+        ..s
     }
 }
 
@@ -340,17 +288,17 @@ pub struct Move {
 }
 
 // The same file after a turn.
+#[tactic(auto, unfolding(crate::specs::Turns::after_turn))]
 fn after_turn(x: Source, t: Step) -> Move
     ensures { result ≡ after_turn x t }
 {
-    let c = t.course;
-    let s = t.stream;
-    let mut y = x;
-    y.stream = s;
-    y.more = t.more;
     Move {
-        course: c,
-        source: y,
+        course: t.course,
+        source: Source {
+            stream: t.stream,
+            more: t.more,
+            ..x
+        },
     }
 }
 
@@ -388,12 +336,13 @@ fn take_turn(
     ensures { Taken writing c x insert.now ocf.now area.old list.old result area.new list.new }
 {
     if x.more {
-        let t = read_turn(system, inputs, writing, c, x, area, list, insert, ocf);
-        return after_turn(x, t);
-    }
-    Move {
-        course: c,
-        source: x,
+        let step = read_turn(system, inputs, writing, c, x, area, list, insert, ocf);
+        after_turn(x, step)
+    } else {
+        Move {
+            course: c,
+            source: x,
+        }
     }
 }
 
@@ -414,17 +363,15 @@ pub fn turn_at(
     ensures { TakenAt k writing c x insert.now ocf.now areas.old lists.old result areas.new lists.new }
 {
     let from = 65536 * k;
-    let to = from + 65536;
     let list_from = 256 * k;
-    let list_to = list_from + 256;
     take_turn(
         system,
         inputs,
         writing,
         c,
         x,
-        &mut areas[from..to],
-        &mut lists[list_from..list_to],
+        &mut areas[from..from + 65536],
+        &mut lists[list_from..list_from + 256],
         insert,
         ocf,
     )

@@ -1,6 +1,6 @@
 -- `turns::send_next` meets its contract: a write that was done, and one that was refused.
 use Rattle.rules.proofs.Promises.{write-is}
-use Rattle.turns.specs.Courses.{area_before}
+use Rattle.turns.specs.Courses.{area_before, one_more}
 use Rattle.turns.proofs.Turns.{sent-done, sent-refused, frame-by}
 use Rattle.turns.proofs.send_next.Goals as goal
 
@@ -11,9 +11,9 @@ hand-fault-requires c = frame-by c.args.c _ _ _ _
     c.within-end.result c.within-end.ensures.area_value
 
 pub returns-in-Done : goal.returns-in-Done
-unfolding area_before
+unfolding area_before one_more
 returns-in-Done c = sent-done _ _ _ _ _ (write-is _ _ _ _ _ _ _ c.write-t.ensures) _ _ c.in-Done.is
-    c.hand-fault.ensures c.one_more-frames.ensures
+    c.hand-fault.ensures c.saturating_add.ensures
 
 pub returns-in-Refused : goal.returns-in-Refused
 unfolding area_before

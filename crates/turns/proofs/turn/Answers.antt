@@ -7,13 +7,13 @@ use Rattle.turns.proofs.turn.Goals as goal
 pub returns-then-s-ne0 : goal.returns-then-s-ne0
 returns-then-s-ne0 c = on c.if-s-ne0.true refl c.work.ensures
 
-pub returns-then-t-eq0 : goal.returns-then-t-eq0
-returns-then-t-eq0 c = turned_none _ _ _ _ _ _ _ c.within-have.result c.if-s-ne0.false c.within-have.ensures.area_value
-    c.begin-b.ensures c.if-t-eq0.true
-    c.end_with-d.ensures
+pub returns-then-stream-eq0 : goal.returns-then-stream-eq0
+returns-then-stream-eq0 c = turned_none _ _ _ _ _ _ _ c.within-have.result c.if-s-ne0.false c.within-have.ensures.area_value
+    c.begin-begun.ensures c.if-stream-eq0.true
+    c.end_with.ensures
 
-pub returns : goal.returns
-returns c = turned-begun _ _ _ _ _ _ _ c.within-have.result
+pub returns-else-stream-eq0 : goal.returns-else-stream-eq0
+returns-else-stream-eq0 c = turned-begun _ _ _ _ _ _ _ c.within-have.result
     c.if-s-ne0.false c.within-have.ensures.area_value
-    c.begin-b.ensures c.if-t-eq0.false
-    c.work-2.ensures
+    c.begin-begun.ensures c.if-stream-eq0.false
+    c.work-else-stream-eq0.ensures
