@@ -1,21 +1,16 @@
-use mathlib.Core.Path.{sym, ◌∙◌}
-use borrow.Author.Count.{below_none, below_more}
+-- `setting::channel_at` meets its contract: the first listed channel that is looked for stands at the first number that is.
+use Rattle.std.proofs.Common.{rules, arith, ◌∙◌, ◌&&◌, take}
+use Rattle.std.proofs.lemmas.Iterator.{YieldsList-from_slice}
+use Rattle.std.proofs.lemmas.Iterator.Search.{position_from_yields_List}
+use Rattle.rules.specs.Tests.{◌=?◌}
 use Rattle.rules.specs.Refusals.{channel_at}
-use Rattle.setting.proofs.Loops.{finds, misses}
+use Rattle.setting.proofs.Everys.{first_of}
 use Rattle.setting.proofs.channel_at.Goals as goal
-
-pub loop-i-init : goal.loop-i-init
-loop-i-init c = below_none _
-
-pub returns-then-found : goal.returns-then-found
-unfolding channel_at
-returns-then-found c =
-    finds _ _ _ c.loop-i-test.true (sym c.channel_is-found.ensures ∙ c.if-found.true) c.loop-i.invariant
-
-pub loop-i-preserved : goal.loop-i-preserved
-loop-i-preserved c =
-    below_more _ _ c.loop-i.invariant (sym c.channel_is-found.ensures ∙ c.if-found.false)
 
 pub returns : goal.returns
 unfolding channel_at
-returns c = misses _ _ _ c.loop-i-test.false c.loop-i.invariant
+returns c =
+    let a = c.args in
+    position_from_yields_List (λ x. x.vc =? a.vc && x.service =? a.service) _ _ _ c.position.ensures.ran
+    (YieldsList-from_slice (take a.s.listed a.s.channels) (search rules)) (λ x t q d. (search rules, search rules))
+    ∙ first_of _ _ _ _ (omega arith)

@@ -1,26 +1,29 @@
--- `setting::channels_ok` meets its contract: each early return is at one test of the rule that fails, and at the end all but the
--- last pass.
-use mathlib.Core.Path.{sym, ◌∙◌}
-use borrow.Author.Tests.{le-leb, lt-leb}
-use Rattle.rules.specs.Settings.{channels_ok}
-use Rattle.setting.proofs.Alls.{one-fails, one_passes, last_decides}
+-- `setting::channels_ok` meets its contract: each listed channel is in its ranges, and every two agree.
+use Rattle.std.proofs.Common.{rules, arith, ◌≡◌, ◌∙◌, ◌≤◌, take}
+use Rattle.std.proofs.lemmas.Iterator.{YieldsList-from_slice}
+use Rattle.std.proofs.lemmas.Iterator.Search.{all_from_yields_List}
+use Rattle.rules.specs.Tests.{every, all}
+use Rattle.rules.specs.Settings.{no_channel, channel, channel_ok, channels_agree, channels_ok}
+use Rattle.setting.proofs.Everys.{every_of, pairs_in}
 use Rattle.setting.proofs.channels_ok.Goals as goal
 
-pub returns-then-s-lt1 : goal.returns-then-s-lt1
-unfolding channels_ok
-returns-then-s-lt1 c = one-fails _ 0 (lt-leb _ _ c.if-s-lt1.true)
+pub returns-then-all : goal.returns-then-all
+unfolding channels_ok all
+returns-then-all c =
+    let s = c.args.s in
+    let few : s.listed ≤ 8 = search rules in
+    let each : c.all.result ≡ every s.listed (λ i. channel_ok s (channel s i)) =
+    all_from_yields_List (channel_ok s) _ _ _ c.all.ensures.ran (YieldsList-from_slice (take s.listed s.channels) (search rules)) (λ x t q d. search rules)
+    ∙ every_of (channel_ok s) s.channels no_channel _ (omega arith) in
+    let two = c.every_two.ensures channels_agree no_channel (λ a b t d. d) ∙ pairs_in channels_agree no_channel s.channels _ s.listed (omega arith) (search rules) in
+    search (rules, each, two)
 
-pub returns-then-s-gt8 : goal.returns-then-s-gt8
-unfolding channels_ok
-returns-then-s-gt8 c = one-fails _ 1 (lt-leb _ _ c.if-s-gt8.true)
-
-pub returns-then-each : goal.returns-then-each
-unfolding channels_ok
-returns-then-each c =
-    one_passes _ _ _ (le-leb _ _ c.if-s-lt1.false)
-    (one_passes _ _ _ (le-leb _ _ c.if-s-gt8.false)
-    (one_passes _ _ _ (sym c.each_channel_ok-each.ensures ∙ c.if-each.true) (c.pairs_agree.ensures ∙ last_decides _)))
-
-pub returns : goal.returns
-unfolding channels_ok
-returns c = one-fails _ 2 (sym c.each_channel_ok-each.ensures ∙ c.if-each.false)
+pub returns-else-all : goal.returns-else-all
+unfolding channels_ok all
+returns-else-all c =
+    let s = c.args.s in
+    let few : s.listed ≤ 8 = search rules in
+    let each : c.all.result ≡ every s.listed (λ i. channel_ok s (channel s i)) =
+    all_from_yields_List (channel_ok s) _ _ _ c.all.ensures.ran (YieldsList-from_slice (take s.listed s.channels) (search rules)) (λ x t q d. search rules)
+    ∙ every_of (channel_ok s) s.channels no_channel _ (omega arith) in
+    search (rules, each)

@@ -1,16 +1,9 @@
-use borrow.Author.Tests.{le-leb, lt-leb}
-use borrow.Author.Count.{below_none, below_more}
-use Rattle.setting.proofs.Loops.{stops, ends}
+-- `setting::numbers_ok` meets its contract: what the chain asks of each is what the rule asks of each number.
+use Rattle.std.proofs.Common.{rules}
+use Rattle.std.proofs.iter.runs.Sources.{ranges}
+use Rattle.std.proofs.lemmas.Grind.{common_steps}
+use Rattle.setting.proofs.Everys.{is_every}
 use Rattle.setting.proofs.numbers_ok.Goals as goal
 
-pub loop-i-init : goal.loop-i-init
-loop-i-init c = below_none _
-
-pub loop-i-preserved : goal.loop-i-preserved
-loop-i-preserved c = let l = c.loop-i in below_more _ _ l.invariant (le-leb _ _ c.if-next-le32767.true)
-
-pub returns-else-next-le32767 : goal.returns-else-next-le32767
-returns-else-next-le32767 c = stops _ _ _ c.loop-i-test.true (lt-leb _ _ c.if-next-le32767.false)
-
 pub returns : goal.returns
-returns c = ends _ _ _ c.loop-i-test.false c.loop-i.invariant
+returns c = is_every _ _ _ (search (rules, ranges, common_steps))

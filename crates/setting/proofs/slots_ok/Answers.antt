@@ -1,18 +1,9 @@
-use mathlib.Core.Path.{sym, ◌∙◌}
-use borrow.Author.Count.{below_none, below_more}
-use Rattle.setting.proofs.Loops.{stops, ends}
+-- `setting::slots_ok` meets its contract: what the chain asks of each is what the rule asks of each number.
+use Rattle.std.proofs.Common.{rules}
+use Rattle.std.proofs.iter.runs.Sources.{ranges}
+use Rattle.std.proofs.lemmas.Grind.{common_steps}
+use Rattle.setting.proofs.Everys.{is_every}
 use Rattle.setting.proofs.slots_ok.Goals as goal
 
-pub loop-i-init : goal.loop-i-init
-loop-i-init c = below_none _
-
-pub loop-i-preserved : goal.loop-i-preserved
-loop-i-preserved c =
-    let l = c.loop-i in
-    below_more _ _ l.invariant (sym c.slot_ok-ok.ensures ∙ c.if-ok.true)
-
-pub returns-else-ok : goal.returns-else-ok
-returns-else-ok c = stops _ _ _ c.loop-i-test.true (sym c.slot_ok-ok.ensures ∙ c.if-ok.false)
-
 pub returns : goal.returns
-returns c = ends _ _ _ c.loop-i-test.false c.loop-i.invariant
+returns c = is_every _ _ _ (search (rules, ranges, common_steps))
