@@ -1,60 +1,33 @@
 -- Parts of a request are cut as it says, and what a call's steps leave is what the request leaves.
 use mathlib.Core.Path.{◌≡◌, sym, ap, ap₂, ◌∙◌}
-use Prim.Native.Nat.{ℕ, ◌+◌, ◌-◌, ◌≤◌, ◌<◌, min}
+use Prim.Native.Nat.{ℕ, ◌+◌, ◌-◌, ◌≤◌, min}
 use native.Mathlib.Nat.{min-le_right}
 use native.Mathlib.Omega.{arith}
-use mathlib.Core.List.{List, []}
-use lib.ListN.{length, take, drop, length-take, length-drop, take-append-drop, drop_of_length-le}
-use lib.Seq.{take-append_seam, take-nil}
+use mathlib.Core.List.{List}
+use lib.ListN.{length, take, drop, length-drop}
+use Rattle.std.proofs.lemmas.List.{take_min}
 use Rattle.rules.specs.declared.Reader.{Reader}
 use Rattle.rules.specs.declared.Writer.{Writer}
 use Rattle.rules.specs.declared.Taken.{Taken}
 use Rattle.rules.specs.declared.Sender.{Sender}
-use Rattle.rules.specs.declared.Listener.{Listener}
 use Rattle.rules.specs.declared.Looked.{Looked}
 use borrow.Rule.Slice.PartMut.{put_mid}
 use Rattle.rules.specs.Areas.{laid}
 use Rattle.octets.proofs.Turns.{lent as back, part-long}
-use Rattle.rules.specs.Calls.{refusal_of, Sent, write, Got, look}
+use Rattle.rules.specs.Calls.{Sent, write, Got, look}
 use Rattle.rows.specs.Rows.{word, spelled}
-use Rattle.rows.specs.States.{reader_in, writer_in, reader_octets, writer_octets}
-use Rattle.obey.specs.Requests.{cut, behind, one, answered, sent_on, heard_on, answer_row, taken_on, asked, sent, written}
+use Rattle.rows.specs.States.{reader_in, writer_in}
+use Rattle.obey.specs.Requests.{cut, behind, answered, sent_on, taken_on, asked, sent, written}
 use Rattle.obey.specs.Requests.{sizes_in, read_in, whole, frame_in, read_on, Left, look_row, look_on}
 use Rattle.obey.specs.declared.requests.Sizes.{Sizes}
 
 -- ---- parts
 
-take-least : (n : ℕ) (xs : List ℕ) → take (min n (length xs)) xs ≡ take n xs
-take-least n xs =
-    ap (λ (k : ℕ). take k xs) (sym (length-take n xs)) ∙ ap (take (length (take n xs))) (sym (take-append-drop n xs))
-    ∙ take-append_seam (take n xs) (drop n xs)
-
 pub cut_is : (s : List ℕ) (from n k : ℕ) → from ≤ length s → k ≡ min n (length s - from) → take (from + k - from) (drop from s) ≡ cut s from n
 unfolding cut
 cut_is s from n k h e =
     let a : from + k - from ≡ k = omega arith in
-    ap (λ (m : ℕ). take m (drop from s)) (a ∙ e ∙ ap (min n) (sym (length-drop from s))) ∙ take-least n (drop from s)
-
-pub cut-none : (s : List ℕ) (from n : ℕ) → length s < from → [] ≡ cut s from n
-unfolding cut
-cut-none s from n h = sym (ap (take n) (drop_of_length-le s {i = from} (omega arith)) ∙ take-nil n)
-
--- ---- onto the desk: d₀ is the desk before, d₁ with the answer, d₂ with the state
-
-pub sent-on : (d₀ d₁ d₂ : List ℕ) (t : Sender) (a : ℕ) → a ≡ refusal_of t.outcome → d₁ ≡ laid d₀ 0 (spelled (one a))
-    → d₂ ≡ laid d₁ 64 (writer_octets t.state) → d₂ ≡ sent_on d₀ t
-unfolding sent_on answered
-sent-on d₀ d₁ d₂ t a e p q = cc
-
-pub heard-on : (d₀ d₁ d₂ : List ℕ) (t : Listener) (a : ℕ) → a ≡ refusal_of t.outcome → d₁ ≡ laid d₀ 0 (spelled (one a))
-    → d₂ ≡ laid d₁ 1152 (reader_octets t.state) → d₂ ≡ heard_on d₀ t
-unfolding heard_on answered
-heard-on d₀ d₁ d₂ t a e p q = cc
-
-pub taken-on : (d₀ d₁ d₂ row : List ℕ) (t : Taken) → row ≡ answer_row t.answer → d₁ ≡ laid d₀ 0 (spelled row)
-    → d₂ ≡ laid d₁ 1152 (reader_octets t.state) → d₂ ≡ taken_on d₀ t
-unfolding taken_on answered
-taken-on d₀ d₁ d₂ row t e p q = cc
+    ap (λ (m : ℕ). take m (drop from s)) (a ∙ e ∙ ap (min n) (sym (length-drop from s))) ∙ take_min n (drop from s)
 
 -- ---- a write
 

@@ -1,5 +1,5 @@
 -- A request is a row of eight numbers with octets behind it. What each asks for, and what it leaves in the areas.
-use Rattle.std.specs.Prelude.{ℕ, ◌+◌, min, ◌≡◌, cond, List, [], ◌∷◌, ◌++◌, length, take, drop, replicate}
+use Rattle.std.specs.Prelude.{ℕ, ◌+◌, ◌<◌, min, ◌≡◌, cond, List, [], ◌∷◌, ◌++◌, length, take, drop, replicate}
 use Rattle.rules.specs.declared.Reader.{Reader}
 use Rattle.rules.specs.declared.Writer.{Writer}
 use Rattle.rules.specs.declared.Class.{Class}
@@ -15,6 +15,9 @@ use Rattle.rules.specs.Octets.{check_of}
 use Rattle.rules.specs.Areas.{laid}
 use Rattle.rules.specs.Calls.{refusal_of, class_refusal, set_up_writer, set_up_reader, Sent, write, Got, read, look}
 use Rattle.obey.specs.declared.requests.Sizes.{Sizes}
+use Rattle.obey.specs.declared.requests.Asks.{Asks}
+use Rattle.obey.specs.declared.requests.Asks.TheVariants.{Read, LayHeld, Blank, LayDesk, SetWriter, SetReader, Write, Check, Look, Nothing}
+use Rattle.obey.specs.declared.requests.Frame.TheVariants.{Kept, Behind}
 use Rattle.rows.specs.Rows.{word, spelled}
 use Rattle.rows.specs.States.{setting_in, reader_in, writer_in, reader_octets, writer_octets}
 
@@ -130,6 +133,20 @@ unfoldable pub look_on : List ℕ → List ℕ → List ℕ
 look_on q desk = answered desk (look_row (look (reader_in desk 18) (behind q)))
 
 -- ---- requests
+
+-- What a request asks for, by number 0 of its row.
+abbrev pub Means : ℕ → Asks → Type 0
+Means n (Read Kept) = n ≡ 0
+Means n (Read Behind) = n ≡ 1
+Means n LayHeld = n ≡ 2
+Means n Blank = n ≡ 3
+Means n LayDesk = n ≡ 4
+Means n SetWriter = n ≡ 5
+Means n SetReader = n ≡ 6
+Means n Write = n ≡ 7
+Means n Check = n ≡ 8
+Means n Look = n ≡ 9
+Means n Nothing = 9 < n
 
 -- The areas on which requests work.
 pub record Areas : Type 0 where

@@ -6,10 +6,53 @@ ghost use Rattle.rows.specs.Rows.{word};
 ghost use Rattle.rows.specs.States.{setting_in};
 ghost use Rattle.obey.specs.Requests.{cut, behind, laid_in, one, answered, sent_on, heard_on, class_number, answer_row, taken_on};
 ghost use Rattle.obey.specs.Requests.{asked, sent, written, sizes_in, read_in, whole, frame_in, read_on, Left, place_number, look_row, look_on};
-ghost use Rattle.obey.specs.Requests.{desk_after, obeyed};
+ghost use Rattle.obey.specs.Requests.{Means, desk_after, obeyed};
 
 use rows::{put_reader, put_row, put_writer, reader_in, setting_in, word_in, writer_in};
 use rules::{Answer, Class, Listener, Looked, Outcome, Reader, Sender, Taken, Writer};
+
+// The frame that is read: the first octets of the frame area, or the octets behind the row.
+#[derive(Clone, Copy)]
+pub enum Frame {
+    Kept,
+    Behind,
+}
+
+// What a request asks for.
+#[derive(Clone, Copy)]
+pub enum Asks {
+    Read(Frame),
+    LayHeld,
+    Blank,
+    LayDesk,
+    SetWriter,
+    SetReader,
+    Write,
+    Check,
+    Look,
+    Nothing,
+}
+
+// By number 0 of its row (docs/CALLS.md).
+impl From<u64> for Asks {
+    ghost from_gives = { λ n a. Means n a };
+
+    fn from(n: u64) -> Asks {
+        match n {
+            0 => Asks::Read(Frame::Kept),
+            1 => Asks::Read(Frame::Behind),
+            2 => Asks::LayHeld,
+            3 => Asks::Blank,
+            4 => Asks::LayDesk,
+            5 => Asks::SetWriter,
+            6 => Asks::SetReader,
+            7 => Asks::Write,
+            8 => Asks::Check,
+            9 => Asks::Look,
+            _ => Asks::Nothing,
+        }
+    }
+}
 
 // How many octets of the held, unit and record area a read is lent.
 #[derive(Clone, Copy)]
@@ -25,24 +68,19 @@ pub struct Sizes {
 pub fn least(n: u64, most: usize) -> usize
     ensures { result ≡ min n most }
 {
-    if n < most as u64 {
-        return n as usize;
-    }
-    most
+    n.min(most as u64) as usize
 }
 
 // n octets from octet `from` on, as far as there are any.
 fn part(s: &[u8], from: usize, n: u64) -> &[u8]
     ensures { result.now ≡ cut s.now from n }
 {
-    if from <= s.len() {
-        let to = from + least(n, s.len() - from);
-        return &s[from..to];
-    }
-    &s[..0]
+    let there = &s[from.min(s.len())..];
+    &there[..least(n, there.len())]
 }
 
 // The octets behind the row.
+#[tactic(auto, unfolding(crate::specs::Requests::behind))]
 fn rest(q: &[u8]) -> &[u8]
     requires { 64 ≤ length q.now }
     ensures { result.now ≡ behind q.now }
@@ -51,13 +89,12 @@ fn rest(q: &[u8]) -> &[u8]
 }
 
 // Lays octets into an area from octet `from` on, if they have room there.
+#[tactic(auto, unfolding(crate::specs::Requests::laid_in))]
 fn lay_in(area: &mut [u8], from: usize, src: &[u8])
     ensures { area.new ≡ laid_in area.old from src.now }
 {
-    if from <= area.len() {
-        if src.len() <= area.len() - from {
-            octets::lay(area, from, src);
-        }
+    if from <= area.len() && src.len() <= area.len() - from {
+        octets::lay(area, from, src);
     }
 }
 
@@ -66,11 +103,10 @@ fn lay_asked(q: &[u8], area: &mut [u8])
     requires { 64 ≤ length q.now }
     ensures { area.new ≡ laid_in area.old (word q.now 2) (behind q.now) }
 {
-    let octets = rest(q);
-    lay_in(area, word_in(q, 2) as usize, octets);
+    lay_in(area, word_in(q, 2) as usize, rest(q));
 }
 
-// ---- onto the desk
+// ---- onto the desk: an answer is a row of numbers, and 0 stands for none in it (docs/CALLS.md, which `obey` is written to)
 
 // 0, or the refusal's number.
 #[tactic(auto, unfolding(rules::specs::Calls::refusal_of))]
@@ -102,24 +138,19 @@ fn class_refusal(c: Class) -> u64
     ensures { result ≡ class_refusal c }
 {
     match c {
-        Class::Idle => 0,
-        Class::Counted => 0,
-        Class::Read => 0,
-        Class::Repeat => 0,
-        Class::Refused(n) => n as u64,
+        Class::Refused(n) => u64::from(n),
+        Class::Idle | Class::Counted | Class::Read | Class::Repeat => 0,
     }
 }
 
-// The row of an answer.
+// The row of an answer. A function: a row is an array of the library's, for which no From of another crate's type can be written.
+#[tactic(auto, unfolding(crate::specs::Requests::answer_row))]
 fn answer_row(a: Answer) -> [u64; 8]
     ensures { result ≡ answer_row a }
 {
-    let c = a.class;
-    let class = class_number(c);
-    let refusal = class_refusal(c);
     [
-        class,
-        refusal,
+        class_number(a.class),
+        class_refusal(a.class),
         a.units as u64,
         a.octets as u64,
         a.missing,
@@ -130,68 +161,61 @@ fn answer_row(a: Answer) -> [u64; 8]
 }
 
 // The number of a place of a channel or a lane: the place and one, or 0 for none. A place past 7 is in no list, and is 0 too.
+#[tactic(auto, unfolding(crate::specs::Requests::place_number))]
 fn place_number(p: Option<usize>) -> u64
     ensures { result ≡ place_number p }
 {
     match p {
-        None => 0,
-        Some(i) => {
-            if i < 8 {
-                return i as u64 + 1;
-            }
-            0
-        }
+        Some(i) if i < 8 => i as u64 + 1,
+        _ => 0,
     }
 }
 
 // The row of a look's answer.
+#[tactic(auto, unfolding(crate::specs::Requests::look_row))]
 fn look_row(o: Looked) -> [u64; 8]
     ensures { result ≡ look_row o }
 {
-    let k = o.class;
-    let class = class_number(k);
-    let refusal = class_refusal(k);
-    let c = o.channel;
-    let channel = place_number(c);
-    let l = o.lane;
-    let lane = place_number(l);
-    [class, refusal, channel, lane, o.missing, 0, 0, 0]
+    [
+        class_number(o.class),
+        class_refusal(o.class),
+        place_number(o.channel),
+        place_number(o.lane),
+        o.missing,
+        0,
+        0,
+        0,
+    ]
 }
 
 // Puts what a set-up of the writer, or a write, answers on the desk.
+#[tactic(auto, unfolding(crate::specs::Requests::sent_on, crate::specs::Requests::answered))]
 fn put_sent(desk: &mut [u8], t: Sender)
     requires { length desk.old ≡ 6440 }
     ensures { desk.new ≡ sent_on desk.old t }
 {
-    let o = t.outcome;
-    let row = [refusal_of(o), 0, 0, 0, 0, 0, 0, 0];
-    put_row(desk, 0, row);
-    let w = t.state;
-    put_writer(desk, 1, w);
+    put_row(desk, 0, [refusal_of(t.outcome), 0, 0, 0, 0, 0, 0, 0]);
+    put_writer(desk, 1, t.state);
 }
 
 // Puts what a set-up of the reader answers on the desk.
+#[tactic(auto, unfolding(crate::specs::Requests::heard_on, crate::specs::Requests::answered))]
 fn put_heard(desk: &mut [u8], t: Listener)
     requires { length desk.old ≡ 6440 }
     ensures { desk.new ≡ heard_on desk.old t }
 {
-    let o = t.outcome;
-    let row = [refusal_of(o), 0, 0, 0, 0, 0, 0, 0];
-    put_row(desk, 0, row);
-    let r = t.state;
-    put_reader(desk, 18, r);
+    put_row(desk, 0, [refusal_of(t.outcome), 0, 0, 0, 0, 0, 0, 0]);
+    put_reader(desk, 18, t.state);
 }
 
 // Puts what a read answers on the desk.
+#[tactic(auto, unfolding(crate::specs::Requests::taken_on, crate::specs::Requests::answered))]
 fn put_taken(desk: &mut [u8], t: Taken)
     requires { length desk.old ≡ 6440 }
     ensures { desk.new ≡ taken_on desk.old t }
 {
-    let a = t.answer;
-    let row = answer_row(a);
-    put_row(desk, 0, row);
-    let r = t.state;
-    put_reader(desk, 18, r);
+    put_row(desk, 0, answer_row(t.answer));
+    put_reader(desk, 18, t.state);
 }
 
 // ---- the calls
@@ -201,8 +225,7 @@ fn set_writer(desk: &mut [u8])
     requires { length desk.old ≡ 6440 }
     ensures { desk.new ≡ sent_on desk.old (set_up_writer (setting_in desk.old 1)) }
 {
-    let s = setting_in(desk, 1);
-    let t = writer::set_up(s);
+    let t = writer::set_up(setting_in(desk, 1));
     put_sent(desk, t);
 }
 
@@ -211,8 +234,7 @@ fn set_reader(desk: &mut [u8])
     requires { length desk.old ≡ 6440 }
     ensures { desk.new ≡ heard_on desk.old (set_up_reader (setting_in desk.old 18)) }
 {
-    let s = setting_in(desk, 18);
-    let t = reader::set_up(s);
+    let t = reader::set_up(setting_in(desk, 18));
     put_heard(desk, t);
 }
 
@@ -240,14 +262,13 @@ fn write(q: &[u8], desk: &mut [u8])
 }
 
 // The frame check of the octets behind the row.
+#[tactic(auto, unfolding(crate::specs::Requests::answered))]
 fn check(q: &[u8], desk: &mut [u8])
     requires { (64 ≤ length q.now) × (length desk.old ≡ 6440) }
     ensures { desk.new ≡ answered desk.old (one (check_of (behind q.now))) }
 {
-    let octets = rest(q);
-    let v = fecf::check_of(octets);
-    let row = [v as u64, 0, 0, 0, 0, 0, 0, 0];
-    put_row(desk, 0, row);
+    let v = fecf::check_of(rest(q));
+    put_row(desk, 0, [u64::from(v), 0, 0, 0, 0, 0, 0, 0]);
 }
 
 // A look at the octets behind the row, by the reader on the desk.
@@ -255,14 +276,12 @@ fn look(q: &[u8], desk: &mut [u8])
     requires { (64 ≤ length q.now) × (length desk.old ≡ 6440) }
     ensures { desk.new ≡ look_on q.now desk.old }
 {
-    let r = reader_in(desk, 18);
-    let frame = rest(q);
-    let o = reader::look(r, frame);
-    let row = look_row(o);
-    put_row(desk, 0, row);
+    let o = reader::look(reader_in(desk, 18), rest(q));
+    put_row(desk, 0, look_row(o));
 }
 
 // How much of areas that are so long a read is lent.
+#[tactic(auto, unfolding(crate::specs::Requests::sizes_in))]
 fn sizes_in(q: &[u8], held: usize, units: usize, records: usize) -> Sizes
     requires { 64 ≤ length q.now }
     ensures { result ≡ sizes_in q.now held units records }
@@ -275,15 +294,15 @@ fn sizes_in(q: &[u8], held: usize, units: usize, records: usize) -> Sizes
 }
 
 // The frame to be read.
-fn frame_in<'a>(q: &'a [u8], desk: &'a [u8]) -> &'a [u8]
-    requires { 64 ≤ length q.now }
+#[tactic(auto, unfolding(crate::specs::Requests::frame_in))]
+fn frame_in<'a>(which: Frame, q: &'a [u8], desk: &'a [u8]) -> &'a [u8]
+    requires { (64 ≤ length q.now) × Means (word q.now 0) (Asks.Read which) }
     ensures { result.now ≡ frame_in q.now desk.now }
 {
-    let what = word_in(q, 0);
-    if what == 1 {
-        return rest(q);
+    match which {
+        Frame::Kept => part(desk, 2240, word_in(q, 5)),
+        Frame::Behind => rest(q),
     }
-    part(desk, 2240, word_in(q, 5))
 }
 
 // A read that is lent so much of the areas.
@@ -298,20 +317,30 @@ fn read_in(
     requires { (z.held ≤ length held.old) × (z.units ≤ length units.old) × (z.records ≤ length records.old) }
     ensures { record { taken = result; held_area = held.new; unit_area = units.new; record_area = records.new } ≡ whole z (read_in z r frame.now held.old units.old records.old) held.old units.old records.old }
 {
-    let h = z.held;
-    let u = z.units;
-    let c = z.records;
-    reader::take(r, frame, &mut held[..h], &mut units[..u], &mut records[..c])
+    reader::take(
+        r,
+        frame,
+        &mut held[..z.held],
+        &mut units[..z.units],
+        &mut records[..z.records],
+    )
 }
 
 // A read by the reader on the desk.
-fn read(q: &[u8], desk: &mut [u8], held: &mut [u8], units: &mut [u8], records: &mut [u8])
-    requires { (64 ≤ length q.now) × (length desk.old ≡ 6440) }
+fn read(
+    which: Frame,
+    q: &[u8],
+    desk: &mut [u8],
+    held: &mut [u8],
+    units: &mut [u8],
+    records: &mut [u8],
+)
+    requires { (64 ≤ length q.now) × (length desk.old ≡ 6440) × Means (word q.now 0) (Asks.Read which) }
     ensures { Left (read_on q.now desk.old held.old units.old records.old) desk.old desk.new held.new units.new records.new }
 {
     let r = reader_in(desk, 18);
     let z = sizes_in(q, held.len(), units.len(), records.len());
-    let frame = frame_in(q, desk);
+    let frame = frame_in(which, q, desk);
     let t = read_in(z, r, frame, held, units, records);
     put_taken(desk, t);
 }
@@ -327,54 +356,21 @@ fn blank_all(held: &mut [u8], units: &mut [u8], records: &mut [u8])
     octets::fill(records, 0x55);
 }
 
-// Obeys a request that lends nothing to a reader.
-fn on_desk(q: &[u8], desk: &mut [u8])
-    requires { (64 ≤ length q.now) × (length desk.old ≡ 6440) }
-    ensures { desk.new ≡ desk_after q.now desk.old }
-{
-    let what = word_in(q, 0);
-    if what == 4 {
-        lay_asked(q, desk);
-        return;
-    }
-    if what == 5 {
-        set_writer(desk);
-        return;
-    }
-    if what == 6 {
-        set_reader(desk);
-        return;
-    }
-    if what == 7 {
-        write(q, desk);
-        return;
-    }
-    if what == 8 {
-        check(q, desk);
-        return;
-    }
-    if what == 9 {
-        look(q, desk);
-    }
-}
-
 // Obeys a request.
 pub fn obey(q: &[u8], desk: &mut [u8], held: &mut [u8], units: &mut [u8], records: &mut [u8])
     requires { (64 ≤ length q.now) × (length desk.old ≡ 6440) }
     ensures { record { desk = desk.exit.now; held = held.new; units = units.new; records = records.new } ≡ obeyed q.now (record { desk = desk.entry.now; held = held.old; units = units.old; records = records.old }) }
 {
-    let what = word_in(q, 0);
-    if what < 2 {
-        read(q, desk, held, units, records);
-        return;
+    match Asks::from(word_in(q, 0)) {
+        Asks::Read(which) => read(which, q, desk, held, units, records),
+        Asks::LayHeld => lay_asked(q, held),
+        Asks::Blank => blank_all(held, units, records),
+        Asks::LayDesk => lay_asked(q, desk),
+        Asks::SetWriter => set_writer(desk),
+        Asks::SetReader => set_reader(desk),
+        Asks::Write => write(q, desk),
+        Asks::Check => check(q, desk),
+        Asks::Look => look(q, desk),
+        Asks::Nothing => {}
     }
-    if what == 2 {
-        lay_asked(q, held);
-        return;
-    }
-    if what == 3 {
-        blank_all(held, units, records);
-        return;
-    }
-    on_desk(q, desk);
 }

@@ -6,5 +6,5 @@ use Rattle.obey.proofs.requests.look.Goals as goal
 pub returns : goal.returns
 returns c =
     let a = c.args in
-    look-on a.q.now _ a.desk.now _ _ _ _ c.reader_in-r.ensures c.rest-frame.ensures (look_is _ _ _ c.look-o.ensures)
-    c.look_row-row.ensures c.put_row.ensures
+    look-on a.q.now _ a.desk.now _ _ _ _ c.reader_in.ensures c.rest.ensures (look_is _ _ _ c.look-o.ensures)
+    c.look_row.ensures c.put_row.ensures

@@ -1,10 +1,18 @@
--- `obey::requests::part` meets its contract. As many octets are cut as there are, where there are any.
-use Rattle.obey.proofs.Desks.{cut_is, cut-none}
-use borrow.Author.Rules.{rules}
+-- As many octets are cut as there are.
+use mathlib.Core.Path.{◌≡◌, sym, ap, ◌∙◌}
+use Prim.Native.Nat.{ℕ, ◌-◌}
+use lib.ListN.{length, take, drop, length-drop}
+use Rattle.std.proofs.Math.Seq.{take-length}
+use Rattle.std.proofs.lemmas.List.{take_min, drop_min}
+use Rattle.obey.specs.Requests.{cut}
 use Rattle.obey.proofs.requests.part.Goals as goal
 
-pub returns-then-from-s : goal.returns-then-from-s
-returns-then-from-s c = cut_is _ _ _ _ c.if-from-s.true c.least.ensures
-
 pub returns : goal.returns
-returns c = cut-none _ _ _ (search rules)
+unfolding cut
+returns c =
+    let s = c.args.s.now in
+    let m = c.min.result in
+    let back : take (length s - m) (drop m s) ≡ drop c.args.from s =
+    ap (λ (k : ℕ). take k (drop m s)) (sym (length-drop m s)) ∙ take-length (drop m s) ∙ ap (λ (k : ℕ). drop k s) c.min.ensures
+    ∙ drop_min c.args.from s in
+    ap (λ (k : ℕ). take k (take (length s - m) (drop m s))) c.least.ensures ∙ take_min c.args.n _ ∙ ap (take c.args.n) back

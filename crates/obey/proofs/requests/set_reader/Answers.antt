@@ -8,4 +8,4 @@ use Rattle.obey.proofs.requests.set_reader.Goals as goal
 pub returns : goal.returns
 returns c =
     c.put_heard.ensures ∙ ap (heard_on _)
-    (reader-starts-is _ _ c.set_up-t.ensures ∙ ap set_up_reader c.setting_in-s.ensures)
+    (reader-starts-is _ _ c.set_up-t.ensures ∙ ap set_up_reader c.setting_in.ensures)

@@ -8,4 +8,4 @@ use Rattle.obey.proofs.requests.set_writer.Goals as goal
 pub returns : goal.returns
 returns c =
     c.put_sent.ensures ∙ ap (sent_on _)
-    (writer-starts-is _ _ c.set_up-t.ensures ∙ ap set_up_writer c.setting_in-s.ensures)
+    (writer-starts-is _ _ c.set_up-t.ensures ∙ ap set_up_writer c.setting_in.ensures)
