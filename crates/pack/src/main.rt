@@ -17,7 +17,7 @@ use setting_file::Loaded;
 use std::array;
 use streams::file_batches::Wrong;
 use streams::{Fault, Form, Stream};
-use turns::{Course, Inputs, Move, Source};
+use turns::{Course, Frames, Inputs, Move, Source};
 use words::pack_start::{Bad, Named, Objection, Plan};
 use words::{Asked, Program, Start};
 
@@ -435,18 +435,14 @@ impl Pass<'_> {
         requires { k < 8 }
         ensures { Stepped (is_some self.now.writing) p k self.now.insert.now self.now.ocf.now areas.old lists.old result areas.new lists.new }
     {
-        let m = turns::turn_at(
-            self.system,
-            &slots[k].inputs,
-            k,
-            self.writing.is_some(),
-            p.course,
-            p.files.sources[k],
-            areas,
-            lists,
-            self.insert,
-            self.ocf,
-        );
+        let frames = Frames {
+            system: self.system,
+            writing: self.writing.is_some(),
+            insert: self.insert,
+            ocf: self.ocf,
+        };
+        let x = p.files.sources[k];
+        let m = frames.turn_at(&slots[k].inputs, k, p.course, x, areas, lists);
         self.say_progress(p.course.frames, m.course);
         after_move(p, k, m)
     }

@@ -42,81 +42,6 @@ fn next_number(w: Writer, l: usize) -> usize
     w.next.get(l).copied().unwrap_or(0)
 }
 
-// Hands a frame to standard output: the one that the rules write next of a batch.
-fn hand(
-    system: &System,
-    w: Writer,
-    l: usize,
-    batch: &[u8],
-    insert: &[u8],
-    ocf: &[u8],
-    frame: &[u8],
-) -> Option<Fault>
-    requires { FrameOf w l batch.now insert.now ocf.now frame.now }
-    ensures { Sent result }
-{
-    if console::write_out(system, frame) {
-        None
-    } else {
-        Some(Fault::NotSent)
-    }
-}
-
-// Writes the next frame of a batch, and hands it on.
-fn send_next(
-    system: &System,
-    c: Course,
-    l: usize,
-    batch: &[u8],
-    insert: &[u8],
-    ocf: &[u8],
-) -> Course
-    ensures { SentNext c l batch.now insert.now ocf.now result }
-{
-    let w = c.state;
-    let mut area = [0u8; 4096];
-    let t = writer::write(w, l, batch, insert, ocf, &mut area);
-    let after = Course {
-        state: t.state,
-        ..c
-    };
-    match t.outcome {
-        Outcome::Done => {
-            let end = streams::within(w.setting.length, &area);
-            let fault = hand(system, w, l, batch, insert, ocf, &area[..end]);
-            Course {
-                frames: c.frames.saturating_add(1),
-                fault,
-                ..after
-            }
-        }
-        Outcome::Refused(n) => Course {
-            fault: Some(Fault::Refused(n)),
-            ..after
-        },
-    }
-}
-
-// How a batch goes on: a frame of it where frames are written, and passed over in the first pass.
-#[tactic(auto, unfolding(crate::specs::Courses::CourseOn))]
-fn course_on(
-    system: &System,
-    writing: bool,
-    c: Course,
-    l: usize,
-    batch: &[u8],
-    insert: &[u8],
-    ocf: &[u8],
-) -> Course
-    ensures { CourseOn writing c l batch.now insert.now ocf.now result }
-{
-    if writing {
-        send_next(system, c, l, batch, insert, ocf)
-    } else {
-        c
-    }
-}
-
 // Whether more frames of lane l's batch follow.
 #[tactic(auto, unfolding(crate::specs::Courses::goes_on))]
 fn goes_on(c: Course, l: usize) -> bool
@@ -138,7 +63,7 @@ fn count_batch(c: Course, n: usize) -> Course
 
 // ---- turns
 
-// A turn: the course and the file after it, and whether there may be more.
+// A turn: the course and the file after it, and whether there may be more. The file is promised after its last turn too (`Turns.Over`), so it is no Option.
 #[derive(Clone, Copy)]
 struct Step {
     course: Course,
@@ -171,65 +96,10 @@ fn end_batch(d: Course, s: Stream, area: &mut [u8]) -> Step
     }
 }
 
-// Takes the next frame of the batch at the front of a file's window; after its last frame the window holds what is behind it.
-fn work(
-    system: &System,
-    writing: bool,
-    c: Course,
-    s: Stream,
-    area: &mut [u8],
-    insert: &[u8],
-    ocf: &[u8],
-) -> Step
-    ensures { Worked writing c s insert.now ocf.now area.old result area.new }
-{
-    let n = streams::within(s.batch, area);
-    let d = course_on(system, writing, c, s.lane, &area[..n], insert, ocf);
-    if goes_on(d, s.lane) {
-        Step {
-            course: d,
-            stream: s,
-            more: true,
-        }
-    } else {
-        end_batch(d, s, area)
-    }
-}
-
-// A file's turn, with what its windows hold: where no batch is being worked off, its next one begins.
-fn turn(
-    system: &System,
-    writing: bool,
-    c: Course,
-    s: Stream,
-    area: &mut [u8],
-    list: &mut [u8],
-    insert: &[u8],
-    ocf: &[u8],
-) -> Step
-    ensures { Turned writing c s insert.now ocf.now area.old list.old result area.new list.new }
-{
-    if s.batch != 0 {
-        return work(system, writing, c, s, area, insert, ocf);
-    }
-    let have = streams::within(s.window.have, area);
-    let begun = streams::begin(s, &area[..have], list);
-    let stream = begun.stream;
-    if stream.batch == 0 {
-        Step {
-            course: end_with(c, begun.fault),
-            stream,
-            more: false,
-        }
-    } else {
-        work(system, writing, c, stream, area, insert, ocf)
-    }
-}
-
 // ---- sources
 
 // A file that is open: on its way into batches; how many octets of the names' area are its name and its list's; how many OCF octets its frames
-// have; and whether there may be more.
+// have; and whether there may be more. One that is at its end is promised to stay as it is (`Turns.Taken`), so that is no Option.
 #[derive(Clone, Copy)]
 pub struct Source {
     pub stream: Stream,
@@ -302,77 +172,171 @@ fn after_turn(x: Source, t: Step) -> Move
     }
 }
 
-// A file's turn in its own windows: it reads on, and takes a frame with as many OCF octets as its channel has.
-fn read_turn(
-    system: &System,
-    inputs: &Inputs,
-    writing: bool,
-    c: Course,
-    x: Source,
-    area: &mut [u8],
-    list: &mut [u8],
-    insert: &[u8],
-    ocf: &[u8],
-) -> Step
-    ensures { ReadTurn writing c x insert.now ocf.now area.old list.old result area.new list.new }
-{
-    let s = read_on(system, inputs, x, area, list);
-    let n = streams::within(x.ocf, ocf);
-    turn(system, writing, c, s, area, list, insert, &ocf[..n])
+// ---- a pass
+
+// What each turn of a pass is handed beside its file: the system, whether frames are written, and the insert and OCF octets of each frame.
+#[derive(Clone, Copy)]
+pub struct Frames<'a> {
+    pub system: &'a System,
+    pub writing: bool,
+    pub insert: &'a [u8],
+    pub ocf: &'a [u8],
 }
 
-// The same, unless the file is at its end: then it takes none.
-fn take_turn(
-    system: &System,
-    inputs: &Inputs,
-    writing: bool,
-    c: Course,
-    x: Source,
-    area: &mut [u8],
-    list: &mut [u8],
-    insert: &[u8],
-    ocf: &[u8],
-) -> Move
-    ensures { Taken writing c x insert.now ocf.now area.old list.old result area.new list.new }
-{
-    if x.more {
-        let step = read_turn(system, inputs, writing, c, x, area, list, insert, ocf);
-        after_turn(x, step)
-    } else {
-        Move {
-            course: c,
-            source: x,
+impl Frames<'_> {
+    // Hands a frame to standard output: the one that the rules write next of a batch.
+    fn hand(&self, w: Writer, l: usize, batch: &[u8], frame: &[u8]) -> Option<Fault>
+        requires { FrameOf w l batch.now self.now.insert.now self.now.ocf.now frame.now }
+        ensures { Sent result }
+    {
+        if console::write_out(self.system, frame) {
+            None
+        } else {
+            Some(Fault::NotSent)
         }
     }
-}
 
-// The turn of file k, whose windows are the k-th parts of these areas.
-pub fn turn_at(
-    system: &System,
-    inputs: &Inputs,
-    k: usize,
-    writing: bool,
-    c: Course,
-    x: Source,
-    areas: &mut [u8],
-    lists: &mut [u8],
-    insert: &[u8],
-    ocf: &[u8],
-) -> Move
-    requires { (k < 8) × (length areas.old ≡ 524288) × (length lists.old ≡ 2048) }
-    ensures { TakenAt k writing c x insert.now ocf.now areas.old lists.old result areas.new lists.new }
-{
-    let from = 65536 * k;
-    let list_from = 256 * k;
-    take_turn(
-        system,
-        inputs,
-        writing,
-        c,
-        x,
-        &mut areas[from..from + 65536],
-        &mut lists[list_from..list_from + 256],
-        insert,
-        ocf,
-    )
+    // Writes the next frame of a batch, and hands it on.
+    fn send_next(&self, c: Course, l: usize, batch: &[u8]) -> Course
+        ensures { SentNext c l batch.now self.now.insert.now self.now.ocf.now result }
+    {
+        let w = c.state;
+        let mut area = [0u8; 4096];
+        let t = writer::write(w, l, batch, self.insert, self.ocf, &mut area);
+        let after = Course {
+            state: t.state,
+            ..c
+        };
+        match t.outcome {
+            Outcome::Done => {
+                let end = streams::within(w.setting.length, &area);
+                let fault = self.hand(w, l, batch, &area[..end]);
+                Course {
+                    frames: c.frames.saturating_add(1),
+                    fault,
+                    ..after
+                }
+            }
+            Outcome::Refused(n) => Course {
+                fault: Some(Fault::Refused(n)),
+                ..after
+            },
+        }
+    }
+
+    // How a batch goes on: a frame of it where frames are written, and passed over in the first pass.
+    #[tactic(auto, unfolding(crate::specs::Courses::CourseOn))]
+    fn course_on(&self, c: Course, l: usize, batch: &[u8]) -> Course
+        ensures { CourseOn self.now.writing c l batch.now self.now.insert.now self.now.ocf.now result }
+    {
+        if self.writing {
+            self.send_next(c, l, batch)
+        } else {
+            c
+        }
+    }
+
+    // Takes the next frame of the batch at the front of a file's window; after its last frame the window holds what is behind it.
+    fn work(&self, c: Course, s: Stream, area: &mut [u8]) -> Step
+        ensures { Worked self.now.writing c s self.now.insert.now self.now.ocf.now area.old result area.new }
+    {
+        let n = streams::within(s.batch, area);
+        let d = self.course_on(c, s.lane, &area[..n]);
+        if goes_on(d, s.lane) {
+            Step {
+                course: d,
+                stream: s,
+                more: true,
+            }
+        } else {
+            end_batch(d, s, area)
+        }
+    }
+
+    // A file's turn, with what its windows hold: where no batch is being worked off, its next one begins.
+    fn turn(&self, c: Course, s: Stream, area: &mut [u8], list: &mut [u8]) -> Step
+        ensures { Turned self.now.writing c s self.now.insert.now self.now.ocf.now area.old list.old result area.new list.new }
+    {
+        if s.batch != 0 {
+            return self.work(c, s, area);
+        }
+        let have = streams::within(s.window.have, area);
+        let begun = streams::begin(s, &area[..have], list);
+        let stream = begun.stream;
+        if stream.batch == 0 {
+            Step {
+                course: end_with(c, begun.fault),
+                stream,
+                more: false,
+            }
+        } else {
+            self.work(c, stream, area)
+        }
+    }
+
+    // A file's turn in its own windows: it reads on, and takes a frame with as many OCF octets as its channel has.
+    fn read_turn(
+        &self,
+        inputs: &Inputs,
+        c: Course,
+        x: Source,
+        area: &mut [u8],
+        list: &mut [u8],
+    ) -> Step
+        ensures { ReadTurn self.now.writing c x self.now.insert.now self.now.ocf.now area.old list.old result area.new list.new }
+    {
+        let s = read_on(self.system, inputs, x, area, list);
+        let n = streams::within(x.ocf, self.ocf);
+        let own = Frames {
+            ocf: &self.ocf[..n],
+            ..*self
+        };
+        own.turn(c, s, area, list)
+    }
+
+    // The same, unless the file is at its end: then it takes none.
+    fn take_turn(
+        &self,
+        inputs: &Inputs,
+        c: Course,
+        x: Source,
+        area: &mut [u8],
+        list: &mut [u8],
+    ) -> Move
+        ensures { Taken self.now.writing c x self.now.insert.now self.now.ocf.now area.old list.old result area.new list.new }
+    {
+        if x.more {
+            let step = self.read_turn(inputs, c, x, area, list);
+            after_turn(x, step)
+        } else {
+            Move {
+                course: c,
+                source: x,
+            }
+        }
+    }
+
+    // The turn of file k, whose windows are the k-th parts of these areas.
+    pub fn turn_at(
+        &self,
+        inputs: &Inputs,
+        k: usize,
+        c: Course,
+        x: Source,
+        areas: &mut [u8],
+        lists: &mut [u8],
+    ) -> Move
+        requires { (k < 8) × (length areas.old ≡ 524288) × (length lists.old ≡ 2048) }
+        ensures { TakenAt k self.now.writing c x self.now.insert.now self.now.ocf.now areas.old lists.old result areas.new lists.new }
+    {
+        let from = 65536 * k;
+        let list_from = 256 * k;
+        self.take_turn(
+            inputs,
+            c,
+            x,
+            &mut areas[from..from + 65536],
+            &mut lists[list_from..list_from + 256],
+        )
+    }
 }

@@ -1,8 +1,8 @@
--- `turns::send_next` meets its contract: a write that was done, and one that was refused.
+-- `turns::Frames::send_next` meets its contract: a write that was done, and one that was refused.
 use Rattle.rules.proofs.Promises.{write-is}
 use Rattle.turns.specs.Courses.{area_before, one_more}
 use Rattle.turns.proofs.Turns.{sent-done, sent-refused, frame-by}
-use Rattle.turns.proofs.send_next.Goals as goal
+use Rattle.turns.proofs.Frames.send_next.Goals as goal
 
 pub hand-fault-requires : goal.hand-fault-requires
 unfolding area_before

@@ -1,9 +1,9 @@
--- `turns::turn_at` meets its contract: the k-th parts are lent, and stand in their places again.
+-- `turns::Frames::turn_at` meets its contract: the k-th parts are lent, and stand in their places again.
 use Prim.Native.Nat.{◌+◌, ◌-◌, ◌*◌}
 use native.Mathlib.Omega.{arith}
 use Rattle.turns.proofs.Turns.{taken_at}
 use borrow.Author.Rules.{rules}
-use Rattle.turns.proofs.turn_at.Goals as goal
+use Rattle.turns.proofs.Frames.turn_at.Goals as goal
 
 pub returns : goal.returns
 returns c =

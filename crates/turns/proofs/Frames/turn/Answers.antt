@@ -1,8 +1,8 @@
--- `turns::turn` meets its contract: with the batch at hand, with the next one, or with none.
+-- `turns::Frames::turn` meets its contract: with the batch at hand, with the next one, or with none.
 use mathlib.Core.Path.{refl}
 use Rattle.turns.specs.Turns.{on}
 use Rattle.turns.proofs.Turns.{turned-begun, turned_none}
-use Rattle.turns.proofs.turn.Goals as goal
+use Rattle.turns.proofs.Frames.turn.Goals as goal
 
 pub returns-then-s-ne0 : goal.returns-then-s-ne0
 returns-then-s-ne0 c = on c.if-s-ne0.true refl c.work.ensures

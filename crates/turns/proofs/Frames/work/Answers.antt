@@ -1,6 +1,6 @@
--- `turns::work` meets its contract: the batch goes on, or is over.
+-- `turns::Frames::work` meets its contract: the batch goes on, or is over.
 use Rattle.turns.proofs.Turns.{worked-on, worked-over}
-use Rattle.turns.proofs.work.Goals as goal
+use Rattle.turns.proofs.Frames.work.Goals as goal
 
 pub returns-then-goes_on : goal.returns-then-goes_on
 returns-then-goes_on c = worked-on _ _ _ _ _ _ c.within-n.result c.course_on-d.result
