@@ -4,7 +4,7 @@
 
 pub mod progress;
 
-ghost use Rattle.std.specs.Prelude.{◌≡◌, ◌≤◌, length, take, cond};
+ghost use Rattle.std.specs.Prelude.{◌≡◌, ◌≤◌, length, take, cond, IfSome};
 ghost use Rattle.rules.specs.Tests.{◌<?◌};
 ghost use Rattle.io.specs.Counts.{IsPrefixLen};
 ghost use Rattle.console.specs.Shown.{plain_of, shown};
@@ -21,26 +21,18 @@ const MISSING: i32 = 22;
 const TOO_LONG: i32 = 36;
 
 // The octet that stands for one of a name: a question mark for those that would end the line or do something to a terminal.
+#[tactic(auto, unfolding(crate::specs::Shown::plain_of))]
 fn plain(x: u8) -> u8
     ensures { result ≡ plain_of x }
 {
-    if x < 32 {
-        return b'?';
-    }
-    if x == 127 {
-        return b'?';
-    }
-    x
+    if x < 32 || x == 127 { b'?' } else { x }
 }
 
 // How many of n octets a name's area of 4,096 takes.
 fn within(n: usize) -> usize
     ensures { (result ≤ n) × (result ≤ 4096) × (result ≡ cond (n <? 4096) n 4096) }
 {
-    if n < 4096 {
-        return n;
-    }
-    4096
+    n.min(4096)
 }
 
 // Puts a name to the front of an area so that it stays on one line; how many octets it has there.
@@ -49,10 +41,8 @@ fn put_name(area: &mut [u8], name: &[u8]) -> usize
     ensures { (result ≤ 4096) × (result ≡ cond (length name.now <? 4096) (length name.now) 4096) × (take result area.new ≡ shown (take result name.now)) }
 {
     let n = within(name.len());
-    let mut i: usize = 0;
-    while i < n {
+    for i in 0..n {
         area[i] = plain(name[i]);
-        i += 1;
     }
     n
 }
@@ -70,10 +60,7 @@ pub fn say_front(program: &[u8], about: &[u8]) {
 fn quote_size(n: usize) -> usize
     ensures { (result ≤ n) × (result ≡ cond (60 <? n) 60 n) }
 {
-    if 60 < n {
-        return 60;
-    }
-    n
+    n.min(60)
 }
 
 // Quotes a word that was found, its first 60 octets where it is longer.
@@ -113,14 +100,10 @@ pub fn say_at(program: &[u8], about: &[u8], place: &[u8], n: u64, what: &[u8]) {
 fn before_bracket(text: &[u8]) -> usize
     ensures { result ≤ length text.now }
 {
-    let n = text.len();
-    for k in 0..n {
-        let i = n - 1 - k;
-        if text[i] == b'(' {
-            return i.saturating_sub(1);
-        }
+    match text.iter().rposition(|x| *x == b'(') {
+        Some(i) => i.saturating_sub(1),
+        None => text.len(),
     }
-    n
 }
 
 // Says the system's word for this number.
@@ -136,11 +119,7 @@ fn say_number(number: i32) {
 
 // A line to standard error that ends in the system's word for the call that failed last.
 pub fn say_failed(system: &System, program: &[u8], about: &[u8]) {
-    let mut area = io::buffer();
-    let n = put_name(&mut area, about);
-    io::write_all(2, program);
-    io::write_all(2, b": ");
-    io::write_all(2, &area[..n]);
+    say_front(program, about);
     io::write_all(2, b": ");
     say_number(intake::last_failure(system));
     io::write_all(2, b"\n");
@@ -175,23 +154,20 @@ pub fn say_count(program: &[u8], word: &[u8], n: u64, what: &[u8]) {
 
 // ---- the command line
 
-// Puts word i of the command line at the front of an area: how many octets it has there, 0 where it is missing or longer. What the system has
-// against it is kept: nothing, where the word is whole.
-pub fn arg(system: &System, i: usize, area: &mut [u8]) -> usize
-    ensures { IsPrefixLen result area.new }
+// Puts word i of the command line at the front of an area: how many octets it has there; nothing where it is missing or longer, and what the
+// system has against it is kept.
+pub fn arg(system: &System, i: usize, area: &mut [u8]) -> Option<usize>
+    ensures { IfSome result (λ n. IsPrefixLen n area.new) }
 {
     match system.rt.arg(i, area) {
-        Ok(n) => {
-            intake::keep_number(system, 0);
-            n
-        }
+        Ok(n) => Some(n),
         Err(FillError::NotPresent) => {
             intake::keep_number(system, MISSING);
-            0
+            None
         }
         Err(FillError::TooLong) => {
             intake::keep_number(system, TOO_LONG);
-            0
+            None
         }
     }
 }
@@ -207,21 +183,18 @@ pub fn arg_count(system: &System) -> usize {
     usize::MAX
 }
 
-// With word i more.
+// With word i more. One that the system does not hand out counts as a word of no octet.
 fn add_word(system: &System, program: Program, q: Asked, i: usize) -> Asked {
     let mut word = io::buffer();
-    let n = arg(system, i, &mut word);
-    let w = words::word_to(program, &word[..n]);
-    words::next_word(q, i, w)
+    let n = arg(system, i, &mut word).unwrap_or(0);
+    words::next_word(q, i, words::word_to(program, &word[..n]))
 }
 
 // What n words of a program's command line ask for.
 pub fn read_words(system: &System, program: Program, n: usize) -> Asked {
     let mut q = words::no_asked();
-    let mut i: usize = 1;
-    while i < n {
+    for i in 1..n {
         q = add_word(system, program, q, i);
-        i += 1;
     }
     q
 }
@@ -230,11 +203,11 @@ pub fn read_words(system: &System, program: Program, n: usize) -> Asked {
 
 // Whether what is said would go into the file of word i, or into that of what stands behind its `=`. Of a word that is no text the library cannot
 // say which file it is: it counts as this one, where what is said goes into a regular file.
-fn is_word_spoiled(system: &System, e: Known, i: usize) -> bool {
+fn is_word_spoiled(system: &System, e: Option<Known>, i: usize) -> bool {
     let mut word = io::buffer();
-    let n = arg(system, i, &mut word);
+    let n = arg(system, i, &mut word).unwrap_or(0);
     if intake::path_of(system, &word[..n]).is_none() {
-        return files::regular(e);
+        return e.is_some_and(files::regular);
     }
     let at = words::behind(&word[..n]);
     let a = files::of_name(system, &word[..n]);
@@ -242,53 +215,34 @@ fn is_word_spoiled(system: &System, e: Known, i: usize) -> bool {
     files::is_spoiled(e, a, b)
 }
 
-// Whether what is said would go into the file of one of n words, but for word `but`, which names no input.
-fn is_any_spoiled(system: &System, e: Known, n: usize, but: usize) -> bool {
-    let mut i: usize = 1;
-    while i < n {
-        if i != but {
-            let spoiled = is_word_spoiled(system, e, i);
-            if spoiled {
-                return true;
-            }
-        }
-        i += 1;
-    }
-    false
-}
-
 // The file, beside standard input, into which nothing may be said: standard output where octets go there that nothing else may stand between.
-fn guarded(system: &System, i: Known, apart: bool) -> Known {
+fn guarded(system: &System, i: Option<Known>, apart: bool) -> Option<Known> {
     if apart {
-        return files::of_descriptor(system, 1);
+        files::of_descriptor(system, 1)
+    } else {
+        i
     }
-    i
 }
 
 // Whether what is said would go into standard input or, with `apart`, into standard output: a regular file.
-fn is_own_spoiled(system: &System, e: Known, apart: bool) -> bool {
+fn is_own_spoiled(system: &System, e: Option<Known>, apart: bool) -> bool {
     let i = files::of_descriptor(system, 0);
     let o = guarded(system, i, apart);
     files::is_spoiled(e, i, o)
 }
 
 // Whether a program may say something: what is said goes neither into standard input nor, with `apart`, into standard output, nor into the file of one
-// of its n words, but for word `but`. Where it may not, there is no place to say so.
-pub fn may_say(system: &System, apart: bool, n: usize, but: usize) -> bool {
+// of its n words, but for word `but`, which names no input. Where it may not, there is no place to say so.
+pub fn may_say(system: &System, apart: bool, n: usize, but: Option<usize>) -> bool {
     let e = files::of_descriptor(system, 2);
-    let own = is_own_spoiled(system, e, apart);
-    if own {
-        return false;
-    }
-    let any = is_any_spoiled(system, e, n, but);
-    !any
+    !is_own_spoiled(system, e, apart)
+        && !(1..n).any(|i| Some(i) != but && is_word_spoiled(system, e, i))
 }
 
 // The same of a program that reads standard input alone, and whether it may print: standard output is not that file either, which is said.
 pub fn may_print(system: &System, program: &[u8], apart: bool) -> bool {
     let e = files::of_descriptor(system, 2);
-    let own = is_own_spoiled(system, e, apart);
-    if own {
+    if is_own_spoiled(system, e, apart) {
         return false;
     }
     let o = files::of_descriptor(system, 1);

@@ -14,17 +14,15 @@ pub fn is_due(count: u64) -> bool
 }
 
 // How far a run is in percent, where so much of its input is a hundredth; 0 where that is not known.
+#[tactic(auto, unfolding(crate::specs::Progress::percent_of))]
 fn percent(hundredth: u64, done: u64) -> u64
     ensures { result ≡ percent_of hundredth done }
 {
     if hundredth == 0 {
-        return 0;
+        0
+    } else {
+        (done / hundredth).min(100)
     }
-    let p = done / hundredth;
-    if 100 < p {
-        return 100;
-    }
-    p
 }
 
 // Says how far that is, unless it is not known.
@@ -40,11 +38,7 @@ fn say_percent(hundredth: u64, done: u64) {
 
 // Ends the line; on a terminal the next one is written over it.
 fn end_far(live: bool) {
-    if live {
-        io::write_all(2, b"\r");
-        return;
-    }
-    io::write_all(2, b"\n");
+    io::write_all(2, if live { b"\r" } else { b"\n" });
 }
 
 // Says how many frames are done, and how far that is, where so much of the input is done and so much is a hundredth of it, 0 where that is

@@ -224,7 +224,7 @@ fn main(rt: HostRuntime) {
     let mut word = [0u8; 8];
     console::arg(&system, 1, &mut word);
     let mut path = io::buffer();
-    let k = console::arg(&system, 2, &mut path);
+    let k = console::arg(&system, 2, &mut path).unwrap_or(0);
     let mut text = [0u8; 65537];
     let j = setting_file::load(&system, b"measure", &path[..k], &mut text).judged;
     if j.good {

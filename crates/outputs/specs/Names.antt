@@ -1,17 +1,16 @@
 -- The files that unpack writes: which, and what they are called.
-use Rattle.std.specs.Prelude.{ℕ, suc, ◌-◌, ◌≤◌, ◌≡◌, Bool, true, false, cond, List, [], ◌∷◌, ◌++◌, length, take, set, replicate}
+use Rattle.std.specs.Prelude.{ℕ, suc, ◌-◌, ◌≤◌, ◌≡◌, Bool, true, false, cond, List, [], ◌∷◌, ◌++◌, length, take, set, replicate, Option, Some, None, Result, Ok, Err, ⊤}
 use Rattle.rules.specs.Tests.{◌<?◌, ◌=?◌}
 use Rattle.rules.specs.Listing.{text, decimal}
 use Rattle.files.specs.declared.Known.{Known}
 use Rattle.files.specs.Known.{same_file, is_regular}
 use Rattle.outputs.specs.declared.Plan.{Plan}
 use Rattle.outputs.specs.declared.Name.{Name}
-use Rattle.outputs.specs.declared.Moved.{Moved}
-use Rattle.outputs.specs.declared.Moved.TheVariants.{Done, Nothing, Failed}
+use Rattle.outputs.specs.declared.Failed.{Failed}
 use Rattle.outputs.specs.declared.Stage.{Stage}
 use Rattle.outputs.specs.declared.Kept.{Kept}
-use Rattle.outputs.specs.declared.Fit.{Fit}
-use Rattle.outputs.specs.declared.Fit.TheVariants.{Free, Setting, Recording, Printed, Said, Strange}
+use Rattle.outputs.specs.declared.Obstacle.{Obstacle}
+use Rattle.outputs.specs.declared.Obstacle.TheVariants.{Setting, Recording, Printed, Said, Strange}
 
 -- A file for each lane that there is, the table where it is asked for, and the records.
 unfoldable pub has_output : Plan → ℕ → Bool
@@ -37,15 +36,17 @@ pub record Named (prefix : List ℕ) (i : ℕ) (m : List ℕ) (w : Name) : Type 
   pub room : w.end ≤ length w.octets
 
 -- Of a regular file: what is printed or said may stand in it.
-unfoldable pub plain_fit : Known → Known → Known → Fit
-plain_fit k printed said = cond (same_file k printed) Printed (cond (same_file k said) Said Free)
+unfoldable pub plain_fit : Option Known → Option Known → Option Known → Option Obstacle
+plain_fit k printed said = cond (same_file k printed) (Some Printed) (cond (same_file k said) (Some Said) None)
+
+-- Of what is there and no input.
+abbrev pub other_fit : Option Known → Kept → Option Obstacle
+other_fit None f = None
+other_fit (Some k) f = cond (is_regular k) (plain_fit (Some k) f.printed f.said) (Some Strange)
 
 -- "No output may be one of the inputs", and what an output replaces is a regular file, into which nothing is printed or said.
-unfoldable pub fit_of : Known → Kept → Fit
-fit_of k f =
-    cond (same_file k f.setting) Setting
-    (cond (same_file k f.recording) Recording
-    (cond k.there (cond (is_regular k) (plain_fit k f.printed f.said) Strange) Free))
+unfoldable pub fit_of : Option Known → Kept → Option Obstacle
+fit_of k f = cond (same_file k f.setting) (Some Setting) (cond (same_file k f.recording) (Some Recording) (other_fit k f))
 
 -- ---- giving the names
 
@@ -55,19 +56,23 @@ aside_turn k = cond (k =? 0) 9 (k - 1)
 
 -- Nothing is put aside, and no name is given.
 unfoldable pub no_stage : Stage
-no_stage = record { aside = replicate 10 false; given = replicate 10 false; well = true }
+no_stage = record { aside = replicate 10 false; given = replicate 10 false }
 
 -- What had the name of output i is put aside, or there was none, or it could not be done.
-unfoldable pub put_aside : Stage → ℕ → Moved → Stage
-put_aside s i Done = record { aside = set s.aside i true; given = s.given; well = s.well }
-put_aside s i Nothing = s
-put_aside s i Failed = record { aside = s.aside; given = s.given; well = false }
+unfoldable pub put_aside : Stage → ℕ → Result Bool Failed → Stage
+put_aside s i (Ok true) = record { aside = set s.aside i true; given = s.given }
+put_aside s i (Ok false) = s
+put_aside s i (Err e) = s
+
+-- Whether that could be done.
+abbrev pub went : Result Bool Failed → Result ⊤ Failed
+went (Ok there) = Ok tt
+went (Err e) = Err e
 
 -- Output i has its name, or it could not be given.
-unfoldable pub gave : Stage → ℕ → Bool → Stage
-gave s i good =
-    cond good (record { aside = s.aside; given = set s.given i true; well = s.well })
-    (record { aside = s.aside; given = s.given; well = false })
+unfoldable pub gave : Stage → ℕ → Result ⊤ Failed → Stage
+gave s i (Ok done) = record { aside = s.aside; given = set s.given i true }
+gave s i (Err e) = s
 
 -- How many octets a prefix has up to its last `/`, after n octets of which e are up to it.
 unfoldable pub last_slash : ℕ → ℕ → List ℕ → ℕ

@@ -6,13 +6,12 @@
 
 ghost use Rattle.std.specs.Prelude.{◌≡◌, ◌+◌, ◌≤◌, ◌<◌, length, take, drop, IfSome};
 ghost use Rattle.unpack_text.specs.Lines.{Wrote};
-ghost use Rattle.outputs.specs.Names.{has_output, ending, mark, Named, plain_fit, fit_of, aside_turn, no_stage, put_aside, gave, last_slash};
+ghost use Rattle.outputs.specs.Names.{has_output, ending, mark, Named, plain_fit, fit_of, aside_turn, no_stage, put_aside, gave, went, last_slash};
 
 use files::Known;
 use intake::{Source, System};
 use std::fs::{File, OpenOptions};
 use std::io::Write;
-use std::os::fd::AsRawFd;
 use std::{fs, io};
 
 // The number that the system has for a descriptor that is not open.
@@ -32,16 +31,15 @@ pub struct Plan {
 // The files of a run that no output may replace: its inputs, and where it prints and says something.
 #[derive(Clone, Copy)]
 pub struct Kept {
-    pub setting: Known,
-    pub recording: Known,
-    pub printed: Known,
-    pub said: Known,
+    pub setting: Option<Known>,
+    pub recording: Option<Known>,
+    pub printed: Option<Known>,
+    pub said: Option<Known>,
 }
 
-// What stands at the name of an output: nothing that is in the way, an input, what is printed or said, or something that is no regular file.
-#[derive(Clone, Copy)]
-pub enum Fit {
-    Free,
+// What is in the way of an output at its name: an input, what is printed or said, or something that is no regular file.
+#[derive(Clone, Copy, PartialEq, Eq)]
+pub enum Obstacle {
     Setting,
     Recording,
     Printed,
@@ -49,19 +47,22 @@ pub enum Fit {
     Strange,
 }
 
+// That the system had something against a call; what it had is kept.
+#[derive(Clone, Copy)]
+struct Failed;
+
 // ---- names
 
 // Whether a run of this plan writes output i.
+#[tactic(auto, unfolding(crate::specs::Names::has_output))]
 pub fn has(p: Plan, i: usize) -> bool
     ensures { result ≡ has_output p i }
 {
-    if i < 8 {
-        return i < p.lanes;
+    match i {
+        0..8 => i < p.lanes,
+        8 => p.table,
+        _ => i == 9,
     }
-    if i == 8 {
-        return p.table;
-    }
-    i == 9
 }
 
 // Puts what follows the prefix in the name of output i.
@@ -70,12 +71,12 @@ fn put_ending(name: &mut [u8], n: usize, i: usize) -> usize
     ensures { Wrote 25 (ending i) name.old n name.new result }
 {
     if i < 8 {
-        return unpack_text::put_named(name, n, b".lane", i as u64);
+        unpack_text::put_named(name, n, b".lane", i as u64)
+    } else if i == 8 {
+        listing_text::put_text(name, n, b".units.csv")
+    } else {
+        listing_text::put_text(name, n, b".records")
     }
-    if i == 8 {
-        return listing_text::put_text(name, n, b".units.csv");
-    }
-    listing_text::put_text(name, n, b".records")
 }
 
 // Puts what the name of an unfinished file, or of an earlier one that is put aside, has after that.
@@ -85,9 +86,10 @@ fn put_mark(name: &mut [u8], n: usize, number: u64, old: bool) -> usize
 {
     let at = unpack_text::put_named(name, n, b".", number);
     if old {
-        return listing_text::put_text(name, at, b".old");
+        listing_text::put_text(name, at, b".old")
+    } else {
+        listing_text::put_text(name, at, b".part")
     }
-    listing_text::put_text(name, at, b".part")
 }
 
 // Puts a prefix to the front of an area, 4,096 octets at most: no word of a command line has more, and the system takes no name that has so many.
@@ -96,9 +98,10 @@ fn put_prefix(name: &mut [u8], prefix: &[u8]) -> usize
     ensures { Wrote 4096 (take 4096 prefix.now) name.old 0 name.new result }
 {
     if 4096 < prefix.len() {
-        return listing_text::put_text(name, 0, &prefix[..4096]);
+        listing_text::put_text(name, 0, &prefix[..4096])
+    } else {
+        listing_text::put_text(name, 0, prefix)
     }
-    listing_text::put_text(name, 0, prefix)
 }
 
 // A name: its octets, how many of them are the finished name, and how many are that with the mark behind it.
@@ -117,11 +120,7 @@ fn name_of(prefix: &[u8], number: u64, i: usize, old: bool) -> Name
     let n = put_prefix(&mut octets, prefix);
     let at = put_ending(&mut octets, n, i);
     let end = put_mark(&mut octets, at, number, old);
-    Name {
-        octets: octets,
-        at: at,
-        end: end,
-    }
+    Name { octets, at, end }
 }
 
 // Says that the last call of the system failed on this name.
@@ -132,127 +131,90 @@ fn say_failed(system: &System, name: &[u8]) {
 // Says that it failed on output i's unfinished file.
 pub fn say_part(system: &System, p: Plan, prefix: &[u8], i: usize) {
     let w = name_of(prefix, p.number, i, false);
-    let name = w.octets;
-    let end = w.end;
-    say_failed(system, &name[..end]);
+    say_failed(system, &w.octets[..w.end]);
 }
 
 // ---- what is there already
 
-// What a regular file that is no input is to an output that would take its name.
-fn plain_fit(k: Known, printed: Known, said: Known) -> Fit
+// What of a regular file that is no input is in the way of an output that would take its name.
+#[tactic(auto, unfolding(crate::specs::Names::plain_fit))]
+fn plain_fit(k: Option<Known>, printed: Option<Known>, said: Option<Known>) -> Option<Obstacle>
     ensures { result ≡ plain_fit k printed said }
 {
-    let a = files::same(k, printed);
-    if a {
-        return Fit::Printed;
+    if files::same(k, printed) {
+        Some(Obstacle::Printed)
+    } else if files::same(k, said) {
+        Some(Obstacle::Said)
+    } else {
+        None
     }
-    let b = files::same(k, said);
-    if b {
-        return Fit::Said;
-    }
-    Fit::Free
 }
 
-// What a file is to an output that would take its name.
-fn fit_of(k: Known, f: Kept) -> Fit
+// What of a file is in the way of an output that would take its name.
+#[tactic(auto, unfolding(crate::specs::Names::fit_of))]
+fn fit_of(k: Option<Known>, f: Kept) -> Option<Obstacle>
     ensures { result ≡ fit_of k f }
 {
-    let setting = f.setting;
-    let a = files::same(k, setting);
-    if a {
-        return Fit::Setting;
+    if files::same(k, f.setting) {
+        return Some(Obstacle::Setting);
     }
-    let recording = f.recording;
-    let b = files::same(k, recording);
-    if b {
-        return Fit::Recording;
+    if files::same(k, f.recording) {
+        return Some(Obstacle::Recording);
     }
-    if k.there {
-        let plain = files::regular(k);
-        if plain {
-            let printed = f.printed;
-            let said = f.said;
-            return plain_fit(k, printed, said);
-        }
-        return Fit::Strange;
+    if files::regular(k?) {
+        plain_fit(k, f.printed, f.said)
+    } else {
+        Some(Obstacle::Strange)
     }
-    Fit::Free
 }
 
-// Says what is in the way of a name, which then may not be taken.
-fn refuse(name: &[u8], what: &[u8]) -> bool {
-    console::say(b"unpack", name, what);
-    false
-}
-
-// Says what is in the way of a name, if anything is; whether nothing is.
-fn say_fit(f: Fit, name: &[u8]) -> bool {
-    match f {
-        Fit::Free => true,
-        Fit::Setting => refuse(name, b"is the setting, which nothing may replace"),
-        Fit::Recording => refuse(name, b"is the recording, which nothing may replace"),
-        Fit::Printed => refuse(name, b"is standard output, which nothing may replace"),
-        Fit::Said => refuse(name, b"is standard error, which nothing may replace"),
-        Fit::Strange => refuse(name, b"is there and is no regular file"),
+// What is said of it.
+fn words_on(o: Obstacle) -> &'static [u8] {
+    match o {
+        Obstacle::Setting => b"is the setting, which nothing may replace",
+        Obstacle::Recording => b"is the recording, which nothing may replace",
+        Obstacle::Printed => b"is standard output, which nothing may replace",
+        Obstacle::Said => b"is standard error, which nothing may replace",
+        Obstacle::Strange => b"is there and is no regular file",
     }
 }
 
 // Whether an output may take this name; says why where it may not.
 fn is_free(system: &System, name: &[u8], f: Kept) -> bool {
-    let k = files::of_name(system, name);
-    let fit = fit_of(k, f);
-    say_fit(fit, name)
-}
-
-// Whether output i, if there is one, may take its name.
-fn may_take(system: &System, p: Plan, prefix: &[u8], i: usize, f: Kept) -> bool {
-    let wanted = has(p, i);
-    if !wanted {
-        return true;
-    }
-    let w = name_of(prefix, p.number, i, false);
-    let name = w.octets;
-    let at = w.at;
-    is_free(system, &name[..at], f)
-}
-
-// Whether each output may take its name: none leads to a file that nothing may replace, by link or by name, and what is there is a regular file.
-pub fn may_take_all(system: &System, p: Plan, prefix: &[u8], f: Kept) -> bool {
-    let mut i: usize = 0;
-    while i < 10 {
-        let good = may_take(system, p, prefix, i, f);
-        if !good {
-            return false;
-        }
-        i += 1;
-    }
-    true
-}
-
-// ---- making and keeping
-
-// Keeps what the system had against a call; whether it had nothing.
-fn went(system: &System, done: io::Result<()>) -> bool {
-    match done {
-        Ok(()) => true,
-        Err(e) => {
-            intake::keep_failure(system, e);
+    match fit_of(files::of_name(system, name), f) {
+        None => true,
+        Some(o) => {
+            console::say(b"unpack", name, words_on(o));
             false
         }
     }
 }
 
-// Makes a file of this name. A name that is taken is refused: nothing is opened over.
-fn make_new(system: &System, name: &[u8]) -> Option<File> {
-    let file = create(system, name);
-    if file.is_none() {
-        say_failed(system, name);
-    }
-    file
+// Whether output i may take its name.
+fn may_take(system: &System, p: Plan, prefix: &[u8], i: usize, f: Kept) -> bool {
+    let w = name_of(prefix, p.number, i, false);
+    is_free(system, &w.octets[..w.at], f)
 }
 
-// Creates a file of this name, if there is none.
+// Whether each output may take its name: none leads to a file that nothing may replace, by link or by name, and what is there is a regular file.
+pub fn may_take_all(system: &System, p: Plan, prefix: &[u8], f: Kept) -> bool {
+    (0..10).all(|i| !has(p, i) || may_take(system, p, prefix, i, f))
+}
+
+// ---- making and keeping
+
+// Keeps what the system had against a call.
+fn went(system: &System, done: io::Result<()>) -> Result<(), Failed> {
+    match done {
+        Ok(()) => Ok(()),
+        Err(e) => {
+            intake::keep_failure(system, e);
+            Err(Failed)
+        }
+    }
+}
+
+// Creates a file of this name, if there is none: nothing is opened over.
 fn create(system: &System, name: &[u8]) -> Option<File> {
     let path = intake::path_of(system, name)?;
     match OpenOptions::new()
@@ -268,57 +230,31 @@ fn create(system: &System, name: &[u8]) -> Option<File> {
     }
 }
 
-// Makes the unfinished file of output i.
+// Makes the unfinished file of output i. Says why where that fails.
 fn make(system: &System, p: Plan, prefix: &[u8], i: usize) -> Option<File> {
     let w = name_of(prefix, p.number, i, false);
-    let name = w.octets;
-    let end = w.end;
-    make_new(system, &name[..end])
-}
-
-// The number of an unfinished file's descriptor, -1 where none was made.
-fn number_of(file: &Option<File>) -> i32 {
-    match file {
-        Some(file) => file.as_raw_fd(),
-        None => -1,
+    let name = &w.octets[..w.end];
+    let file = create(system, name);
+    if file.is_none() {
+        say_failed(system, name);
     }
+    file
 }
 
-// The unfinished files and the numbers of their descriptors, -1 where none was made, and whether all that are wanted were.
-#[derive(Drop)]
-pub struct Made {
-    pub files: [Option<File>; 10],
-    pub fds: [i32; 10],
-    pub good: bool,
-}
-
-// Makes each unfinished file, up to the first failure.
-pub fn make_all(system: &System, p: Plan, prefix: &[u8]) -> Made {
+// Makes each unfinished file. Where one fails, those that were made before it are removed, and there is none.
+pub fn make_all(system: &System, p: Plan, prefix: &[u8]) -> Option<[Option<File>; 10]> {
     let mut files = [None, None, None, None, None, None, None, None, None, None];
-    let mut fds = [-1i32; 10];
-    let mut i: usize = 0;
-    while i < 10 {
-        let wanted = has(p, i);
-        if wanted {
+    for i in 0..10 {
+        if has(p, i) {
             let file = make(system, p, prefix, i);
-            let fd = number_of(&file);
-            files[i] = file;
-            fds[i] = fd;
-            if fd < 0 {
-                return Made {
-                    files: files,
-                    fds: fds,
-                    good: false,
-                };
+            if file.is_none() {
+                remove_first(system, p, prefix, i);
+                return None;
             }
+            files[i] = file;
         }
-        i += 1;
     }
-    Made {
-        files: files,
-        fds: fds,
-        good: true,
-    }
+    Some(files)
 }
 
 // One write to an output that was made: how many octets it took; none where it failed.
@@ -344,229 +280,171 @@ pub fn write_all(system: &System, file: &Option<File>, octets: &[u8]) -> bool {
     let mut done: usize = 0;
     while done < octets.len() {
         match write_some(system, file, &octets[done..]) {
-            None => return false,
-            Some(n) => {
-                if n == 0 {
-                    return false;
-                }
-                done += n;
-            }
+            None | Some(0) => return false,
+            Some(n) => done += n,
         }
     }
     true
 }
 
 // Puts an output on its device and closes it.
-fn keep(system: &System, file: Option<File>) -> bool {
+fn keep(system: &System, file: Option<File>) -> Result<(), Failed> {
     match file {
         Some(file) => went(system, file.sync_all()),
         None => {
             intake::keep_number(system, NOT_OPEN);
-            false
+            Err(Failed)
         }
     }
 }
 
 // Puts each output on its device and closes it.
 pub fn keep_all(system: &System, p: Plan, files: &mut [Option<File>; 10], prefix: &[u8]) -> bool {
-    let mut i: usize = 0;
-    while i < 10 {
-        let wanted = has(p, i);
-        if wanted {
+    for i in 0..10 {
+        if has(p, i) {
             let file = files[i].take();
-            let kept = keep(system, file);
-            if !kept {
+            if keep(system, file).is_err() {
                 say_part(system, p, prefix, i);
                 return false;
             }
         }
-        i += 1;
     }
     true
 }
 
 // ---- finished names
 
-// How a file went from one name to another: well; there was none; or the system failed.
-#[derive(Clone, Copy)]
-enum Moved {
-    Done,
-    Nothing,
-    Failed,
-}
-
-// How far the names are: which earlier files are put aside, which outputs have their names, and whether nothing failed.
+// How far the names are: which earlier files are put aside, and which outputs have their names.
 #[derive(Clone, Copy)]
 struct Stage {
     aside: [bool; 10],
     given: [bool; 10],
-    well: bool,
 }
 
-// A file gets another name; whether it did.
-fn rename(system: &System, from: &[u8], to: &[u8]) -> bool {
-    let Some(old) = intake::path_of(system, from) else {
-        return false;
-    };
-    let Some(new) = intake::path_of(system, to) else {
-        return false;
-    };
+// A file gets another name.
+fn rename(system: &System, from: &[u8], to: &[u8]) -> Result<(), Failed> {
+    let old = intake::path_of(system, from).ok_or(Failed)?;
+    let new = intake::path_of(system, to).ok_or(Failed)?;
     went(system, fs::rename(&system.rt, old, new))
 }
 
-// A file leaves its finished name, the front of the other up to the mark, for that other.
-fn move_off(system: &System, number: u64, old: bool, long: &[u8], at: usize) -> Moved
+// A file leaves its finished name, the front of the other up to the mark, for that other; whether there was one.
+fn move_off(system: &System, number: u64, old: bool, long: &[u8], at: usize) -> Result<bool, Failed>
     requires { (at ≤ length long.now) × (drop at long.now ≡ mark old number) }
 {
-    let gone = rename(system, &long[..at], long);
-    if !gone {
-        if intake::last_failure(system) == NOT_THERE {
-            return Moved::Nothing;
+    match rename(system, &long[..at], long) {
+        Ok(()) => Ok(true),
+        Err(_) if intake::last_failure(system) == NOT_THERE => Ok(false),
+        Err(failed) => {
+            say_failed(system, &long[..at]);
+            Err(failed)
         }
-        say_failed(system, &long[..at]);
-        return Moved::Failed;
     }
-    Moved::Done
 }
 
 // A file takes its finished name, the front of the one that it has, up to the mark.
-fn move_on(system: &System, number: u64, old: bool, long: &[u8], at: usize) -> bool
+fn move_on(system: &System, number: u64, old: bool, long: &[u8], at: usize) -> Result<(), Failed>
     requires { (at ≤ length long.now) × (drop at long.now ≡ mark old number) }
 {
     let given = rename(system, long, &long[..at]);
-    if !given {
+    if given.is_err() {
         say_failed(system, long);
-        return false;
     }
-    true
+    given
 }
 
-// What has the name of output i leaves it: for the name of one put aside, or of an unfinished one.
-fn leave_name(system: &System, p: Plan, prefix: &[u8], i: usize, old: bool) -> Moved {
+// What has the name of output i leaves it: for the name of one put aside, or of an unfinished one. Whether there was something.
+fn leave_name(
+    system: &System,
+    p: Plan,
+    prefix: &[u8],
+    i: usize,
+    old: bool,
+) -> Result<bool, Failed> {
     let w = name_of(prefix, p.number, i, old);
-    let name = w.octets;
-    let at = w.at;
-    let end = w.end;
-    move_off(system, p.number, old, &name[..end], at)
+    move_off(system, p.number, old, &w.octets[..w.end], w.at)
 }
 
 // The unfinished file of output i, or the one that was put aside, takes its name.
-fn take_name(system: &System, p: Plan, prefix: &[u8], i: usize, old: bool) -> bool {
+fn take_name(system: &System, p: Plan, prefix: &[u8], i: usize, old: bool) -> Result<(), Failed> {
     let w = name_of(prefix, p.number, i, old);
-    let name = w.octets;
-    let at = w.at;
-    let end = w.end;
-    move_on(system, p.number, old, &name[..end], at)
+    move_on(system, p.number, old, &w.octets[..w.end], w.at)
 }
 
 // The output that is put aside in turn k: the records first, so that none stand beside lanes of another run.
+#[tactic(auto, unfolding(crate::specs::Names::aside_turn))]
 fn aside_turn(k: usize) -> usize
     requires { k < 10 }
     ensures { (result ≡ aside_turn k) × (result < 10) }
 {
-    if k == 0 {
-        return 9;
-    }
-    k - 1
+    if k == 0 { 9 } else { k - 1 }
 }
 
 // Before the first name.
+#[tactic(auto, unfolding(crate::specs::Names::no_stage))]
 fn no_stage() -> Stage
     ensures { result ≡ no_stage }
 {
     Stage {
         aside: [false; 10],
         given: [false; 10],
-        well: true,
     }
 }
 
 // How far the names are after output i was to be put aside.
-fn after_aside(s: Stage, i: usize, m: Moved) -> Stage
+#[tactic(auto, unfolding(crate::specs::Names::put_aside))]
+fn after_aside(s: &mut Stage, i: usize, gone: Result<bool, Failed>) -> Result<(), Failed>
     requires { i < 10 }
-    ensures { result ≡ put_aside s i m }
+    ensures stage { s.new ≡ put_aside s.old i gone }
+    ensures well { result ≡ went gone }
 {
-    let mut t = s;
-    match m {
-        Moved::Done => {
-            t.aside[i] = true;
-            return t;
-        }
-        Moved::Nothing => {
-            return t;
-        }
-        Moved::Failed => {
-            t.well = false;
-            return t;
-        }
+    if gone? {
+        s.aside[i] = true;
     }
+    Ok(())
 }
 
 // How far the names are after output i was to get its own.
-fn after_given(s: Stage, i: usize, good: bool) -> Stage
+#[tactic(auto, unfolding(crate::specs::Names::gave))]
+fn after_given(s: &mut Stage, i: usize, given: Result<(), Failed>) -> Result<(), Failed>
     requires { i < 10 }
-    ensures { result ≡ gave s i good }
+    ensures stage { s.new ≡ gave s.old i given }
+    ensures well { result ≡ given }
 {
-    let mut t = s;
-    if good {
-        t.given[i] = true;
-        return t;
-    }
-    t.well = false;
-    t
+    given?;
+    s.given[i] = true;
+    Ok(())
 }
 
 // Puts what has the name of output i aside, if there is such an output.
-fn put_aside(system: &System, p: Plan, prefix: &[u8], i: usize, s: Stage) -> Stage
+fn put_aside(system: &System, p: Plan, prefix: &[u8], i: usize, s: &mut Stage) -> Result<(), Failed>
     requires { i < 10 }
 {
-    let wanted = has(p, i);
-    if !wanted {
-        return s;
+    if !has(p, i) {
+        return Ok(());
     }
-    let m = leave_name(system, p, prefix, i, true);
-    after_aside(s, i, m)
-}
-
-// Puts what has the names of outputs aside, the records first, up to the first failure.
-fn put_all_aside(system: &System, p: Plan, prefix: &[u8]) -> Stage {
-    let mut s = no_stage();
-    let mut k: usize = 0;
-    while k < 10 {
-        let i = aside_turn(k);
-        s = put_aside(system, p, prefix, i, s);
-        if s.well {} else {
-            return s;
-        }
-        k += 1;
-    }
-    s
+    after_aside(s, i, leave_name(system, p, prefix, i, true))
 }
 
 // Gives output i its name, if there is such an output.
-fn give_name(system: &System, p: Plan, prefix: &[u8], i: usize, s: Stage) -> Stage
+fn give_name(system: &System, p: Plan, prefix: &[u8], i: usize, s: &mut Stage) -> Result<(), Failed>
     requires { i < 10 }
 {
-    let wanted = has(p, i);
-    if !wanted {
-        return s;
+    if !has(p, i) {
+        return Ok(());
     }
-    let good = take_name(system, p, prefix, i, false);
-    after_given(s, i, good)
+    after_given(s, i, take_name(system, p, prefix, i, false))
 }
 
-// Puts what has the names aside, and then gives each output its name, the records last, up to the first failure.
-fn give_each(system: &System, p: Plan, prefix: &[u8]) -> Stage {
-    let mut s = put_all_aside(system, p, prefix);
-    let mut i: usize = 0;
-    while i < 10 {
-        if s.well {} else {
-            return s;
-        }
-        s = give_name(system, p, prefix, i, s);
-        i += 1;
+// Puts what has the names of outputs aside, the records first, and then gives each output its name, the records last, up to the first failure.
+fn give_each(system: &System, p: Plan, prefix: &[u8], s: &mut Stage) -> Result<(), Failed> {
+    for k in 0..10 {
+        put_aside(system, p, prefix, aside_turn(k), s)?;
     }
-    s
+    for i in 0..10 {
+        give_name(system, p, prefix, i, s)?;
+    }
+    Ok(())
 }
 
 // How many octets of a prefix name its folder: those up to its last `/`.
@@ -574,12 +452,9 @@ fn folder_size(prefix: &[u8]) -> usize
     ensures { (result ≡ last_slash 0 0 prefix.now) × (result ≤ length prefix.now) }
 {
     let mut end: usize = 0;
-    let mut i: usize = 0;
-    while i < prefix.len() {
-        let x = prefix[i];
-        i += 1;
-        if x == 47 {
-            end = i;
+    for i in 0..prefix.len() {
+        if prefix[i] == b'/' {
+            end = i + 1;
         }
     }
     end
@@ -587,12 +462,10 @@ fn folder_size(prefix: &[u8]) -> usize
 
 // Puts the names of a folder on its device.
 fn keep_folder(system: &System, folder: &[u8]) -> bool {
-    let from = intake::open_read(system, folder);
-    if let Source::Of(file) = from {
-        let kept = keep(system, Some(file));
-        if kept {
-            return true;
-        }
+    if let Source::Of(file) = intake::open_read(system, folder)
+        && keep(system, Some(file)).is_ok()
+    {
+        return true;
     }
     say_failed(system, folder);
     false
@@ -600,98 +473,66 @@ fn keep_folder(system: &System, folder: &[u8]) -> bool {
 
 // Puts the names that begin with a prefix on their device.
 fn keep_names(system: &System, prefix: &[u8]) -> bool {
-    let k = folder_size(prefix);
-    if k == 0 {
-        return keep_folder(system, b".");
-    }
-    keep_folder(system, &prefix[..k])
-}
-
-// Removes a name, where that can be done.
-fn unlink(system: &System, name: &[u8]) {
-    if let Some(path) = intake::path_of(system, name) {
-        went(system, fs::remove_file(&system.rt, path));
+    match folder_size(prefix) {
+        0 => keep_folder(system, b"."),
+        k => keep_folder(system, &prefix[..k]),
     }
 }
 
-// Removes output i's unfinished file, or the earlier one that was put aside, if there is one, where that can be done.
-fn remove(system: &System, p: Plan, prefix: &[u8], i: usize, old: bool, there: bool) {
-    if !there {
-        return;
-    }
+// Removes output i's unfinished file, or the earlier one that was put aside, where that can be done.
+fn remove(system: &System, p: Plan, prefix: &[u8], i: usize, old: bool) {
     let w = name_of(prefix, p.number, i, old);
-    let name = w.octets;
-    let end = w.end;
-    unlink(system, &name[..end]);
+    if let Some(path) = intake::path_of(system, &w.octets[..w.end]) {
+        let _ = went(system, fs::remove_file(&system.rt, path));
+    }
 }
 
 // Removes what was put aside.
 fn forget_all(system: &System, p: Plan, prefix: &[u8], s: Stage) {
-    let aside = s.aside;
-    let mut i: usize = 0;
-    while i < 10 {
-        let a = aside[i];
-        remove(system, p, prefix, i, true, a);
-        i += 1;
-    }
-}
-
-// Takes the name of output i back, if it was given.
-fn take_back(system: &System, p: Plan, prefix: &[u8], i: usize, given: bool) {
-    if given {
-        leave_name(system, p, prefix, i, false);
-    }
-}
-
-// Gives what was put aside the name of output i again, if it was.
-fn put_back(system: &System, p: Plan, prefix: &[u8], i: usize, aside: bool) {
-    if aside {
-        take_name(system, p, prefix, i, true);
+    for i in 0..10 {
+        if s.aside[i] {
+            remove(system, p, prefix, i, true);
+        }
     }
 }
 
 // Takes names back, and gives them to what had them, the records last.
 fn undo_all(system: &System, p: Plan, prefix: &[u8], s: Stage) {
-    let given = s.given;
-    let aside = s.aside;
-    let mut i: usize = 0;
-    while i < 10 {
-        let g = given[i];
-        let a = aside[i];
-        take_back(system, p, prefix, i, g);
-        put_back(system, p, prefix, i, a);
-        i += 1;
+    for i in 0..10 {
+        if s.given[i] {
+            let _ = leave_name(system, p, prefix, i, false);
+        }
+        if s.aside[i] {
+            let _ = take_name(system, p, prefix, i, true);
+        }
     }
 }
 
-// Whether all outputs have their names, and these are on their device.
-fn settled(system: &System, s: Stage, prefix: &[u8]) -> bool {
-    if s.well {
-        return keep_names(system, prefix);
-    }
-    false
-}
-
-// Gives each output its name. What had the names is put aside first and removed at the end, or gets them again where something fails.
+// Gives each output its name, and puts the names on their device. What had the names is put aside first and removed at the end, or gets them again
+// where something fails.
 pub fn give_names(system: &System, p: Plan, prefix: &[u8]) -> bool {
-    let s = give_each(system, p, prefix);
-    let good = settled(system, s, prefix);
+    let mut s = no_stage();
+    let good = give_each(system, p, prefix, &mut s).is_ok() && keep_names(system, prefix);
     if good {
         forget_all(system, p, prefix, s);
-        return true;
+    } else {
+        undo_all(system, p, prefix, s);
     }
-    undo_all(system, p, prefix, s);
-    false
+    good
 }
 
 // ---- a run that fails
 
-// Removes the unfinished files that this run made, where that still can be done. The program ends then, and closes them.
-pub fn remove_all(system: &System, p: Plan, fds: [i32; 10], prefix: &[u8]) {
-    let mut i: usize = 0;
-    while i < 10 {
-        let fd = fds[i];
-        remove(system, p, prefix, i, false, 0 <= fd);
-        i += 1;
+// Removes the unfinished files of the outputs before output n, where that can be done.
+fn remove_first(system: &System, p: Plan, prefix: &[u8], n: usize) {
+    for i in 0..n {
+        if has(p, i) {
+            remove(system, p, prefix, i, false);
+        }
     }
+}
+
+// Removes the unfinished files that `make_all` made, where that still can be done. The program ends then, and closes them.
+pub fn remove_all(system: &System, p: Plan, prefix: &[u8]) {
+    remove_first(system, p, prefix, 10);
 }

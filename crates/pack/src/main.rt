@@ -114,15 +114,15 @@ fn say_usage() {
 // ---- which files may be read
 
 // Whether nothing stands against reading a file. Says what does.
-fn allowed(system: &System, path: &[u8], k: Known, twice: bool) -> bool {
+fn allowed(system: &System, path: &[u8], k: Option<Known>, twice: bool) -> bool {
     let o = words::pack_start::against(k, files::of_descriptor(system, 1), twice);
     match o {
-        Objection::Nothing => true,
-        Objection::NotRegular => {
+        None => true,
+        Some(Objection::NotRegular) => {
             say(path, b"not a regular file, which is read twice");
             false
         }
-        Objection::Output => {
+        Some(Objection::Output) => {
             say(path, b"standard output is this file");
             false
         }
@@ -221,7 +221,7 @@ fn open_file(system: &System, path: &[u8]) -> Option<intake::Source> {
 // Opens the file that word i names after its first `from` octets, and keeps its name.
 fn open_word(system: &System, i: usize, from: usize, name: &mut [u8; 4096]) -> Option<Opened> {
     let mut word = io::buffer();
-    let n = console::arg(system, i, &mut word);
+    let n = console::arg(system, i, &mut word).unwrap_or(0);
     let at = from.min(n);
     octets::copy(name, &word[at..n]);
     let file = open_file(system, &word[at..n])?;
@@ -231,14 +231,14 @@ fn open_word(system: &System, i: usize, from: usize, name: &mut [u8; 4096]) -> O
 // Whether word i is an option.
 fn is_option_at(system: &System, i: usize) -> bool {
     let mut word = io::buffer();
-    let n = console::arg(system, i, &mut word);
+    let n = console::arg(system, i, &mut word).unwrap_or(0);
     words::is_option(&word[..n])
 }
 
 // Whether word i, if there is one, names a list of lengths.
 fn is_list_at(system: &System, i: usize) -> bool {
     let mut word = io::buffer();
-    let n = console::arg(system, i, &mut word);
+    let n = console::arg(system, i, &mut word).unwrap_or(0);
     words::begins(&word[..n], b"lengths=")
 }
 
@@ -550,7 +550,7 @@ impl Pass<'_> {
     // What word i names.
     fn named_at(&self, i: usize, numbered: usize) -> Named {
         let mut word = io::buffer();
-        let n = console::arg(self.system, i, &mut word);
+        let n = console::arg(self.system, i, &mut word).unwrap_or(0);
         words::pack_start::name_of(&word[..n], numbered)
     }
 
@@ -612,7 +612,7 @@ fn say_bad(word: &[u8], bad: Bad) {
         Bad::InsertTwice => say(word, b"insert is named twice"),
         Bad::OcfTwice => say(word, b"ocf is named twice"),
         Bad::LaneTwice => say(word, b"the lane is named twice, which --interleave forbids"),
-        Bad::Nothing | Bad::NoWord => {}
+        Bad::NoWord => {}
     }
 }
 
@@ -639,18 +639,19 @@ fn is_units(s: Setting, name: Named) -> bool
 fn plan_word(p: Plan, i: usize, word: &[u8], s: Setting, once: bool) -> Plan {
     let name = words::pack_start::name_of(word, s.numbered);
     let q = words::pack_start::planned(p, i, name, is_units(s, name), once);
-    say_bad(word, q.bad);
+    if let Some(bad) = q.bad {
+        say_bad(word, bad);
+    }
     q
 }
 
 // The plan after word i.
 fn plan_next(system: &System, p: Plan, i: usize, s: Setting, once: bool) -> Plan {
     let mut word = io::buffer();
-    let n = console::arg(system, i, &mut word);
-    if intake::last_failure(system) != 0 {
+    let Some(n) = console::arg(system, i, &mut word) else {
         say_failed(system, b"an argument");
         return words::pack_start::bad_plan(p, Bad::NoWord);
-    }
+    };
     plan_word(p, i, &word[..n], s, once)
 }
 
@@ -700,13 +701,14 @@ fn load_file(system: &System, path: &[u8], n: usize, area: &mut [u8]) -> bool {
         && load_open(system, path, &file, n, area)
 }
 
-// Puts the n octets of the file that argument i names, after its first `from` octets, at the front of an area; argument 0 leaves it.
-fn load_octets(system: &System, i: usize, from: usize, n: usize, area: &mut [u8]) -> bool {
-    if i == 0 {
+// Puts the n octets of the file that argument i names, after its first `from` octets, at the front of an area; where there is no such argument,
+// the area stays.
+fn load_octets(system: &System, i: Option<usize>, from: usize, n: usize, area: &mut [u8]) -> bool {
+    let Some(i) = i else {
         return true;
-    }
+    };
     let mut word = io::buffer();
-    let end = console::arg(system, i, &mut word);
+    let end = console::arg(system, i, &mut word).unwrap_or(0);
     let at = from.min(end);
     load_file(system, &word[at..end], n, area)
 }
@@ -716,7 +718,7 @@ fn load_octets(system: &System, i: usize, from: usize, n: usize, area: &mut [u8]
 // Looks through all files, and where all are good, writes their frames. Of the insert octets the setting's are taken.
 fn pack_files(system: &System, s: Setting, q: Asked, n: usize, insert: &[u8], ocf: &[u8]) {
     let i = streams::within(s.insert, insert);
-    let from = after(q.one, n);
+    let from = after(q.places[0], n);
     let look = Pass {
         system,
         words: n,
@@ -760,7 +762,7 @@ fn pack_planned(system: &System, s: Setting, q: Asked, n: usize, p: Plan) {
 
 // Packs by this setting, with n words.
 fn pack_all(system: &System, s: Setting, q: Asked, n: usize) {
-    let from = after(q.one, n);
+    let from = after(q.places[0], n);
     let p = plan_all(system, from, n, s, q.first);
     if !words::pack_start::is_fine(p.bad) {
         return;
@@ -811,11 +813,9 @@ fn with_name(system: &System, path: &[u8], q: Asked, n: usize) {
 // Takes the setting from the command line, and goes on.
 fn with_words(system: &System, q: Asked, n: usize) {
     let mut path = io::buffer();
-    let k = console::arg(system, q.one, &mut path);
-    if intake::last_failure(system) != 0 {
-        say_failed(system, b"SETTING");
-    } else {
-        with_name(system, &path[..k], q, n);
+    match console::arg(system, q.places[0], &mut path) {
+        Some(k) => with_name(system, &path[..k], q, n),
+        None => say_failed(system, b"SETTING"),
     }
 }
 
@@ -824,7 +824,7 @@ fn with_words(system: &System, q: Asked, n: usize) {
 // Says that a word is no option.
 fn say_unknown(system: &System, i: usize) {
     let mut word = io::buffer();
-    let n = console::arg(system, i, &mut word);
+    let n = console::arg(system, i, &mut word).unwrap_or(0);
     say(
         &word[..n],
         b"is no option; expected --interleave, --help or --version",
@@ -863,7 +863,7 @@ fn begin(system: &System, start: Start, q: Asked, n: usize) {
 fn main(rt: HostRuntime) {
     let system = intake::system_of(rt);
     let n = console::arg_count(&system);
-    if console::may_say(&system, true, n, 0) {
+    if console::may_say(&system, true, n, None) {
         let q = console::read_words(&system, Program::Pack, n);
         begin(&system, words::pack_start::start_of(q), q, n);
     }

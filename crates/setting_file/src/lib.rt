@@ -40,7 +40,7 @@ pub struct Filled {
 pub struct Loaded {
     pub filled: Filled,
     pub judged: Judged,
-    pub file: Known,
+    pub file: Option<Known>,
 }
 
 // Goes on with a message.

@@ -35,11 +35,10 @@ pub enum Went {
     NotWritten(usize),
 }
 
-// What a run makes, and what it says on the way: the numbers of its outputs' descriptors (-1 where none was made), how many frames are a hundredth
-// of the recording (0 where that is not known), whether no line a frame is printed, and whether there is a table of units.
+// What a run says on the way, and makes: how many frames are a hundredth of the recording (0 where that is not known), whether no line a frame is
+// printed, and whether there is a table of units.
 #[derive(Clone, Copy)]
 pub struct Sinks {
-    pub fds: [i32; 10],
     pub hundredth: u64,
     pub quiet: bool,
     pub table: bool,

@@ -3,7 +3,7 @@
 // the system.
 #![tactic(auto)]
 
-ghost use Rattle.std.specs.Prelude.{◌≡◌, true};
+ghost use Rattle.std.specs.Prelude.{◌≡◌, true, IfSome};
 ghost use Rattle.io.specs.Counts.{IsPrefixLen};
 ghost use Rattle.rules.specs.Settings.{setting_ok, reader_ok};
 ghost use Rattle.refusals.specs.Words.{common_text, first_text};
@@ -20,7 +20,7 @@ use rules::{Reader, Setting};
 use setting_file::Loaded;
 use std::fs::File;
 use std::random::RandomSource;
-use words::unpack_start::{Little, Prefix};
+use words::unpack_start::{BadPrefix, Little};
 use words::{Asked, Program, Start};
 
 // What a run has: the plan of its outputs, where its octets go, what no output may replace, as the system knows it, and which virtual channels are left
@@ -134,24 +134,17 @@ fn say_refused(recording: &[u8], r: Refusals, own: u16) {
     }
 }
 
-// Says that little was read, where it is so; whether it is.
-fn say_few(few: Little, recording: &[u8]) -> bool {
+// Says that little was read.
+fn say_few(few: Little, recording: &[u8]) {
     match few {
-        Little::Enough => false,
-        Little::Nothing => {
-            say(
-                recording,
-                b"no frame was read; see whether this is its setting",
-            );
-            true
-        }
-        Little::Fewer => {
-            say(
-                recording,
-                b"more frames were refused than read; see whether this is its setting",
-            );
-            true
-        }
+        Little::Nothing => say(
+            recording,
+            b"no frame was read; see whether this is its setting",
+        ),
+        Little::Fewer => say(
+            recording,
+            b"more frames were refused than read; see whether this is its setting",
+        ),
     }
 }
 
@@ -159,8 +152,8 @@ fn say_few(few: Little, recording: &[u8]) -> bool {
 fn say_little(recording: &[u8], t: Totals, own: u16) {
     let k = t.tally.classes;
     let few = words::unpack_start::little_of(unpack_text::add(k.read, k.left), k.refused);
-    let little = say_few(few, recording);
-    if little {
+    if let Some(few) = few {
+        say_few(few, recording);
         let r = t.refusals;
         say_refused(recording, r, own);
     }
@@ -307,9 +300,7 @@ fn work(
     if e.whole {
         say_done(e.count);
     } else {
-        let p = job.plan;
-        let fds = job.sinks.fds;
-        outputs::remove_all(system, p, fds, prefix);
+        outputs::remove_all(system, job.plan, prefix);
     }
 }
 
@@ -324,12 +315,13 @@ fn hundredth_of(plain: bool, size: u64, length: usize) -> u64 {
 }
 
 // Where octets go, and how far a recording goes: one that is no regular file says nothing of it.
-fn sinks_of(s: Setting, recording: Known, q: Asked, fds: [i32; 10]) -> Sinks {
-    let plain = files::regular(recording);
-    let hundredth = hundredth_of(plain, recording.size, s.length);
+fn sinks_of(s: Setting, recording: Option<Known>, q: Asked) -> Sinks {
+    let hundredth = match recording {
+        Some(k) => hundredth_of(files::regular(k), k.size, s.length),
+        None => 0,
+    };
     Sinks {
-        fds: fds,
-        hundredth: hundredth,
+        hundredth,
         quiet: q.first,
         table: q.second,
     }
@@ -348,21 +340,15 @@ fn with_plan(
 )
     requires { setting_ok s ≡ true }
 {
-    let mut made = outputs::make_all(system, p, prefix);
-    let fds = made.fds;
-    if made.good {
-        let b = f.recording;
-        let sinks = sinks_of(s, b, q, fds);
+    if let Some(mut files) = outputs::make_all(system, p, prefix) {
         let without = q.without;
         let job = Job {
             plan: p,
-            sinks: sinks,
+            sinks: sinks_of(s, f.recording, q),
             kept: f,
-            without: without,
+            without,
         };
-        work(system, s, from, recording, &mut made.files, job, prefix);
-    } else {
-        outputs::remove_all(system, p, fds, prefix);
+        work(system, s, from, recording, &mut files, job, prefix);
     }
 }
 
@@ -396,54 +382,41 @@ fn with_name(
     }
 }
 
-// A word of the command line: how many octets it has, and whether the system gave it. What it had against it is said by then.
-#[derive(Clone, Copy)]
-struct Word {
-    octets: usize,
-    good: bool,
-}
-
-// Takes word i of the command line, which is for this.
-fn take_word(system: &System, i: usize, area: &mut [u8], what: &[u8]) -> Word
-    ensures { IsPrefixLen result.octets area.new }
+// Takes word i of the command line, which is for this: how many octets it has. What the system had against it is said.
+fn take_word(system: &System, i: usize, area: &mut [u8], what: &[u8]) -> Option<usize>
+    ensures { IfSome result (λ n. IsPrefixLen n area.new) }
 {
     let n = console::arg(system, i, area);
-    let good = intake::last_failure(system) == 0;
-    if !good {
+    if n.is_none() {
         say_failed(system, what);
     }
-    Word {
-        octets: n,
-        good: good,
-    }
+    n
 }
 
-// Says what is wrong with a prefix, if anything is; whether nothing is.
-fn say_prefix(what: Prefix, prefix: &[u8]) -> bool {
+// Says what is wrong with a prefix.
+fn say_prefix(what: BadPrefix, prefix: &[u8]) {
     match what {
-        Prefix::Fine => true,
-        Prefix::Empty => {
-            say(
-                b"PREFIX",
-                b"is empty; expected what names of files begin with",
-            );
-            false
-        }
-        Prefix::Folder => {
-            say(
-                prefix,
-                b"is a folder; expected what names of files begin with",
-            );
-            false
-        }
+        BadPrefix::Empty => say(
+            b"PREFIX",
+            b"is empty; expected what names of files begin with",
+        ),
+        BadPrefix::Folder => say(
+            prefix,
+            b"is a folder; expected what names of files begin with",
+        ),
     }
 }
 
-// Whether names can begin with this prefix.
+// Whether names can begin with this prefix. Says why where they cannot.
 fn good_prefix(system: &System, prefix: &[u8]) -> bool {
     let k = files::of_name(system, prefix);
-    let what = words::unpack_start::prefix_of(prefix, k);
-    say_prefix(what, prefix)
+    match words::unpack_start::prefix_of(prefix, k) {
+        Ok(()) => true,
+        Err(what) => {
+            say_prefix(what, prefix);
+            false
+        }
+    }
 }
 
 // Takes the prefix from the command line, and goes on.
@@ -451,19 +424,16 @@ fn with_prefix(system: &System, s: Setting, q: Asked, from: &Source, recording: 
     requires { setting_ok s ≡ true }
 {
     let mut prefix = io::buffer();
-    let w = take_word(system, q.three, &mut prefix, b"PREFIX");
-    if !w.good {
+    let Some(n) = take_word(system, q.places[2], &mut prefix, b"PREFIX") else {
         return;
-    }
-    let n = w.octets;
-    let good = good_prefix(system, &prefix[..n]);
-    if good {
+    };
+    if good_prefix(system, &prefix[..n]) {
         with_name(system, s, from, recording, f, q, &prefix[..n]);
     }
 }
 
 // What no output may replace: this setting and recording, standard output and standard error.
-fn kept_of(system: &System, a: Known, b: Known) -> Kept {
+fn kept_of(system: &System, a: Option<Known>, b: Option<Known>) -> Kept {
     let o = files::of_descriptor(system, 1);
     let e = files::of_descriptor(system, 2);
     Kept {
@@ -493,7 +463,14 @@ fn outside(f: Kept) -> bool {
 }
 
 // Looks at the recording, and goes on.
-fn with_recording(system: &System, s: Setting, q: Asked, from: &Source, recording: &[u8], a: Known)
+fn with_recording(
+    system: &System,
+    s: Setting,
+    q: Asked,
+    from: &Source,
+    recording: &[u8],
+    a: Option<Known>,
+)
     requires { setting_ok s ≡ true }
 {
     let b = files::of_source(system, from);
@@ -510,7 +487,7 @@ fn with_recording(system: &System, s: Setting, q: Asked, from: &Source, recordin
 }
 
 // Opens the recording, and goes on.
-fn with_path(system: &System, s: Setting, q: Asked, path: &[u8], a: Known)
+fn with_path(system: &System, s: Setting, q: Asked, path: &[u8], a: Option<Known>)
     requires { setting_ok s ≡ true }
 {
     let dash = words::is_dash(path);
@@ -528,28 +505,25 @@ fn with_path(system: &System, s: Setting, q: Asked, path: &[u8], a: Known)
 }
 
 // Takes the recording from the command line, and goes on.
-fn with_setting(system: &System, s: Setting, q: Asked, a: Known)
+fn with_setting(system: &System, s: Setting, q: Asked, a: Option<Known>)
     requires { setting_ok s ≡ true }
 {
     let mut path = io::buffer();
-    let w = take_word(system, q.two, &mut path, b"RECORDING");
-    if w.good {
-        let n = w.octets;
+    if let Some(n) = take_word(system, q.places[1], &mut path, b"RECORDING") {
         with_path(system, s, q, &path[..n], a);
     }
 }
 
 // Whether standard output and standard error are open. A file that is opened would take the number of one that is closed.
 fn open_ends(system: &System) -> bool {
-    let e = files::of_descriptor(system, 2);
-    if e.there {
-        let o = files::of_descriptor(system, 1);
-        if o.there {
-            return true;
-        }
+    if files::of_descriptor(system, 2).is_none() {
+        return false;
+    }
+    let printed = files::of_descriptor(system, 1).is_some();
+    if !printed {
         say_failed(system, b"standard output");
     }
-    false
+    printed
 }
 
 // A setting from standard input or from a file.
@@ -584,7 +558,7 @@ fn all_listed(s: Setting, without: [bool; 63]) -> bool
 }
 
 // Goes on with a setting that lists what is to be left out.
-fn with_choice(system: &System, s: Setting, q: Asked, a: Known)
+fn with_choice(system: &System, s: Setting, q: Asked, a: Option<Known>)
     requires { setting_ok s ≡ true }
 {
     let without = q.without;
@@ -597,11 +571,9 @@ fn with_choice(system: &System, s: Setting, q: Asked, a: Known)
 // Reads the setting, and goes on.
 fn with_words(system: &System, q: Asked) {
     let mut path = io::buffer();
-    let w = take_word(system, q.one, &mut path, b"SETTING");
-    if !w.good {
+    let Some(n) = take_word(system, q.places[0], &mut path, b"SETTING") else {
         return;
-    }
-    let n = w.octets;
+    };
     let mut area = [0u8; 65537];
     let l = load_from(system, &path[..n], &mut area);
     if l.judged.good {
@@ -616,7 +588,7 @@ fn with_words(system: &System, q: Asked) {
 // Says that a word is no option.
 fn say_unknown(system: &System, i: usize) {
     let mut word = io::buffer();
-    let n = console::arg(system, i, &mut word);
+    let n = console::arg(system, i, &mut word).unwrap_or(0);
     say(
         &word[..n],
         b"is no option; expected --totals, --units, --without=V with V from 0 to 62, --help or --version",

@@ -17,13 +17,13 @@ unfolding is_digit
 digit_low x h = leb-true _ _ (and_left (48 ≤? x) (x ≤? 57) h)
 
 module _ (w : List ℕ) where
-  pub without-one : length w ≡ 11 → without_word (drop 10 w) ≡ channel_word 48 (get_or w 10 0)
+  pub without_one : length w ≡ 11 → without_word (drop 10 w) ≡ channel_word 48 (get_or w 10 0)
   unfolding without_word
-  without-one h = rw (drop-cons w 10 0 (omega arith), drop_of_length-le w {i = 11} (omega arith))
+  without_one h = rw (drop-cons w 10 0 (omega arith), drop_of_length-le w {i = 11} (omega arith))
 
-  pub without-two : length w ≡ 12 → without_word (drop 10 w) ≡ channel_word (get_or w 10 0) (get_or w 11 0)
+  pub without_two : length w ≡ 12 → without_word (drop 10 w) ≡ channel_word (get_or w 10 0) (get_or w 11 0)
   unfolding without_word
-  without-two h = rw (drop-cons w 10 0 (omega arith), drop-cons w 11 0 (omega arith), drop_of_length-le w {i = 12} (omega arith))
+  without_two h = rw (drop-cons w 10 0 (omega arith), drop-cons w 11 0 (omega arith), drop_of_length-le w {i = 12} (omega arith))
 
   pub without_other : (length w ≡ 11 → ⊥) → (length w ≡ 12 → ⊥) → without_word (drop 10 w) ≡ word.Unknown
   unfolding without_word
@@ -31,3 +31,5 @@ module _ (w : List ℕ) where
       split (length w) 10 (λ (h : length w ≤ 10). rw (drop_of_length-le w h))
       (λ (h : 10 < length w).
       rw (drop-cons w 10 0 h, drop-cons w 11 0 (omega (arith, h, d)), drop-cons w 12 0 (omega (arith, h, d, e))))
+
+pub ruleset by_length = (without_one, without_two, without_other)

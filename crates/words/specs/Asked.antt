@@ -1,7 +1,8 @@
 -- What the words of a command line ask for.
-use Rattle.std.specs.Prelude.{ℕ, Bool, true, false, cond, ◌&&◌, List, set, replicate}
+use Rattle.std.specs.Prelude.{ℕ, ◌+◌, Bool, true, false, cond, ◌&&◌, List, set, replicate, Option, Some, None}
+use Rattle.std.specs.Option.{option_or}
 use Rattle.rules.specs.Listing.{text}
-use Rattle.rules.specs.Tests.{◌=?◌, ◌≤?◌}
+use Rattle.rules.specs.Tests.{◌<?◌, ◌≤?◌}
 use Rattle.words.specs.Words.{is_word, is_option}
 use Rattle.words.specs.declared.Word.{Word}
 use Rattle.words.specs.declared.Word.TheVariants as word
@@ -20,10 +21,8 @@ unfoldable pub no_asked : Asked
 no_asked =
     record {
       names = 0;
-      one = 0;
-      two = 0;
-      three = 0;
-      unknown = 0;
+      places = replicate 3 0;
+      unknown = None;
       first = false;
       second = false;
       help = false;
@@ -32,13 +31,11 @@ no_asked =
     }
 
 -- The same but for the names.
-abbrev pub with_names : Asked → ℕ → ℕ → ℕ → ℕ → Asked
-with_names a names one two three =
+abbrev pub with_names : Asked → ℕ → List ℕ → Asked
+with_names a names places =
     record {
       names = names;
-      one = one;
-      two = two;
-      three = three;
+      places = places;
       unknown = a.unknown;
       first = a.first;
       second = a.second;
@@ -48,13 +45,11 @@ with_names a names one two three =
     }
 
 -- The same but for the options.
-abbrev pub with_options : Asked → ℕ → Bool → Bool → Bool → Bool → List Bool → Asked
+abbrev pub with_options : Asked → Option ℕ → Bool → Bool → Bool → Bool → List Bool → Asked
 with_options a unknown first second help version without =
     record {
       names = a.names;
-      one = a.one;
-      two = a.two;
-      three = a.three;
+      places = a.places;
       unknown = unknown;
       first = first;
       second = second;
@@ -65,10 +60,7 @@ with_options a unknown first second help version without =
 
 -- Names are counted up to four; the places of the first three are kept.
 unfoldable pub named : Asked → ℕ → Asked
-named a i =
-    cond (a.names =? 0) (with_names a 1 i a.two a.three)
-    (cond (a.names =? 1) (with_names a 2 a.one i a.three)
-    (cond (a.names =? 2) (with_names a 3 a.one a.two i) (with_names a 4 a.one a.two a.three)))
+named a i = cond (a.names <? 3) (with_names a (a.names + 1) (set a.places a.names i)) (with_names a 4 a.places)
 
 -- "`--without=V` leaves the frames of virtual channel V out", and "may stand several times".
 unfoldable pub left_out : Asked → ℕ → Asked
@@ -81,12 +73,16 @@ asked_next a i word.Second = with_options a a.unknown a.first true a.help a.vers
 asked_next a i (word.Without v) = left_out a v
 asked_next a i word.Help = with_options a a.unknown a.first a.second true a.version a.without
 asked_next a i word.Version = with_options a a.unknown a.first a.second a.help true a.without
-asked_next a i word.Unknown = with_options a (cond (a.unknown =? 0) i a.unknown) a.first a.second a.help a.version a.without
+asked_next a i word.Unknown = with_options a (option_or a.unknown (Some i)) a.first a.second a.help a.version a.without
 asked_next a i word.Name = named a i
+
+-- Where there is an option that there is not, it is told; else it is told whether there are as many names as there should be.
+abbrev pub start_with : Option ℕ → Bool → Start
+start_with (Some i) good = start.Unknown i
+start_with None good = cond good start.Work start.Usage
 
 -- Help, version, an option that there is not, and as many names as there should be: the first that applies.
 unfoldable pub start_of : Asked → ℕ → ℕ → Start
 start_of a least most =
     cond a.help start.Help
-    (cond a.version start.Version
-    (cond (a.unknown =? 0) (cond (least ≤? a.names && a.names ≤? most) start.Work start.Usage) (start.Unknown a.unknown)))
+    (cond a.version start.Version (start_with a.unknown (least ≤? a.names && a.names ≤? most)))

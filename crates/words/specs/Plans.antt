@@ -1,6 +1,7 @@
 -- What the words after the setting come to, one after another, and which files may be read.
-use Rattle.std.specs.Prelude.{ℕ, Bool, true, false, cond, get_or, set, replicate}
-use Rattle.rules.specs.Tests.{◌≤?◌, ◌=?◌}
+use Rattle.std.specs.Prelude.{ℕ, Bool, true, false, cond, ◌&&◌, get_or, set, replicate, Option, Some, None}
+use Rattle.std.specs.Option.{is_none}
+use Rattle.rules.specs.Tests.{◌≤?◌}
 use Rattle.words.specs.declared.pack_start.Named.{Named}
 use Rattle.words.specs.declared.pack_start.Named.TheVariants as names
 use Rattle.words.specs.declared.pack_start.Bad.{Bad}
@@ -9,28 +10,24 @@ use Rattle.words.specs.declared.pack_start.Plan.{Plan}
 use Rattle.words.specs.declared.pack_start.Objection.{Objection}
 use Rattle.words.specs.declared.pack_start.Objection.TheVariants as objections
 use Rattle.files.specs.declared.Known.{Known}
-use Rattle.files.specs.Known.{same_file, is_regular}
+use Rattle.files.specs.Known.{same_file, is_there, is_regular}
 
-unfoldable pub fine : Bad → Bool
-fine bads.Nothing = true
-fine bads.InsertTwice = false
-fine bads.OcfTwice = false
-fine bads.LaneTwice = false
-fine bads.NoUnits = false
-fine bads.NoName = false
-fine bads.NoWord = false
+-- Nothing is wrong with the words.
+unfoldable pub fine : Option Bad → Bool
+fine None = true
+fine (Some bad) = false
 
 unfoldable pub no_plan : Plan
-no_plan = record { insert = 0; ocf = 0; bad = bads.Nothing; lanes = false; units = false; named = replicate 8 false }
+no_plan = record { insert = None; ocf = None; bad = None; lanes = false; units = false; named = replicate 8 false }
 
 abbrev pub bad_plan : Plan → Bad → Plan
-bad_plan p b = record { insert = p.insert; ocf = p.ocf; bad = b; lanes = p.lanes; units = p.units; named = p.named }
+bad_plan p b = record { insert = p.insert; ocf = p.ocf; bad = Some b; lanes = p.lanes; units = p.units; named = p.named }
 
 -- "Each lane is then named once": the plan after a word that names lane l's file. That it is named is kept.
 unfoldable pub lane_plan : Plan → ℕ → Bool → Bool → Plan
 lane_plan p l access once =
     cond (8 ≤? l) (bad_plan p bads.NoName)
-    (cond (cond once (get_or p.named l false) false) (bad_plan p bads.LaneTwice)
+    (cond (once && get_or p.named l false) (bad_plan p bads.LaneTwice)
     (record { insert = p.insert; ocf = p.ocf; bad = p.bad; lanes = true; units = access; named = set p.named l true }))
 
 -- The plan after word i with this name. A list is "the next word after the LANE=FILE of an access lane (options aside)"; insert and OCF octets
@@ -41,10 +38,10 @@ plan_on p i names.Lengths access once =
     cond p.units (record { insert = p.insert; ocf = p.ocf; bad = p.bad; lanes = p.lanes; units = false; named = p.named })
     (bad_plan p bads.NoUnits)
 plan_on p i names.Insert access once =
-    cond (p.insert =? 0) (record { insert = i; ocf = p.ocf; bad = p.bad; lanes = p.lanes; units = false; named = p.named })
+    cond (is_none p.insert) (record { insert = Some i; ocf = p.ocf; bad = p.bad; lanes = p.lanes; units = false; named = p.named })
     (bad_plan p bads.InsertTwice)
 plan_on p i names.Ocf access once =
-    cond (p.ocf =? 0) (record { insert = p.insert; ocf = i; bad = p.bad; lanes = p.lanes; units = false; named = p.named })
+    cond (is_none p.ocf) (record { insert = p.insert; ocf = Some i; bad = p.bad; lanes = p.lanes; units = false; named = p.named })
     (bad_plan p bads.OcfTwice)
 plan_on p i names.Option access once = p
 plan_on p i names.Other access once = bad_plan p bads.NoName
@@ -52,6 +49,6 @@ plan_on p i names.Other access once = bad_plan p bads.NoName
 -- ---- which files may be read
 
 -- "No file that is read may be standard output"; what is no regular file is refused where it would be read twice.
-unfoldable pub objection_to : Known → Known → Bool → Objection
+unfoldable pub objection_to : Option Known → Option Known → Bool → Option Objection
 objection_to k out twice =
-    cond (is_regular k) (cond (same_file k out) objections.Output objections.Nothing) (cond twice objections.NotRegular objections.Nothing)
+    cond (is_there is_regular k) (cond (same_file k out) (Some objections.Output) None) (cond twice (Some objections.NotRegular) None)

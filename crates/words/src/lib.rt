@@ -28,17 +28,15 @@ pub fn begins(s: &[u8], word: &[u8]) -> bool
 }
 
 // Whether these octets are that word.
+#[tactic(auto, unfolding(crate::specs::Words::is_word))]
 pub fn is_word(s: &[u8], word: &[u8]) -> bool
     ensures { result ≡ is_word word.now s.now }
 {
-    let front = begins(s, word);
-    if front {
-        return s.len() == word.len();
-    }
-    false
+    begins(s, word) && s.len() == word.len()
 }
 
 // Whether a word is an option.
+#[tactic(auto, unfolding(crate::specs::Words::is_option, rules::specs::Listing::text))]
 pub fn is_option(s: &[u8]) -> bool
     ensures { result ≡ is_option s.now }
 {
@@ -46,6 +44,7 @@ pub fn is_option(s: &[u8]) -> bool
 }
 
 // Whether a word stands for standard input.
+#[tactic(auto, unfolding(crate::specs::Words::is_dash, rules::specs::Listing::text))]
 pub fn is_dash(s: &[u8]) -> bool
     ensures { result ≡ is_dash s.now }
 {
@@ -81,15 +80,13 @@ pub enum Word {
     Name,
 }
 
-// What the command line asks for: how many names there are, up to four, and which words the first three are; the first option that there is not,
-// 0 for none; which options stand there; and which virtual channels are left out.
+// What the command line asks for: how many names there are, up to four, and which words the first three are; the first option that there is not;
+// which options stand there; and which virtual channels are left out.
 #[derive(Clone, Copy)]
 pub struct Asked {
     pub names: usize,
-    pub one: usize,
-    pub two: usize,
-    pub three: usize,
-    pub unknown: usize,
+    pub places: [usize; 3],
+    pub unknown: Option<usize>,
     pub first: bool,
     pub second: bool,
     pub help: bool,
@@ -108,22 +105,19 @@ pub enum Start {
 }
 
 // What a word is that is no option of the program's own.
+#[tactic(auto, unfolding(crate::specs::Asked::word_of, rules::specs::Listing::text))]
 pub fn word_of(word: &[u8]) -> Word
     ensures { result ≡ word_of word.now }
 {
-    let option = is_option(word);
-    if option {} else {
-        return Word::Name;
+    if !is_option(word) {
+        Word::Name
+    } else if is_word(word, b"--help") {
+        Word::Help
+    } else if is_word(word, b"--version") {
+        Word::Version
+    } else {
+        Word::Unknown
     }
-    let help = is_word(word, b"--help");
-    if help {
-        return Word::Help;
-    }
-    let version = is_word(word, b"--version");
-    if version {
-        return Word::Version;
-    }
-    Word::Unknown
 }
 
 // The programs whose words are told here.
@@ -134,6 +128,7 @@ pub enum Program {
 }
 
 // What a word of a program's command line is.
+#[tactic(auto, unfolding(crate::specs::Programs::word_to))]
 pub fn word_to(program: Program, word: &[u8]) -> Word
     ensures { result ≡ word_to program word.now }
 {
@@ -144,15 +139,14 @@ pub fn word_to(program: Program, word: &[u8]) -> Word
 }
 
 // Nothing is asked for.
+#[tactic(auto, unfolding(crate::specs::Asked::no_asked))]
 pub fn no_asked() -> Asked
     ensures { result ≡ no_asked }
 {
     Asked {
         names: 0,
-        one: 0,
-        two: 0,
-        three: 0,
-        unknown: 0,
+        places: [0; 3],
+        unknown: None,
         first: false,
         second: false,
         help: false,
@@ -162,26 +156,17 @@ pub fn no_asked() -> Asked
 }
 
 // With one name more, word i.
+#[tactic(auto, unfolding(crate::specs::Asked::named))]
 fn name_at(a: Asked, i: usize) -> Asked
     ensures { result ≡ named a i }
 {
     let mut b = a;
-    if a.names == 0 {
-        b.names = 1;
-        b.one = i;
-        return b;
+    if a.names < 3 {
+        b.places[a.names] = i;
+        b.names += 1;
+    } else {
+        b.names = 4;
     }
-    if a.names == 1 {
-        b.names = 2;
-        b.two = i;
-        return b;
-    }
-    if a.names == 2 {
-        b.names = 3;
-        b.three = i;
-        return b;
-    }
-    b.names = 4;
     b
 }
 
@@ -197,39 +182,26 @@ fn leave_out(a: Asked, v: usize) -> Asked
 }
 
 // With one word more, word i.
+#[tactic(auto, unfolding(crate::specs::Asked::asked_next))]
 pub fn next_word(a: Asked, i: usize, w: Word) -> Asked
     ensures { result ≡ asked_next a i w }
 {
-    let mut b = a;
     match w {
-        Word::First => {
-            b.first = true;
-            b
-        }
-        Word::Second => {
-            b.second = true;
-            b
-        }
+        Word::First => Asked { first: true, ..a },
+        Word::Second => Asked { second: true, ..a },
         Word::Without(v) => leave_out(a, v),
-        Word::Help => {
-            b.help = true;
-            b
-        }
-        Word::Version => {
-            b.version = true;
-            b
-        }
-        Word::Unknown => {
-            if a.unknown == 0 {
-                b.unknown = i;
-            }
-            b
-        }
+        Word::Help => Asked { help: true, ..a },
+        Word::Version => Asked { version: true, ..a },
+        Word::Unknown => Asked {
+            unknown: a.unknown.or(Some(i)),
+            ..a
+        },
         Word::Name => name_at(a, i),
     }
 }
 
 // What a run does that is asked for this, of a program that takes so many names, at least and at most.
+#[tactic(auto, unfolding(crate::specs::Asked::start_of))]
 pub fn start_of(a: Asked, least: usize, most: usize) -> Start
     ensures { result ≡ start_of a least most }
 {
@@ -239,14 +211,9 @@ pub fn start_of(a: Asked, least: usize, most: usize) -> Start
     if a.version {
         return Start::Version;
     }
-    if a.unknown != 0 {
-        return Start::Unknown(a.unknown);
+    match a.unknown {
+        Some(i) => Start::Unknown(i),
+        None if least <= a.names && a.names <= most => Start::Work,
+        None => Start::Usage,
     }
-    if a.names < least {
-        return Start::Usage;
-    }
-    if most < a.names {
-        return Start::Usage;
-    }
-    Start::Work
 }

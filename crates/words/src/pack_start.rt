@@ -1,6 +1,6 @@
 // What pack decides before it reads a lane's file: what a word of its command line is, what the words after the setting come to, and
 // which files may be read.
-ghost use Rattle.std.specs.Prelude.{◌≡◌, false, cond};
+ghost use Rattle.std.specs.Prelude.{◌≡◌};
 ghost use Rattle.words.specs.Asked.{start_of};
 ghost use Rattle.words.specs.PackWords.{word_of, lane as laneNamed, name_of};
 ghost use Rattle.words.specs.Plans.{no_plan, bad_plan, lane_plan, plan_on, fine, objection_to};
@@ -11,14 +11,15 @@ use files::Known;
 // ---- options and names
 
 // What a word is: its one option is --interleave.
+#[tactic(auto, unfolding(crate::specs::PackWords::word_of, rules::specs::Listing::text))]
 pub fn word_of(word: &[u8]) -> Word
     ensures { result ≡ word_of word.now }
 {
-    let interleave = crate::is_word(word, b"--interleave");
-    if interleave {
-        return Word::First;
+    if crate::is_word(word, b"--interleave") {
+        Word::First
+    } else {
+        crate::word_of(word)
     }
-    crate::word_of(word)
 }
 
 // What a run does that is asked for this: it takes a setting and at least one name more, of which no more than four in all are counted.
@@ -46,53 +47,41 @@ pub enum Named {
 fn lane_named(s: &[u8], numbered: usize) -> Named
     ensures { result ≡ laneNamed numbered s.now }
 {
-    if s.len() < 2 {
+    if s.len() < 2 || s[1] != b'=' || s[0] < b'0' {
         return Named::Other;
     }
-    if s[1] != b'=' {
-        return Named::Other;
-    }
-    let d = s[0];
-    if d < b'0' {
-        return Named::Other;
-    }
-    let l = (d - b'0') as usize;
+    let l = (s[0] - b'0') as usize;
     if l < numbered {
-        return Named::ToLane(l);
+        Named::ToLane(l)
+    } else {
+        Named::Other
     }
-    Named::Other
 }
 
 // What a word names, in a setting with so many lanes.
+#[tactic(auto, unfolding(crate::specs::PackWords::name_of, rules::specs::Listing::text))]
 pub fn name_of(s: &[u8], numbered: usize) -> Named
     ensures { result ≡ name_of numbered s.now }
 {
-    let option = crate::is_option(s);
-    if option {
-        return Named::Option;
+    if crate::is_option(s) {
+        Named::Option
+    } else if crate::begins(s, b"lengths=") {
+        Named::Lengths
+    } else if crate::begins(s, b"insert=") {
+        Named::Insert
+    } else if crate::begins(s, b"ocf=") {
+        Named::Ocf
+    } else {
+        lane_named(s, numbered)
     }
-    let lengths = crate::begins(s, b"lengths=");
-    if lengths {
-        return Named::Lengths;
-    }
-    let insert = crate::begins(s, b"insert=");
-    if insert {
-        return Named::Insert;
-    }
-    let ocf = crate::begins(s, b"ocf=");
-    if ocf {
-        return Named::Ocf;
-    }
-    lane_named(s, numbered)
 }
 
 // ---- the words one after another
 
-// What is wrong with a word: nothing; it names the insert octets, the OCF octets or a lane again; it is a list of lengths, and the word before
-// it is no access lane's file; it names none of what it should; the system does not hand it out.
-#[derive(Clone, Copy)]
+// What is wrong with a word: it names the insert octets, the OCF octets or a lane again; it is a list of lengths, and the word before it is no
+// access lane's file; it names none of what it should; the system does not hand it out.
+#[derive(Clone, Copy, PartialEq, Eq)]
 pub enum Bad {
-    Nothing,
     InsertTwice,
     OcfTwice,
     LaneTwice,
@@ -101,26 +90,27 @@ pub enum Bad {
     NoWord,
 }
 
-// What is wrong with the words, which of them name the insert and OCF octets, 0 for none, whether one names a lane's file, whether the last one
-// names an access lane's, and which lanes are named.
+// What is wrong with the words, if anything is; which of them name the insert and OCF octets; whether one names a lane's file, whether the last
+// one names an access lane's, and which lanes are named.
 #[derive(Clone, Copy)]
 pub struct Plan {
-    pub insert: usize,
-    pub ocf: usize,
-    pub bad: Bad,
+    pub insert: Option<usize>,
+    pub ocf: Option<usize>,
+    pub bad: Option<Bad>,
     pub lanes: bool,
     pub units: bool,
     pub named: [bool; 8],
 }
 
 // No word was looked at.
+#[tactic(auto, unfolding(crate::specs::Plans::no_plan))]
 pub fn no_plan() -> Plan
     ensures { result ≡ no_plan }
 {
     Plan {
-        insert: 0,
-        ocf: 0,
-        bad: Bad::Nothing,
+        insert: None,
+        ocf: None,
+        bad: None,
         lanes: false,
         units: false,
         named: [false; 8],
@@ -131,37 +121,19 @@ pub fn no_plan() -> Plan
 pub fn bad_plan(p: Plan, bad: Bad) -> Plan
     ensures { result ≡ bad_plan p bad }
 {
-    let named = p.named;
-    Plan {
-        insert: p.insert,
-        ocf: p.ocf,
-        bad: bad,
-        lanes: p.lanes,
-        units: p.units,
-        named: named,
-    }
-}
-
-// Whether both are so.
-fn both(a: bool, b: bool) -> bool
-    ensures { result ≡ cond a b false }
-{
-    if a {
-        return b;
-    }
-    false
+    let bad = Some(bad);
+    Plan { bad, ..p }
 }
 
 // The plan after a word that names lane l's file: whether that is an access lane, and whether each lane is named once.
+#[tactic(auto, unfolding(crate::specs::Plans::lane_plan))]
 fn lane_plan(p: Plan, l: usize, access: bool, once: bool) -> Plan
     ensures { result ≡ lane_plan p l access once }
 {
     if 8 <= l {
         return bad_plan(p, Bad::NoName);
     }
-    let named = p.named[l];
-    let twice = both(once, named);
-    if twice {
+    if once && p.named[l] {
         return bad_plan(p, Bad::LaneTwice);
     }
     let mut q = p;
@@ -172,78 +144,53 @@ fn lane_plan(p: Plan, l: usize, access: bool, once: bool) -> Plan
 }
 
 // The plan after word i with this name.
+#[tactic(auto, unfolding(crate::specs::Plans::plan_on))]
 pub fn planned(p: Plan, i: usize, name: Named, access: bool, once: bool) -> Plan
     ensures { result ≡ plan_on p i name access once }
 {
-    let mut q = p;
-    q.units = false;
+    let q = Plan { units: false, ..p };
     match name {
         Named::ToLane(l) => lane_plan(p, l, access, once),
-        Named::Lengths => {
-            if p.units {
-                return q;
-            }
-            bad_plan(p, Bad::NoUnits)
-        }
-        Named::Insert => {
-            if p.insert != 0 {
-                return bad_plan(p, Bad::InsertTwice);
-            }
-            q.insert = i;
-            q
-        }
-        Named::Ocf => {
-            if p.ocf != 0 {
-                return bad_plan(p, Bad::OcfTwice);
-            }
-            q.ocf = i;
-            q
-        }
+        Named::Lengths if p.units => q,
+        Named::Lengths => bad_plan(p, Bad::NoUnits),
+        Named::Insert if p.insert.is_none() => Plan {
+            insert: Some(i),
+            ..q
+        },
+        Named::Insert => bad_plan(p, Bad::InsertTwice),
+        Named::Ocf if p.ocf.is_none() => Plan { ocf: Some(i), ..q },
+        Named::Ocf => bad_plan(p, Bad::OcfTwice),
         Named::Option => p,
         Named::Other => bad_plan(p, Bad::NoName),
     }
 }
 
 // Whether nothing is wrong with the words.
-pub fn is_fine(bad: Bad) -> bool
+#[tactic(auto, unfolding(crate::specs::Plans::fine))]
+pub fn is_fine(bad: Option<Bad>) -> bool
     ensures { result ≡ fine bad }
 {
-    match bad {
-        Bad::Nothing => true,
-        Bad::InsertTwice => false,
-        Bad::OcfTwice => false,
-        Bad::LaneTwice => false,
-        Bad::NoUnits => false,
-        Bad::NoName => false,
-        Bad::NoWord => false,
-    }
+    bad.is_none()
 }
 
 // ---- which files may be read
 
-// What stands against reading a file: nothing; it would be read twice, and what is no regular file need not give the same octets again; it is
-// standard output, and frames would be written into it.
-#[derive(Clone, Copy)]
+// What stands against reading a file: it would be read twice, and what is no regular file need not give the same octets again; it is standard
+// output, and frames would be written into it.
+#[derive(Clone, Copy, PartialEq, Eq)]
 pub enum Objection {
-    Nothing,
     NotRegular,
     Output,
 }
 
 // What stands against reading a file, with this standard output, once or twice.
-pub fn against(k: Known, out: Known, twice: bool) -> Objection
+#[tactic(auto, unfolding(crate::specs::Plans::objection_to))]
+pub fn against(k: Option<Known>, out: Option<Known>, twice: bool) -> Option<Objection>
     ensures { result ≡ objection_to k out twice }
 {
-    let plain = files::regular(k);
-    if plain {
-        let own = files::same(k, out);
-        if own {
-            return Objection::Output;
-        }
-        return Objection::Nothing;
+    if k.is_some_and(files::regular) {
+        files::same(k, out).then_some(Objection::Output)
+    } else {
+        twice.then_some(Objection::NotRegular)
     }
-    if twice {
-        return Objection::NotRegular;
-    }
-    Objection::Nothing
 }

@@ -24,8 +24,8 @@ overflow_cast-result c =
       subst (λ (x : ℤ). Fits w64 (nat_abs x)) (sym (to_z-of_z w64 z fits)) (record { fits = lt_of_le_of_lt (nat_abs-le z fits.sfits) (lit< tt) }),
     )
 
-pub returns : goal.returns
-returns c =
+pub returns-else-size-lt0 : goal.returns-else-size-lt0
+returns-else-size-lt0 c =
     let z = c.args.size in
     let e = to_z-of_z w64 z c.ranges.size in
     ap nat_abs e ∙ from_zero z (subst (λ (x : ℤ). lt_z x (pos 0) ≡ false) e c.if-size-lt0.false)

@@ -12,7 +12,7 @@ unfolding text
 returns-then-i-eq8 c = table-ending _ c.if-i-lt8.false c.if-i-eq8.true
     c.put_text.ensures
 
-pub returns : goal.returns
+pub returns-else-i-eq8 : goal.returns-else-i-eq8
 unfolding text
-returns c = records-ending _ c.if-i-lt8.false c.if-i-eq8.false
-    c.put_text-2.ensures
+returns-else-i-eq8 c = records-ending _ c.if-i-lt8.false c.if-i-eq8.false
+    c.put_text-else-i-eq8.ensures

@@ -12,7 +12,7 @@ returns-then-old c =
     rw c.if-old.true
     (wrote_more 26 (lit≤ tt) (wrote_then c.put_named-at.ensures (wrote_text c.put_text.ensures) (search rules)))
 
-pub returns : goal.returns
+pub returns-else-old : goal.returns-else-old
 unfolding mark text
-returns c =
-    rw c.if-old.false (wrote_then c.put_named-at.ensures (wrote_text c.put_text-2.ensures) (search rules))
+returns-else-old c =
+    rw c.if-old.false (wrote_then c.put_named-at.ensures (wrote_text c.put_text-else-old.ensures) (search rules))

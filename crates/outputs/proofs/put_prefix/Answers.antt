@@ -13,6 +13,6 @@ pub returns-then-prefix-gt4096 : goal.returns-then-prefix-gt4096
 returns-then-prefix-gt4096 c =
     long-prefix c.args.prefix.now c.if-prefix-gt4096.true c.put_text.ensures
 
-pub returns : goal.returns
-returns c =
-    whole-prefix c.args.prefix.now c.if-prefix-gt4096.false c.put_text-2.ensures
+pub returns-else-prefix-gt4096 : goal.returns-else-prefix-gt4096
+returns-else-prefix-gt4096 c =
+    whole-prefix c.args.prefix.now c.if-prefix-gt4096.false c.put_text-else-prefix-gt4096.ensures

@@ -1,25 +1,21 @@
 -- The code's tests are the definition's.
 use mathlib.Core.Path.{sym}
-use native.Mathlib.Omega.{arith}
 use Rattle.words.proofs.LaneNames.{lane-short, lane-other, lane_low, lane-is, lane-high}
 use Rattle.words.proofs.pack_start.lane_named.Goals as goal
+use Rattle.words.proofs.pack_start.lane_named.Goals.{then-s-lt2-via-then-s-lt2, then-s-lt2-via-else-s-lt2+then-s-ne61, then-s-lt2-via-else-s-lt2+else-s-ne61+then-s-lt48}
 
 pub returns-then-s-lt2 : goal.returns-then-s-lt2
-returns-then-s-lt2 c = let a = c.args in sym (lane-short a.numbered a.s.now c.if-s-lt2.true)
-
-pub returns-then-s-ne61 : goal.returns-then-s-ne61
-returns-then-s-ne61 c = let a = c.args in sym (lane-other a.numbered a.s.now c.if-s-ne61.true)
-
-pub returns-then-d-lt48 : goal.returns-then-d-lt48
-returns-then-d-lt48 c = let a = c.args in sym (lane_low a.numbered a.s.now c.if-d-lt48.true)
-
-pub overflow_cast-l : goal.overflow_cast-l
-overflow_cast-l c = omega (arith, c.type_inv.s 0)
+returns-then-s-lt2 c =
+    let n = c.args.numbered in
+    let s = c.args.s.now in
+    elim c.then-s-lt2.branch [
+      | then-s-lt2-via-then-s-lt2 w ↦ sym (lane-short n s w.if-s-lt2.true)
+      | then-s-lt2-via-else-s-lt2+then-s-ne61 w ↦ sym (lane-other n s w.if-s-ne61.true)
+      | then-s-lt2-via-else-s-lt2+else-s-ne61+then-s-lt48 w ↦ sym (lane_low n s w.if-s-lt48.true)
+    ]
 
 pub returns-then-l-numbered : goal.returns-then-l-numbered
-returns-then-l-numbered c = let a = c.args in sym
-    (lane-is a.numbered a.s.now c.if-s-ne61.false c.if-d-lt48.false c.if-l-numbered.true)
+returns-then-l-numbered c = sym (lane-is c.args.numbered c.args.s.now c.if-s-ne61.false c.if-s-lt48.false c.if-l-numbered.true)
 
-pub returns : goal.returns
-returns c = let a = c.args in sym
-    (lane-high a.numbered a.s.now c.if-s-ne61.false c.if-d-lt48.false c.if-l-numbered.false)
+pub returns-else-l-numbered : goal.returns-else-l-numbered
+returns-else-l-numbered c = sym (lane-high c.args.numbered c.args.s.now c.if-s-ne61.false c.if-s-lt48.false c.if-l-numbered.false)
