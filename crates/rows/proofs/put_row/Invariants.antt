@@ -1,5 +1,5 @@
 -- `rows::put_row` meets its contract. Before number i the first i numbers stand in the area.
-use Prim.Native.Nat.{◌≤◌, ◌-◌, ◌*◌}
+use Prim.Native.Nat.{◌*◌}
 use mathlib.Core.Path.{◌≡◌}
 use lib.ListN.{length, take}
 use Rattle.rules.specs.Areas.{laid}
@@ -7,7 +7,4 @@ use Rattle.rows.specs.Rows.{spelled}
 use Rattle.rows.proofs.put_row.Given as goal
 
 abbrev pub invariant-loop-i : goal.invariant-loop-i
-invariant-loop-i l = (l.i ≤ 8) × (length l.area ≡ length l.initial.area) × (l.area ≡ laid l.initial.area (64 * l.k) (spelled (take l.i l.row)))
-
-abbrev pub decreases-loop-i : goal.decreases-loop-i
-decreases-loop-i l = 8 - l.i
+invariant-loop-i l = (length l.area ≡ length l.initial.area) × (l.area ≡ laid l.initial.area (64 * l.k) (spelled (take l.i l.row)))
