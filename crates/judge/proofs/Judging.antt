@@ -1,45 +1,43 @@
 -- One question after another gives what the table of refusals gives.
 use mathlib.Core.Path.{◌≡◌, refl, sym, ap, ◌∙◌}
-use Prim.Native.Nat.{ℕ, zero, suc, ◌-◌, ◌<◌}
-use native.Mathlib.Nat.{suc-ne-zero, not-suc-le-zero}
-use native.Mathlib.Omega.{arith}
+use Prim.Native.Nat.{ℕ, zero, suc, ◌-◌}
+use native.Mathlib.Nat.{suc-ne-zero}
 use mathlib.Core.Bool.{Bool, true, false, cond, not, ◌&&◌, ◌||◌, and-false, and-true}
 use mathlib.Core.List.{List, [], ◌∷◌}
 use lib.ListN.{length}
-use borrow.Author.Tests.{eqb-true}
+use borrow.Author.Tests.{eqb-true, eq-eqb, ne_eqb}
+use Rattle.std.specs.Prelude.{Err}
 use Rattle.header.specs.Heads.{head_of}
 use Rattle.rules.specs.declared.Setting.{Setting}
 use Rattle.std.specs.Prelude.{Option}
 use Rattle.std.specs.Prelude.{Some, None}
 use Rattle.rules.specs.declared.Verdict.{Verdict}
 use Rattle.rules.specs.declared.Verdict.TheVariants.{Refused, Idle, Counted, Read}
-use Rattle.rules.specs.Tests.{◌=?◌, ◌≠?◌, none, at, Refusal, given}
+use Rattle.rules.specs.declared.Refusal.{Refusal}
+use Rattle.rules.specs.Tests.{◌=?◌, ◌≠?◌, none, at, number_of, Row, given}
 use Rattle.rules.specs.Octets.{flag}
 use Rattle.rules.specs.Settings.{channel}
 use Rattle.rules.specs.Frames.{version, craft, source_bit, vc, map, end_of_header, length_field, bypass, command, spare, ocf_flag, count_length, check_holds}
 use Rattle.rules.specs.Refusals.{channel_at, lane_at, data_wrong, refusals_at, refusals, on_channel, passed, judged, judge}
 use Rattle.rules.proofs.Judged.{neither}
+use Rattle.rules.proofs.Tests.{some_number}
 use Rattle.judge.specs.Judging.{judge_data, judge_map, judge_listed, judge_channel, field_refusal, head_refusal, judge_head, judge_frame}
+use Rattle.judge.specs.Sights.{sight_of}
 
 module _ (s : Setting) (f : List ℕ) where
   -- Rows asked one after another, and what is left where none applies.
-  asked : List Refusal → Verdict → Verdict
+  asked : List Row → Verdict → Verdict
   asked [] v = v
-  asked (r ∷ rs) v = cond r.applies (Refused r.number) (asked rs v)
+  asked (r ∷ rs) v = cond r.applies (Refused (number_of r.refusal)) (asked rs v)
 
-  -- Each row has a number.
-  abbrev Numbered : List Refusal → Type 0
-  Numbered [] = Unit {0}
-  Numbered (r ∷ rs) = (0 < r.number) × Numbered rs
-
-  asked_is : (rs : List Refusal) → Numbered rs → judged s f (given rs) ≡ asked rs (passed s f (channel_at s (vc f) (bypass f)))
+  asked_is : (rs : List Row) → judged s f (given rs) ≡ asked rs (passed s f (channel_at s (vc f) (bypass f)))
   unfolding given judged asked
-  asked_is [] h = refl
-  asked_is (r ∷ rs) h = go r.applies r.number h.0 (asked_is rs h.1)
+  asked_is [] = refl
+  asked_is (r ∷ rs) = go r.applies (number_of r.refusal) (some_number r.refusal) (asked_is rs)
     where
-      go : (t : Bool) (n : ℕ) → 0 < n → judged s f (given rs) ≡ asked rs (passed s f (channel_at s (vc f) (bypass f)))
+      go : (t : Bool) (n : ℕ) → (n ≡ 0 → ⊥) → judged s f (given rs) ≡ asked rs (passed s f (channel_at s (vc f) (bypass f)))
           → judged s f (cond t n (given rs)) ≡ cond t (Refused n) (asked rs (passed s f (channel_at s (vc f) (bypass f))))
-      go true zero k e = absurd (not-suc-le-zero k)
+      go true zero k e = absurd (k refl)
       go true (suc n) k e = unfold judged in refl
       go false n k e = e
 
@@ -100,15 +98,11 @@ module _ (s : Setting) (f : List ℕ) where
       go false false false true = refl
       go false false false false = refl
 
-  all-numbered : (p : Option ℕ) → Numbered (refusals_at s f p)
-  unfolding refusals_at
-  all-numbered p = omega arith
-
   pub judge-frame : judge s f ≡ judge_frame s f
   unfolding judge refusals refusals_at judge_frame judge_head asked
   judge-frame =
       let p : Option ℕ = channel_at s (vc f) (bypass f) in
-      asked_is (refusals_at s f p) (all-numbered p)
+      asked_is (refusals_at s f p)
       ∙ ap
       (λ (v : Verdict). cond (length f ≠? s.length) (Refused 3)
       (cond (not (check_holds s f)) (Refused 4)
@@ -118,3 +112,10 @@ module _ (s : Setting) (f : List ℕ) where
       (cond (length_field f ≠? (s.length - 1) || spare f ≠? 0b00 || (command f =? 1 && bypass f =? 0)) (Refused 8) v))))))
       (late-rows p)
       ∙ ap (λ (v : Verdict). cond (length f ≠? s.length) (Refused 3) (cond (not (check_holds s f)) (Refused 4) v)) (head_rows (judge_channel s f p))
+
+  -- Refused by 5 to 8.
+  pub refused-head : (e : Refusal) → number_of e ≡ head_refusal s (head_of f) → length f ≡ s.length → check_holds s f ≡ true
+      → Err (number_of e) ≡ sight_of s f (judge s f)
+  unfolding judge_frame judge_head sight_of
+  refused-head e n l k =
+      rw (judge-frame, eq-eqb _ _ l, k, sym n, ne_eqb _ _ (some_number e))

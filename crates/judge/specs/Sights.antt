@@ -1,5 +1,5 @@
 -- What is found of a frame, by the rules' verdict.
-use Rattle.std.specs.Prelude.{◌≡◌, true, ℕ, ◌^◌, ◌<◌, List, length}
+use Rattle.std.specs.Prelude.{◌≡◌, true, ℕ, ◌^◌, ◌<◌, List, length, Result, Ok, Err}
 use Rattle.rules.specs.declared.Setting.{Setting}
 use Rattle.std.specs.Prelude.{Some, None}
 use Rattle.rules.specs.declared.Verdict.{Verdict}
@@ -7,7 +7,7 @@ use Rattle.rules.specs.Settings.{channel, lane, channel_of, zone_at, zone_for, s
 use Rattle.rules.specs.Frames.{count_in, rule_in, pointer_in, points_to}
 use Rattle.judge.specs.declared.Sight.{Sight}
 use Rattle.judge.specs.declared.Sighting.{Sighting}
-use Rattle.judge.specs.declared.Sighting.TheVariants.{Refused, Idle, Seen, Repeat}
+use Rattle.judge.specs.declared.Sighting.TheVariants.{Idle, Seen, Repeat}
 
 -- A frame of channel c that no lane reads.
 abbrev pub counted_sight : ℕ → ℕ → Sight
@@ -26,16 +26,16 @@ read_sight s f l =
       size = zone_for s (channel_of s l) (length f);
     }
 
-unfoldable pub sight_of : Setting → List ℕ → Verdict → Sighting
-sight_of s f (Verdict.Refused n) = Refused n
-sight_of s f Verdict.Idle = Idle
-sight_of s f (Verdict.Counted c) = Seen (counted_sight c (count_in (channel s c) f))
-sight_of s f (Verdict.Read l) = Seen (read_sight s f l)
-sight_of s f (Verdict.Repeat c) = Repeat c
+-- Of a frame that is refused, by which number.
+unfoldable pub sight_of : Setting → List ℕ → Verdict → Result Sighting ℕ
+sight_of s f (Verdict.Refused n) = Err n
+sight_of s f Verdict.Idle = Ok Idle
+sight_of s f (Verdict.Counted c) = Ok (Seen (counted_sight c (count_in (channel s c) f)))
+sight_of s f (Verdict.Read l) = Ok (Seen (read_sight s f l))
+sight_of s f (Verdict.Repeat c) = Ok (Repeat c)
 
 -- A count that was seen is one of its channel's.
 abbrev pub Fitting : Setting → Sighting → Type 0
-Fitting s (Refused n) = Unit {0}
 Fitting s Idle = Unit {0}
 Fitting s (Seen x) = x.count < 256 ^ (channel s x.channel).octets
 Fitting s (Repeat c) = Unit {0}

@@ -9,8 +9,8 @@ use lib.Dec.{eqb}
 use borrow.Author.Tests.{eqb-true, eq-eqb}
 use Rattle.rules.specs.declared.Setting.{Setting}
 use Rattle.rules.specs.declared.Writer.{Writer}
-use Rattle.rules.specs.declared.Outcome.{Outcome}
-use Rattle.rules.specs.declared.Outcome.TheVariants.{Done, Refused}
+use Rattle.std.specs.Prelude.{Result, Ok, Err, is_ok}
+use Rattle.rules.specs.declared.Refusal.{Refusal}
 use Rattle.rules.specs.Tests
 use Rattle.rules.specs.Octets
 use Rattle.rules.specs.Areas
@@ -66,14 +66,9 @@ lists-not xs ys n e =
     false≢true (sym n ∙ ap (λ (zs : List (List (List ℕ))). same_lists xs zs) (sym e) ∙ h)
 
 -- The calls' order.
-unfoldable pub done : Outcome → Bool
-done Done = true
-done (Refused n) = false
-
-done_is : (o : Outcome) → done o ≡ true → o ≡ Done
-unfolding done
-done_is Done e = refl
-done_is (Refused n) e = absurd (false≢true e)
+done_is : (o : Result Unit Refusal) → is_ok o ≡ true → o ≡ Ok tt
+done_is (Ok x) e = refl
+done_is (Err n) e = absurd (false≢true e)
 
 unfoldable pub in_turn : Writer → (ℕ → List ℕ) → Link.Call → Bool
 in_turn w last x = eqb (Settings.number w x.lane) 0 || alike eqb x.batch (last x.lane)
@@ -91,7 +86,7 @@ unfoldable pub ordered : Writer → (ℕ → List ℕ) → List (Link.Event Link
 ordered w last [] = true
 ordered w last (Link.Writes x ∷ es) =
     let o : Calls.Sent = Link.called w x in
-    done o.sender.outcome && (in_turn w last x && ordered o.sender.state (Demand.lending x.lane x.batch last) es)
+    is_ok o.sender.outcome && (in_turn w last x && ordered o.sender.state (Demand.lending x.lane x.batch last) es)
 ordered w last (Link.Copy c lent ∷ es) = ordered w last es
 ordered w last (Link.Stray f lent ∷ es) = ordered w last es
 
@@ -99,7 +94,7 @@ pub ordered_is : (w : Writer) (last : ℕ → List ℕ) (es : List (Link.Event L
 unfolding ordered
 ordered_is w last [] e = tt
 ordered_is w last (Link.Writes x ∷ es) e =
-    let a = (and-eq-true_iff (done (Link.called w x).sender.outcome) _).0 e in
+    let a = (and-eq-true_iff (is_ok (Link.called w x).sender.outcome) _).0 e in
     let b = (and-eq-true_iff (in_turn w last x) _).0 a.1 in (
       done_is (Link.called w x).sender.outcome a.0,
       turn_is w last x b.0,
@@ -110,11 +105,11 @@ ordered_is w last (Link.Stray f lent ∷ es) e = ordered_is w last es e
 
 -- To unfold these is to unfold every test, and every definition of the specs.
 unfoldable pub tests : ℕ
-unfolding alike done in_turn ordered
+unfolding alike in_turn ordered
 tests = zero
 
 unfoldable pub all : ℕ
-unfolding Tests.all Tests.every Tests.first Tests.given Octets.be Octets.num Octets.widths Octets.packed Octets.bits Octets.check_bit Octets.check_bits Octets.check_from Octets.check_of Areas.laid Areas.joined Settings.zone Settings.ranges_ok Settings.channel_ok Settings.channels_agree Settings.channels_ok Settings.kind_ok Settings.lane_ok Settings.lanes_differ Settings.lanes_ok Settings.setting_ok Settings.fresh_reader Settings.fresh_writer Settings.slot_ok Settings.reader_ok Settings.writer_ok Frames.header Frames.primary Frames.data_header Frames.body Frames.checked Frames.count_in Frames.rule_in Frames.upid_in Frames.pointer_in Frames.zone_in Frames.check_holds Frames.points_to Packets.sized Packets.space_packet Packets.total_in Packets.totalled Packets.alone Packets.encapsulated Packets.headed Packets.measured Packets.measure Packets.packets_up_to Packets.packets Writing.none_above Writing.batch_ok Writing.frames Writing.zone_of Writing.rule_of Writing.start_from Writing.offset_of Writing.inside Writing.pointer_of Writing.frame_of Writing.number_after Writing.count_after Writing.writer_after Reading.missing Reading.expected Reading.last_taken Reading.repeats Reading.emptied Reading.lost Reading.gap_by Reading.gap Reading.carries Reading.both Reading.end_fate Reading.cut_fate Reading.joined_fate Reading.lead_fate Reading.lead Reading.sized_next Reading.cut_next Reading.next_of Reading.walk_up_to Reading.walk Reading.packet_lane Reading.unit_fate Reading.follow_fate Reading.portion Reading.access_lane Reading.lane_step Reading.record_of Reading.records_from Reading.info_of Refusals.channel_at Refusals.lane_at Refusals.rule_fits Refusals.data_wrong Refusals.refusals_at Refusals.refusals Refusals.on_channel Refusals.passed Refusals.judged Refusals.judge Calls.refusal_of Calls.class_refusal Calls.set_up_reader Calls.set_up_writer Calls.write_refusals Calls.written Calls.write Calls.areas_short Calls.laid_out Calls.made_by Calls.read_on Calls.repeats_at Calls.again Calls.on_verdict Calls.read_refusals Calls.verdict Calls.read Calls.look_refusals Calls.looked Calls.missing_at Calls.on_look Calls.look Worked.worked Worked.sent_by Worked.sends Worked.read_by Worked.reads Worked.each Worked.data_headers Worked.packet_of Errors.paired Errors.sealed Errors.packet_frame Errors.access_frame Errors.forged Errors.shown Errors.refused Errors.errors Errors.edges Errors.copies Errors.wide Errors.spans Families.families Link.called Link.frame_by Link.arrives Link.flown Link.sent Link.sending Link.arrivals Link.reads Link.unit_by Link.units_by Link.handed Link.handed_out Due.ending Due.back_to Due.none_gone Due.clean Due.frames_on Due.span_back Due.due_in Due.due Demand.lending Demand.enough Demand.inert Demand.passes Demand.all_pass Demand.kept_on Demand.few_gone Corollaries.units_sent Corollaries.units_ended Corollaries.after_calls Corollaries.sent_before Corollaries.all_kept Examples.packet Examples.wide Examples.slim Examples.full Examples.roomy Examples.call Examples.row Examples.strings Examples.closing Examples.calls Examples.wanted Examples.unharmed Examples.mixed Examples.long Examples.wanted_long Examples.gap_of Examples.on_each Examples.got Examples.due_on_each Examples.owed
+unfolding Tests.all Tests.every Tests.first Tests.given Tests.answered Octets.be Octets.num Octets.widths Octets.packed Octets.bits Octets.check_bit Octets.check_bits Octets.check_from Octets.check_of Areas.laid Areas.joined Settings.zone Settings.ranges_ok Settings.channel_ok Settings.channels_agree Settings.channels_ok Settings.kind_ok Settings.lane_ok Settings.lanes_differ Settings.lanes_ok Settings.setting_ok Settings.fresh_reader Settings.fresh_writer Settings.slot_ok Settings.reader_ok Settings.writer_ok Frames.header Frames.primary Frames.data_header Frames.body Frames.checked Frames.count_in Frames.rule_in Frames.upid_in Frames.pointer_in Frames.zone_in Frames.check_holds Frames.points_to Packets.sized Packets.space_packet Packets.total_in Packets.totalled Packets.alone Packets.encapsulated Packets.headed Packets.measured Packets.measure Packets.packets_up_to Packets.packets Writing.none_above Writing.batch_ok Writing.frames Writing.zone_of Writing.rule_of Writing.start_from Writing.offset_of Writing.inside Writing.pointer_of Writing.frame_of Writing.number_after Writing.count_after Writing.writer_after Reading.missing Reading.expected Reading.last_taken Reading.repeats Reading.emptied Reading.lost Reading.gap_by Reading.gap Reading.carries Reading.both Reading.end_fate Reading.cut_fate Reading.joined_fate Reading.lead_fate Reading.lead Reading.sized_next Reading.cut_next Reading.next_of Reading.walk_up_to Reading.walk Reading.packet_lane Reading.unit_fate Reading.follow_fate Reading.portion Reading.access_lane Reading.lane_step Reading.record_of Reading.records_from Reading.info_of Refusals.channel_at Refusals.lane_at Refusals.rule_fits Refusals.data_wrong Refusals.refusals_at Refusals.refusals Refusals.on_channel Refusals.passed Refusals.judged Refusals.judge Calls.refusal_of Calls.class_refusal Calls.set_up_reader Calls.set_up_writer Calls.write_refusals Calls.written Calls.write Calls.areas_short Calls.laid_out Calls.made_by Calls.read_on Calls.repeats_at Calls.again Calls.on_verdict Calls.read_refusals Calls.verdict Calls.read Calls.look_refusals Calls.looked Calls.missing_at Calls.on_look Calls.look Worked.worked Worked.sent_by Worked.sends Worked.read_by Worked.reads Worked.each Worked.data_headers Worked.packet_of Errors.paired Errors.sealed Errors.packet_frame Errors.access_frame Errors.forged Errors.shown Errors.refused Errors.errors Errors.edges Errors.copies Errors.wide Errors.spans Families.families Link.called Link.frame_by Link.arrives Link.flown Link.sent Link.sending Link.arrivals Link.reads Link.unit_by Link.units_by Link.handed Link.handed_out Due.ending Due.back_to Due.none_gone Due.clean Due.frames_on Due.span_back Due.due_in Due.due Demand.lending Demand.enough Demand.inert Demand.passes Demand.all_pass Demand.kept_on Demand.few_gone Corollaries.units_sent Corollaries.units_ended Corollaries.after_calls Corollaries.sent_before Corollaries.all_kept Examples.packet Examples.wide Examples.slim Examples.full Examples.roomy Examples.call Examples.row Examples.strings Examples.closing Examples.calls Examples.wanted Examples.unharmed Examples.mixed Examples.long Examples.wanted_long Examples.gap_of Examples.on_each Examples.got Examples.due_on_each Examples.owed
 all = zero
 
 abbrev pub Orderly : Setting → List (Link.Event Link.Call) → Type 0

@@ -11,8 +11,7 @@ use Rattle.rules.specs.declared.Reader.{Reader}
 use Rattle.rules.specs.declared.Writer.{Writer}
 use Rattle.std.specs.Prelude.{Option}
 use Rattle.std.specs.Prelude.{Some, None}
-use Rattle.rules.specs.declared.Outcome.{Outcome}
-use Rattle.rules.specs.declared.Outcome.TheVariants.{Done, Refused}
+use Rattle.std.specs.Prelude.{Option, Some, None}
 use Rattle.rules.specs.declared.Verdict.{Verdict}
 use Rattle.rules.specs.Tests.{◌=?◌, ◌≠?◌, given}
 use Rattle.rules.specs.Settings.{reader_ok}
@@ -32,18 +31,18 @@ use Rattle.rules.specs.Areas.{held_size}
 
 -- ---- one read
 
-abbrev refusal : Verdict → Outcome
-refusal (Verdict.Refused n) = Refused n
-refusal Verdict.Idle = Done
-refusal (Verdict.Counted c) = Done
-refusal (Verdict.Read l) = Done
-refusal (Verdict.Repeat c) = Done
+abbrev refusal : Verdict → Option ℕ
+refusal (Verdict.Refused n) = Some n
+refusal Verdict.Idle = None
+refusal (Verdict.Counted c) = None
+refusal (Verdict.Read l) = None
+refusal (Verdict.Repeat c) = None
 
 -- A repeat is not refused, as it would not be if it were none.
 again_is : (r : Reader) (f : List ℕ) (v : Verdict) → refusal (again r f v) ≡ refusal v
 again_is r f v = again-cases r f (λ (w : Verdict). refusal w ≡ refusal v) v (λ n. refl) (λ c t e. on v c t)
   where
-    on : (v : Verdict) (c : ℕ) → TakenOn r.setting v c → Done ≡ refusal v
+    on : (v : Verdict) (c : ℕ) → TakenOn r.setting v c → None ≡ refusal v
     on (Verdict.Refused n) c t = absurd t
     on Verdict.Idle c t = refl
     on (Verdict.Counted k) c t = refl
@@ -54,15 +53,15 @@ judged_is : (s : Setting) (f : List ℕ) (n : ℕ) → refusal (judged s f n) �
 unfolding judged refused_by passed on_channel
 judged_is s f zero = by-channel (channel_at s (vc f) (bypass f))
   where
-    by-test : (c l : ℕ) (t : Bool) → refusal (cond t (Verdict.Counted c) (Verdict.Read l)) ≡ Done
+    by-test : (c l : ℕ) (t : Bool) → refusal (cond t (Verdict.Counted c) (Verdict.Read l)) ≡ None
     by-test c l true = refl
     by-test c l false = refl
 
-    by-lane : (c : ℕ) (p : Option ℕ) → refusal (on_channel f c p) ≡ Done
+    by-lane : (c : ℕ) (p : Option ℕ) → refusal (on_channel f c p) ≡ None
     by-lane c None = refl
     by-lane c (Some l) = by-test c l (command f =? 1)
 
-    by-channel : (p : Option ℕ) → refusal (passed s f p) ≡ Done
+    by-channel : (p : Option ℕ) → refusal (passed s f p) ≡ None
     by-channel None = refl
     by-channel (Some c) = by-lane c (lane_at s c (map f))
 judged_is s f (suc n) = refl

@@ -11,7 +11,8 @@ use Rattle.rules.specs.declared.Slot.{Slot}
 use Rattle.rules.specs.declared.Writer.{Writer}
 use Rattle.rules.specs.declared.Listener.{Listener}
 use Rattle.rules.specs.declared.Sender.{Sender}
-use Rattle.rules.specs.declared.Outcome.TheVariants.{Done, Refused}
+use Rattle.std.specs.Prelude.{Ok, Err}
+use Rattle.rules.specs.declared.Refusal.{Refusal}
 use Rattle.rules.specs.Areas.{part, held_size}
 use Rattle.rules.specs.Settings.{no_slot, channel_of, zone, setting_ok, fresh_reader, fresh_writer, no_writer}
 use Rattle.rules.specs.Reading.{held_in}
@@ -55,12 +56,12 @@ module _ (s : Setting) where
 
 -- ---- fresh ends
 
-writer_accepted : (s : Setting) → (set_up_writer s).outcome ≡ Done → setting_ok s ≡ true
+writer_accepted : (s : Setting) → (set_up_writer s).outcome ≡ Ok tt → setting_ok s ≡ true
 unfolding set_up_writer
 writer_accepted s e = go (setting_ok s) e
   where
-    go : (t : Bool) → (cond {A = Sender} t (record { outcome = Done; state = fresh_writer s }) (record { outcome = Refused 1; state = no_writer })).outcome
-        ≡ Done → t ≡ true
+    go : (t : Bool) → (cond {A = Sender} t (record { outcome = Ok tt; state = fresh_writer s }) (record { outcome = Err Refusal.Invalid; state = no_writer })).outcome
+        ≡ Ok tt → t ≡ true
     go true q = refl
     go false q = let z : ◌≡◌ {A = ℕ} 0 1 = cc in absurd (omega arith)
 
@@ -81,7 +82,7 @@ module _ (s : Setting) (h : List ℕ) (full : length h ≡ held_size) where
       empty l lh = get_or-replicate 8 l no_slot no_slot (omega (arith, (good s ok).numbered))
 
   -- Those that set-up leaves.
-  pub fresh-ends : (set_up_writer s).outcome ≡ Done → Fresh (uslp s) (set_up_writer s).state (record { reader = (set_up_reader s).state; area = h })
+  pub fresh-ends : (set_up_writer s).outcome ≡ Ok tt → Fresh (uslp s) (set_up_writer s).state (record { reader = (set_up_reader s).state; area = h })
   fresh-ends e =
       let ok : setting_ok s ≡ true = writer_accepted s e in
       let both = setup_accepted s ok in
@@ -91,7 +92,7 @@ module _ (s : Setting) (h : List ℕ) (full : length h ≡ held_size) where
 -- ---- demand 3
 
 -- An accepted setting is good.
-pub good_setting : (s : Setting) → (set_up_writer s).outcome ≡ Done → Good s
+pub good_setting : (s : Setting) → (set_up_writer s).outcome ≡ Ok tt → Good s
 good_setting s e = good s (writer_accepted s e)
 
 pub demand : Demand

@@ -17,18 +17,17 @@ use Rattle.rules.specs.declared.Expects.{Expects}
 use Rattle.rules.specs.declared.Slot.{Slot}
 use Rattle.rules.specs.declared.Reader.{Reader}
 use Rattle.rules.specs.declared.Writer.{Writer}
-use Rattle.rules.specs.declared.Outcome.TheVariants.{Done}
-use Rattle.rules.specs.Tests.{given}
+use Rattle.std.specs.Prelude.{Ok}
 use Rattle.rules.specs.Areas.{laid, held_size, part_size}
 use Rattle.rules.specs.Settings.{channel, lane, channel_of, expect_on, expect, expecting, count, number, zone, reader_ok}
 use Rattle.rules.specs.Writing.{units_of, count_after, writer_after}
 use Rattle.rules.specs.Reading.{missing, expected, repeats, DataUnit, Made}
-use Rattle.rules.specs.Calls.{write_refusals, written, write, Got, read}
+use Rattle.rules.specs.Calls.{written, write, Got, read}
 use Rattle.rules.specs.Valid.{Good}
 use Rattle.rules.proofs.States
 use Rattle.rules.proofs.Counts.{counts_many, few_no_repeat, taken-repeats}
 use Rattle.rules.proofs.Valid.{good_channel_of, good_reader}
-use Rattle.rules.proofs.Calls.{Accepted, none-refused, accepted}
+use Rattle.rules.proofs.Calls.{Accepted, none-refused, write-answered, accepted}
 use Rattle.rules.proofs.Written.{FrameBack, write_back, zone-small}
 use Rattle.link.specs.Link.{Call, called, place_of, start_of, frame_by, Lent, place_in, Arrival, handed}
 use Rattle.link.specs.Demand.{enough, inert}
@@ -88,7 +87,7 @@ module _ (s : Setting) where
         expect = λ (r : Hearer) (l : ℕ). expect r.reader (place_of s l);
         held = λ (r : Hearer) (l : ℕ). holds r.reader.slots r.area l;
         Goes = λ (w : Writer) (last : ℕ → List ℕ) (x : Call).
-            ((called w x).sender.outcome ≡ Done) × ((number w x.lane ≡ 0) ⊎ (x.batch ≡ last x.lane));
+            ((called w x).sender.outcome ≡ Ok tt) × ((number w x.lane ≡ 0) ⊎ (x.batch ≡ last x.lane));
         Enough = λ (a : Lent). enough a ≡ true;
         Inert = λ (a : Arrival). inert s a.octets ≡ true;
         SoundWriter = SoundWriter;
@@ -126,9 +125,7 @@ module _ (w : Writer) (last : ℕ → List ℕ) (x : Call) (kept : Bool) (go : (
 
   leaves : (called w x).sender.state ≡ writer_after w i x.batch
   unfolding called write written
-  leaves =
-      let z : given (write_refusals w i x.batch x.insert x.ocf x.area) ≡ 0 = accepted w i x.batch x.insert x.ocf x.area go.0 in
-      rw z
+  leaves = rw (sym (write-answered w i x.batch x.insert x.ocf x.area) ∙ go.0)
 
   g : Good s
   g = takes.good.setting

@@ -1,10 +1,8 @@
 -- What follows from demand 3, in the words in which it will be quoted: which units come out where nothing is gone, everything is gone, or nothing
 -- is gone from here on; and which octets a run refuses.
-use Rattle.std.specs.Prelude.{◌≡◌, ℕ, zero, suc, Bool, true, cond, not, ◌&&◌, List, [], ◌∷◌, ◌++◌}
+use Rattle.std.specs.Prelude.{◌≡◌, ℕ, zero, suc, Bool, true, cond, not, ◌&&◌, List, [], ◌∷◌, ◌++◌, Option, Some, None}
 use Rattle.rules.specs.declared.Setting.{Setting}
 use Rattle.rules.specs.declared.Writer.{Writer}
-use Rattle.rules.specs.declared.Outcome.{Outcome}
-use Rattle.rules.specs.declared.Outcome.TheVariants.{Done, Refused}
 use Rattle.rules.specs.declared.Class.{Class}
 use Rattle.rules.specs.Tests.{◌=?◌, given}
 use Rattle.rules.specs.Settings.{number}
@@ -97,25 +95,25 @@ LaterBatches =
 
 -- ---- refused octets
 
--- How a read ends: refused by a number, or not refused.
-unfoldable pub end_of : Class → Outcome
-end_of Class.Idle = Done
-end_of Class.Counted = Done
-end_of Class.Read = Done
-end_of Class.Repeat = Done
-end_of (Class.Refused n) = Refused n
+-- The number that a read is refused by, if it is.
+unfoldable pub end_of : Class → Option ℕ
+end_of Class.Idle = None
+end_of Class.Counted = None
+end_of Class.Read = None
+end_of Class.Repeat = None
+end_of (Class.Refused n) = Some n
 
-unfoldable pub ends : List Got → List Outcome
+unfoldable pub ends : List Got → List (Option ℕ)
 ends [] = []
 ends (o ∷ os) = end_of o.taken.answer.class ∷ ends os
 
 -- Refused by this number; 0 is none.
-unfoldable pub refused_by : ℕ → Outcome
-refused_by zero = Done
-refused_by (suc n) = Refused (suc n)
+unfoldable pub refused_by : ℕ → Option ℕ
+refused_by zero = None
+refused_by (suc n) = Some (suc n)
 
 -- What refusals 3 to 12 say of octets: the first that applies.
-unfoldable pub applying : Setting → List Arrival → List Outcome
+unfoldable pub applying : Setting → List Arrival → List (Option ℕ)
 applying s [] = []
 applying s (a ∷ more) = refused_by (given (refusals s a.octets)) ∷ applying s more
 

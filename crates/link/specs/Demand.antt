@@ -1,10 +1,9 @@
 -- Demand 3. Two fresh ends of one accepted setting, a list of calls of the writer, a sender that may send each frame several times running (document
 -- 02, A3), and a link that loses copies: lane by lane, what the reads hand out is, in sending order and octet for octet, the list of exactly those
 -- units that lost no frame, and their records have the counts and spans of the frames written (document 02, A2).
-use Rattle.std.specs.Prelude.{◌≡◌, ◌⊎◌, ℕ, suc, ◌-◌, ◌^◌, ◌<◌, Bool, true, false, cond, not, ◌&&◌, ◌||◌, List, [], ◌∷◌, ◌++◌, length}
+use Rattle.std.specs.Prelude.{◌≡◌, ◌⊎◌, ℕ, suc, ◌-◌, ◌^◌, ◌<◌, Bool, true, false, cond, not, ◌&&◌, ◌||◌, List, [], ◌∷◌, ◌++◌, length, Ok}
 use Rattle.rules.specs.declared.Setting.{Setting}
 use Rattle.rules.specs.declared.Writer.{Writer}
-use Rattle.rules.specs.declared.Outcome.TheVariants.{Done}
 use Rattle.rules.specs.Tests.{◌≤?◌, ◌<?◌, ◌=?◌, ◌≠?◌, given}
 use Rattle.rules.specs.Settings.{channel, number}
 use Rattle.rules.specs.Refusals.{refusals}
@@ -24,7 +23,7 @@ lending l batch last i = cond (i =? l) batch (last i)
 abbrev pub InOrder : Writer → (ℕ → List ℕ) → List (Event Call) → Type 0
 InOrder w last [] = Unit {0}
 InOrder w last (Writes x ∷ es) =
-    ((called w x).sender.outcome ≡ Done)
+    ((called w x).sender.outcome ≡ Ok tt)
     × ((number w x.lane ≡ 0) ⊎ (x.batch ≡ last x.lane))
     × InOrder (called w x).sender.state (lending x.lane x.batch last) es
 InOrder w last (Copy c lent ∷ es) = InOrder w last es
@@ -79,8 +78,8 @@ reads_of s held es = reads (set_up_reader s).state held (arrivals_of s es)
 -- "Two fresh ends of one accepted setting; a list of calls of the writer; each frame kept, or gone": what is asked of all but the
 -- number of frames gone. The held area is of the size asked for, with anything in it: no lane holds octets yet.
 pub record Run (s : Setting) (held : List ℕ) (es : List (Event Call)) : Type 0 where
-  pub writer : (set_up_writer s).outcome ≡ Done
-  pub reader : (set_up_reader s).outcome ≡ Done
+  pub writer : (set_up_writer s).outcome ≡ Ok tt
+  pub reader : (set_up_reader s).outcome ≡ Ok tt
   pub calls : InOrder (set_up_writer s).state (λ (l : ℕ). []) es
   pub area : length held ≡ held_size
   pub link : all_pass s es ≡ true

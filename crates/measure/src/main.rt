@@ -5,7 +5,7 @@
 
 ghost use Rattle.std.specs.Prelude.{◌≡◌, ◌+◌, ◌%◌, ◌≤◌, ◌∷◌, get_or};
 
-use rules::{Answer, Channel, Lane, Looked, Outcome, Reader, Setting, Writer};
+use rules::{Answer, Channel, Lane, Looked, Reader, Setting, Writer};
 
 // ---- numbers
 
@@ -167,10 +167,7 @@ impl Course {
         self.state = t.state;
         self.frames = plus(self.frames, 1);
         self.sum = sum_of(&[self.sum, last(area, size / 2), last(area, size)]);
-        match t.outcome {
-            Outcome::Done => t.state.next[0] != 0,
-            Outcome::Refused(_) => false,
-        }
+        t.outcome.is_ok() && t.state.next[0] != 0
     }
 
     // All frames of a batch.

@@ -9,7 +9,7 @@ ghost use Rattle.obey.specs.Requests.{asked, sent, written, sizes_in, read_in, w
 ghost use Rattle.obey.specs.Requests.{Means, desk_after, obeyed};
 
 use rows::{put_reader, put_row, put_writer, reader_in, setting_in, word_in, writer_in};
-use rules::{Answer, Class, Listener, Looked, Outcome, Reader, Sender, Taken, Writer};
+use rules::{Answer, Class, Listener, Looked, Reader, Refusal, Sender, Taken, Writer};
 
 // The frame that is read: the first octets of the frame area, or the octets behind the row.
 #[derive(Clone, Copy)]
@@ -110,12 +110,12 @@ fn lay_asked(q: &[u8], area: &mut [u8])
 
 // 0, or the refusal's number.
 #[tactic(auto, unfolding(rules::specs::Calls::refusal_of))]
-fn refusal_of(o: Outcome) -> u64
+fn refusal_of(o: Result<(), Refusal>) -> u64
     ensures { result ≡ refusal_of o }
 {
     match o {
-        Outcome::Done => 0,
-        Outcome::Refused(n) => n as u64,
+        Ok(()) => 0,
+        Err(refusal) => refusal.number() as u64,
     }
 }
 

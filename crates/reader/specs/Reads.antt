@@ -1,5 +1,5 @@
 -- What a read's parts are lent and hand back.
-use Rattle.std.specs.Prelude.{◌≡◌, Bool, cond, ◌||◌, ℕ, ◌+◌, ◌≤◌, List, length}
+use Rattle.std.specs.Prelude.{◌≡◌, Bool, cond, ◌||◌, ℕ, ◌+◌, ◌≤◌, List, length, Ok}
 use Rattle.rules.specs.declared.Class.{Class}
 use Rattle.rules.specs.declared.Gap.{Gap}
 use Rattle.rules.specs.declared.Reader.{Reader}
@@ -66,6 +66,6 @@ counted_of g = record { answer = counted g; state = g.state }
 
 -- A sight of this frame, found by the checks of a read that refuse nothing, with as many frames missing.
 pub record SeenOn (r : Reader) (x : Sight) (m : ℕ) (f h u c : List ℕ) : Type 0 where
-  pub found : Seen x ≡ sight_of r.setting f (verdict r f h u c)
+  pub found : Ok (Seen x) ≡ sight_of r.setting f (verdict r f h u c)
   pub missing : m ≡ missing_at r x.channel x.count
   pub sound : Sound r (Seen x)

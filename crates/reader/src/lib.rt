@@ -4,10 +4,10 @@
 
 pub mod choices;
 
-ghost use Rattle.std.specs.Prelude.{◌≡◌, ◌≤◌, ◌<◌};
-ghost use Rattle.std.specs.Prelude.{None};
+ghost use Rattle.std.specs.Prelude.{◌≡◌, ◌≤◌, ◌<◌, IfOk};
 ghost use Rattle.rules.specs.Settings.{channel_of};
-ghost use Rattle.rules.specs.Calls.{read_on, bare, verdict, looked};
+ghost use Rattle.rules.specs.Calls.{read_on, bare, verdict, looked, by_number};
+ghost use Rattle.rules.specs.Tests.{number_of};
 ghost use Rattle.rules.specs.Promises.{ReaderStarts, ReadGives, LookGives};
 ghost use Rattle.rules.specs.Passes.{whose as whoseIn, seen, PassGives};
 ghost use Rattle.judge.specs.Sights.{read_sight, sight_of};
@@ -18,7 +18,7 @@ ghost use Rattle.rules.specs.Areas.{held_size, units_size};
 use judge::{Sight, Sighting};
 use lanes::units::{Stand, Terms};
 use rules::{
-    Answer, Class, Gap, Info, Listener, Looked, Outcome, Passed, Reader, Setting, Taken, Verdict,
+    Answer, Class, Gap, Info, Listener, Looked, Passed, Reader, Refusal, Setting, Taken, Verdict,
 };
 
 // ---- what a lane makes of a frame
@@ -29,20 +29,19 @@ fn terms_for(s: Setting, c: usize, l: usize, k: u64) -> Terms
     ensures { result ≡ terms_for s c l k }
 {
     let lanes = s.lanes;
-    let a = lanes[l];
+    let lane = lanes[l];
     let channels = s.channels;
-    let ch = channels[c];
-    let kind = a.kind;
+    let channel = channels[c];
     Terms {
         info: Info {
             lane: l as u8,
-            vc: ch.vc,
-            map: a.map,
-            service: ch.service,
+            vc: channel.vc,
+            map: lane.map,
+            service: channel.service,
             count: k,
         },
-        longest: a.longest as usize,
-        kind: kind,
+        longest: lane.longest as usize,
+        kind: lane.kind,
     }
 }
 
@@ -52,12 +51,8 @@ fn taken_of(g: Gap, l: usize, led: Stand) -> Taken
     ensures { result ≡ taken_of g l led }
 {
     let tally = led.tally;
-    let r = g.state;
-    let s = r.setting;
-    let expects = r.expects;
-    let slots = r.slots;
-    let slot = led.slot;
-    let slots = setting::with_slot(slots, l, slot);
+    let mut state = g.state;
+    state.slots = setting::with_slot(state.slots, l, led.slot);
     Taken {
         answer: Answer {
             class: Class::Read,
@@ -68,11 +63,7 @@ fn taken_of(g: Gap, l: usize, led: Stand) -> Taken
             fill: tally.fill,
             dropped: g.dropped + tally.dropped,
         },
-        state: Reader {
-            setting: s,
-            expects: expects,
-            slots: slots,
-        },
+        state,
     }
 }
 
@@ -82,25 +73,12 @@ fn read_on(g: Gap, l: usize, x: Sight, f: &[u8], h: &mut [u8], u: &mut [u8], c: 
     ensures { record { taken = result; held_area = h.new; unit_area = u.new; record_area = c.new } ≡ read_on g l (channel_of g.state.setting l) f.now h.old u.old c.old }
 {
     let r = g.state;
-    let s = r.setting;
-    let terms = terms_for(s, x.channel, l, x.count);
-    let slots = r.slots;
-    let slot = setting::slot_of(slots, l);
-    let place = x.place;
-    let begin = x.begin;
-    let end = begin + x.size;
+    let terms = terms_for(r.setting, x.channel, l, x.count);
+    let slot = setting::slot_of(r.slots, l);
+    let zone = &f[x.begin..x.begin + x.size];
     let from = rules::PART_SIZE * l;
-    let to = from + rules::PART_SIZE;
-    let led = lanes::lane_step(
-        terms,
-        slot,
-        place,
-        x.rule,
-        &f[begin..end],
-        &mut h[from..to],
-        u,
-        c,
-    );
+    let part = &mut h[from..from + rules::PART_SIZE];
+    let led = lanes::lane_step(terms, slot, x.place, x.rule, zone, part, u, c);
     taken_of(g, l, led)
 }
 
@@ -110,18 +88,16 @@ fn read_on(g: Gap, l: usize, x: Sight, f: &[u8], h: &mut [u8], u: &mut [u8], c: 
 pub fn set_up(s: Setting) -> Listener
     ensures { ReaderStarts s result }
 {
-    let ok = setting::setting_ok(s);
-    if ok {
-        let r = setting::fresh_reader(s);
-        return Listener {
-            outcome: Outcome::Done,
-            state: r,
-        };
-    }
-    let r = setting::no_reader();
-    Listener {
-        outcome: Outcome::Refused(1),
-        state: r,
+    if setting::setting_ok(s) {
+        Listener {
+            outcome: Ok(()),
+            state: setting::fresh_reader(s),
+        }
+    } else {
+        Listener {
+            outcome: Err(Refusal::Invalid),
+            state: setting::no_reader(),
+        }
     }
 }
 
@@ -129,13 +105,7 @@ pub fn set_up(s: Setting) -> Listener
 fn areas_short(held: usize, units: usize, records: usize) -> bool
     ensures { result ≡ short_of held units records }
 {
-    if held != rules::HELD_SIZE {
-        return true;
-    }
-    if units < rules::UNITS_SIZE {
-        return true;
-    }
-    records < rules::RECORDS_SIZE
+    held != rules::HELD_SIZE || units < rules::UNITS_SIZE || records < rules::RECORDS_SIZE
 }
 
 // ---- the one judgement
@@ -152,27 +122,21 @@ fn again(r: Reader, v: Sighting) -> Sighting
     requires { Sound r v }
     ensures { result ≡ again_of r v }
 {
-    let Sighting::Seen(x) = v else {
-        return v;
-    };
-    let repeats = gaps::repeats_at(r, x.channel, x.count);
-    if repeats {
-        return Sighting::Repeat(x.channel);
+    match v {
+        Sighting::Seen(x) if gaps::repeats_at(r, x.channel, x.count) => Sighting::Repeat(x.channel),
+        _ => v,
     }
-    v
 }
 
 // What a frame is, where no area is lent: the state first, then the frame's checks, and only then whether it is a repeat.
-fn sight_of(r: Reader, frame: &[u8]) -> Sighting
-    ensures { (result ≡ sight_of r.setting frame.now (looked r frame.now)) × Sound r result }
+fn sight_of(r: Reader, frame: &[u8]) -> Result<Sighting, Refusal>
+    ensures { (by_number result ≡ sight_of r.setting frame.now (looked r frame.now)) × IfOk result (λ v. Sound r v) }
 {
-    let valid = setting::reader_ok(r);
-    if valid {
-        let s = r.setting;
-        let v = judge::judge_frame(s, frame);
-        return again(r, v);
+    if !setting::reader_ok(r) {
+        return Err(Refusal::Invalid);
     }
-    Sighting::Refused(1)
+    let v = judge::judge_frame(r.setting, frame)?;
+    Ok(again(r, v))
 }
 
 // How many frames are missing before a frame that is this. Before a repeat none are: its count is not taken.
@@ -181,23 +145,18 @@ fn missing_before(r: Reader, v: Sighting) -> u64
     ensures { result ≡ missing_for r v }
 {
     match v {
-        Sighting::Refused(_) => 0,
-        Sighting::Idle => 0,
         Sighting::Seen(x) => gaps::missing_at(r, x.channel, x.count),
-        Sighting::Repeat(_) => 0,
+        Sighting::Idle | Sighting::Repeat(_) => 0,
     }
 }
 
 // What is found of a frame.
-fn find(r: Reader, frame: &[u8]) -> Found
-    ensures { (result ≡ found_of r frame.now (looked r frame.now)) × Sound r result.sighting }
+fn find(r: Reader, frame: &[u8]) -> Result<Found, Refusal>
+    ensures { (by_number result ≡ found_of r frame.now (looked r frame.now)) × IfOk result (λ v. Sound r v.sighting) }
 {
-    let v = sight_of(r, frame);
-    let m = missing_before(r, v);
-    Found {
-        sighting: v,
-        missing: m,
-    }
+    let sighting = sight_of(r, frame)?;
+    let missing = missing_before(r, sighting);
+    Ok(Found { sighting, missing })
 }
 
 // ---- look
@@ -217,33 +176,29 @@ fn unread(class: Class, missing: u64, channel: Option<usize>) -> Looked
     ensures { result ≡ record { class = class; missing = missing; channel = channel; lane = None } }
 {
     Looked {
-        missing: missing,
-        channel: channel,
+        missing,
+        channel,
         lane: None,
-        class: class,
+        class,
     }
 }
 
 // A look's answer: what was found, as the paper has it.
-fn shown(v: Found) -> Looked
-    ensures { result ≡ shown_of v }
+fn shown(found: Result<Found, Refusal>) -> Looked
+    ensures { result ≡ shown_of (by_number found) }
 {
-    let said = v.sighting;
-    match said {
-        Sighting::Refused(n) => unread(Class::Refused(n), v.missing, None),
-        Sighting::Idle => unread(Class::Idle, v.missing, None),
-        Sighting::Seen(x) => {
-            let on = x.lane;
-            let class = class_on(on);
-            let at = Some(x.channel);
-            Looked {
+    match found {
+        Err(refusal) => unread(Class::Refused(refusal.number()), 0, None),
+        Ok(v) => match v.sighting {
+            Sighting::Idle => unread(Class::Idle, v.missing, None),
+            Sighting::Seen(x) => Looked {
                 missing: v.missing,
-                channel: at,
-                lane: on,
-                class: class,
-            }
-        }
-        Sighting::Repeat(c) => unread(Class::Repeat, v.missing, Some(c)),
+                channel: Some(x.channel),
+                lane: x.lane,
+                class: class_on(x.lane),
+            },
+            Sighting::Repeat(c) => unread(Class::Repeat, v.missing, Some(c)),
+        },
     }
 }
 
@@ -251,22 +206,19 @@ fn shown(v: Found) -> Looked
 pub fn look(r: Reader, frame: &[u8]) -> Looked
     ensures { LookGives r frame.now result }
 {
-    let v = find(r, frame);
-    shown(v)
+    shown(find(r, frame))
 }
 
 // Whose a frame is that a look says this of.
+#[tactic(auto, unfolding(rules::specs::Passes::whose, rules::specs::Passes::whose_of))]
 pub fn whose(o: Looked) -> Verdict
     ensures { result ≡ whoseIn o }
 {
-    let class = o.class;
-    let c = o.channel;
-    let l = o.lane;
-    match class {
+    match o.class {
         Class::Idle => Verdict::Idle,
-        Class::Counted => Verdict::Counted(choices::number_of(c)),
-        Class::Read => Verdict::Read(choices::number_of(l)),
-        Class::Repeat => Verdict::Repeat(choices::number_of(c)),
+        Class::Counted => Verdict::Counted(choices::number_of(o.channel)),
+        Class::Read => Verdict::Read(choices::number_of(o.lane)),
+        Class::Repeat => Verdict::Repeat(choices::number_of(o.channel)),
         Class::Refused(n) => Verdict::Refused(n),
     }
 }
@@ -279,7 +231,7 @@ fn untouched(class: Class, r: Reader) -> Taken
 {
     Taken {
         answer: Answer {
-            class: class,
+            class,
             units: 0,
             octets: 0,
             missing: 0,
@@ -295,7 +247,6 @@ fn untouched(class: Class, r: Reader) -> Taken
 fn counted_of(g: Gap) -> Taken
     ensures { result ≡ counted_of g }
 {
-    let t = g.state;
     Taken {
         answer: Answer {
             class: Class::Counted,
@@ -306,7 +257,7 @@ fn counted_of(g: Gap) -> Taken
             fill: 0,
             dropped: g.dropped,
         },
-        state: t,
+        state: g.state,
     }
 }
 
@@ -324,8 +275,7 @@ fn take_seen(
     ensures { ReadGives r f.now h.old u.old c.old result h.new u.new c.new }
 {
     let g = gaps::gap_of(r, x.channel, x.count, missing);
-    let on = x.lane;
-    match on {
+    match x.lane {
         None => counted_of(g),
         Some(l) => read_on(g, l, x, f, h, u, c),
     }
@@ -333,58 +283,54 @@ fn take_seen(
 
 // Does what was found asks for.
 fn act_on(v: Found, r: Reader, f: &[u8], h: &mut [u8], u: &mut [u8], c: &mut [u8]) -> Taken
-    requires { (v ≡ found_of r f.now (verdict r f.now h.old u.old c.old)) × Sound r v.sighting }
+    requires { (Ok v ≡ found_of r f.now (verdict r f.now h.old u.old c.old)) × Sound r v.sighting }
     ensures { ReadGives r f.now h.old u.old c.old result h.new u.new c.new }
 {
-    let said = v.sighting;
-    match said {
-        Sighting::Refused(n) => {
-            let class = Class::Refused(n);
-            untouched(class, r)
-        }
-        Sighting::Idle => {
-            let class = Class::Idle;
-            untouched(class, r)
-        }
+    match v.sighting {
+        Sighting::Idle => untouched(Class::Idle, r),
         Sighting::Seen(x) => take_seen(r, x, v.missing, f, h, u, c),
-        Sighting::Repeat(_) => {
-            let class = Class::Repeat;
-            untouched(class, r)
-        }
+        Sighting::Repeat(_) => untouched(Class::Repeat, r),
     }
 }
 
-// The refusal where an area is too short: 2, but for a state that is not valid.
-fn short_refusal(r: Reader) -> u8
-    ensures { result ≡ short_refusal r }
+// Why an area that is too short is refused: for that, but where the state is not valid.
+fn short_refusal(r: Reader) -> Refusal
+    ensures { number_of result ≡ short_refusal r }
 {
-    let valid = setting::reader_ok(r);
-    if valid {
-        return 2;
+    if setting::reader_ok(r) {
+        Refusal::AreaShort
+    } else {
+        Refusal::Invalid
     }
-    1
 }
 
-// Takes the frame of which v was found into the areas lent, or refuses it and changes nothing.
-fn take_found(v: Found, r: Reader, f: &[u8], h: &mut [u8], u: &mut [u8], c: &mut [u8]) -> Taken
-    requires { (v ≡ found_of r f.now (looked r f.now)) × Sound r v.sighting }
+// Takes the frame of which this was found into the areas lent, or refuses it and changes nothing.
+fn take_found(
+    found: Result<Found, Refusal>,
+    r: Reader,
+    f: &[u8],
+    h: &mut [u8],
+    u: &mut [u8],
+    c: &mut [u8],
+) -> Taken
+    requires { (by_number found ≡ found_of r f.now (looked r f.now)) × IfOk found (λ v. Sound r v.sighting) }
     ensures { ReadGives r f.now h.old u.old c.old result h.new u.new c.new }
 {
-    let short = areas_short(h.len(), u.len(), c.len());
-    if short {
-        let n = short_refusal(r);
-        let class = Class::Refused(n);
-        return untouched(class, r);
+    if areas_short(h.len(), u.len(), c.len()) {
+        return untouched(Class::Refused(short_refusal(r).number()), r);
     }
-    act_on(v, r, f, h, u, c)
+    match found {
+        Err(refusal) => untouched(Class::Refused(refusal.number()), r),
+        Ok(v) => act_on(v, r, f, h, u, c),
+    }
 }
 
 // Takes one frame into the areas lent, or refuses it and changes nothing: document 01's read. All checks are done, whatever a look said before.
 pub fn take(r: Reader, frame: &[u8], held: &mut [u8], units: &mut [u8], records: &mut [u8]) -> Taken
     ensures { ReadGives r frame.now held.old units.old records.old result held.new units.new records.new }
 {
-    let v = find(r, frame);
-    take_found(v, r, frame, held, units, records)
+    let found = find(r, frame);
+    take_found(found, r, frame, held, units, records)
 }
 
 // ---- look, decide, take
@@ -393,10 +339,9 @@ pub fn take(r: Reader, frame: &[u8], held: &mut [u8], units: &mut [u8], records:
 fn passed_over(o: Looked, r: Reader) -> Taken
     ensures { result ≡ record { answer = seen o; state = r } }
 {
-    let class = o.class;
     Taken {
         answer: Answer {
-            class: class,
+            class: o.class,
             units: 0,
             octets: 0,
             missing: o.missing,
@@ -420,22 +365,17 @@ pub fn pass(
 ) -> Passed
     ensures { PassGives without r frame.now held.old units.old records.old result held.new units.new records.new }
 {
-    let v = find(r, frame);
-    let o = shown(v);
-    let s = r.setting;
-    let left = choices::left_out(without, s, o);
-    if left {
-        let t = passed_over(o, r);
-        return Passed {
-            taken: t,
-            looked: o,
-            left: true,
-        };
-    }
-    let t = take_found(v, r, frame, held, units, records);
+    let found = find(r, frame);
+    let looked = shown(found);
+    let left = choices::left_out(without, r.setting, looked);
+    let taken = if left {
+        passed_over(looked, r)
+    } else {
+        take_found(found, r, frame, held, units, records)
+    };
     Passed {
-        taken: t,
-        looked: o,
-        left: false,
+        taken,
+        looked,
+        left,
     }
 }

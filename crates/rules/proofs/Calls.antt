@@ -1,10 +1,10 @@
 -- The calls: a refusal changes nothing; a valid state stays valid; units and records of any frame fit their areas.
-use mathlib.Core.Path.{◌≡◌, refl, ap, ◌∙◌}
-use Prim.Native.Nat.{ℕ, zero, suc, ◌*◌, ◌≤◌, ◌<◌}
-use native.Mathlib.Nat.{zero-lt-suc, le_trans}
+use mathlib.Core.Path.{◌≡◌, refl, sym, ap, ◌∙◌}
+use Prim.Native.Nat.{ℕ, ◌*◌, ◌≤◌, ◌<◌}
+use native.Mathlib.Nat.{le_trans}
 use native.Mathlib.Omega.{arith}
 use mathlib.Core.Bool.{Bool, true, false, cond, not}
-use mathlib.Core.List.{List}
+use mathlib.Core.List.{List, [], ◌∷◌}
 use lib.ListN.{length, take, drop, length-take, length-drop}
 use lib.Seq.{length-take-le}
 use borrow.Author.Tests.{leb-false, ltb-false, eqb-true, not-false}
@@ -12,20 +12,20 @@ use Rattle.rules.specs.declared.Channel.{Channel}
 use Rattle.rules.specs.declared.Setting.{Setting}
 use Rattle.rules.specs.declared.Reader.{Reader}
 use Rattle.rules.specs.declared.Writer.{Writer}
-use Rattle.rules.specs.declared.Outcome.{Outcome}
-use Rattle.rules.specs.declared.Outcome.TheVariants.{Done, Refused}
+use Rattle.std.specs.Prelude.{Result, Ok, Err, IsErrAnd, IfOk}
+use Rattle.rules.specs.declared.Refusal.{Refusal}
 use Rattle.rules.specs.declared.Class.{Class}
 use Rattle.rules.specs.declared.Answer.{Answer}
 use Rattle.rules.specs.declared.Verdict.{Verdict}
 use Rattle.rules.specs.declared.Gap.{Gap}
-use Rattle.rules.specs.Tests.{given}
+use Rattle.rules.specs.Tests.{Row, number_of, given, answered}
 use Rattle.rules.specs.Areas.{joined, part, held_size, part_size, record_size, records_size, units_size}
 use Rattle.rules.specs.Settings.{channel, lane, channel_of, held_by, number, zone_at, zone_for, zone, ocf_octets, setting_ok, reader_ok, writer_ok, fresh_reader, fresh_writer, no_reader, no_writer}
 use Rattle.rules.specs.Frames.{count_in, rule_in, pointer_in, zone_in, points_to}
 use Rattle.rules.specs.Writing.{batch_ok, frames}
 use Rattle.rules.specs.Reading.{gap, octets_of, Made, keeps}
 use Rattle.rules.specs.Refusals.{refusals, judged, judge}
-use Rattle.rules.specs.Calls.{set_up_reader, set_up_writer, write_refusals, written, write, areas_short, bare, laid_out, holding, made_by, read_on, repeats_at, again, on_verdict, read_refusals, verdict, read}
+use Rattle.rules.specs.Calls.{refusal_of, by_number, set_up_reader, set_up_writer, write_refusals, written, write, areas_short, bare, laid_out, holding, made_by, read_on, repeats_at, again, on_verdict, read_refusals, verdict, read}
 use Rattle.rules.proofs.Tests.{or-none, given-zero}
 use Rattle.rules.proofs.Areas.{length-laid}
 use Rattle.rules.specs.Valid.{GoodKind, GoodSlot, GoodReader, GoodWriter}
@@ -34,17 +34,37 @@ use Rattle.rules.proofs.Lanes.{total, lane-total, lane_below, lane-few, Sound, M
 use Rattle.rules.proofs.Judged.{Judged, judge-facts}
 use Rattle.rules.proofs.States.{reader-ok, writer-ok, fresh-reader, fresh-writer, no-reader, no-writer, gap-setting, good_gap, good-slot, frames-few, good_batch, good_after}
 
+-- ---- a refusal as a number and as an answer
+
+pub answered-given : (rs : List Row) → refusal_of (answered rs) ≡ given rs
+unfolding refusal_of answered given
+answered-given [] = refl
+answered-given (r ∷ rs) =
+    elim r.applies as (λ (t : Bool). refusal_of (cond {A = Result Unit Refusal} t (Err r.refusal) (answered rs)) ≡ cond t (number_of r.refusal) (given rs))
+    [ true ↦ refl | false ↦ answered-given rs ]
+
+-- What holds of an answer holds with the refusal in its number's place.
+pub if_ok-by : {A : Type 0} (r : Result A Refusal) (P : A → Type 0) → IfOk (by_number r) P → IfOk r P
+if_ok-by (Ok x) P h = h
+if_ok-by (Err e) P h = h
+
+-- A refusal that was passed on.
+pub passed-on : {A : Type 0} (r : Result A Refusal) (P : A → Type 0) (e : Refusal) (x : Result A ℕ) → IsErrAnd r (λ (y : Refusal). y ≡ e)
+    → Err (number_of e) ≡ x → (by_number r ≡ x) × IfOk r P
+passed-on (Ok y) P e x h q = absurd h
+passed-on (Err y) P e x h q = (ap (λ (z : Refusal). Err (number_of z)) h ∙ q, tt)
+
 -- ---- set-up
 
 -- An accepted setting: a fresh state, which is valid. Any other: refusal 1 and a state of zeros, which is not.
 pub setup_accepted : (s : Setting) → setting_ok s ≡ true
-    → (set_up_reader s ≡ record { outcome = Done; state = fresh_reader s }) × (set_up_writer s ≡ record { outcome = Done; state = fresh_writer s })
+    → (set_up_reader s ≡ record { outcome = Ok tt; state = fresh_reader s }) × (set_up_writer s ≡ record { outcome = Ok tt; state = fresh_writer s })
     × (reader_ok (fresh_reader s) ≡ true) × (writer_ok (fresh_writer s) ≡ true)
 unfolding set_up_reader set_up_writer
 setup_accepted s e = (rw e, rw e, fresh-reader s e, fresh-writer s e)
 
 pub setup_refused : (s : Setting) → setting_ok s ≡ false
-    → (set_up_reader s ≡ record { outcome = Refused 1; state = no_reader }) × (set_up_writer s ≡ record { outcome = Refused 1; state = no_writer })
+    → (set_up_reader s ≡ record { outcome = Err Refusal.Invalid; state = no_reader }) × (set_up_writer s ≡ record { outcome = Err Refusal.Invalid; state = no_writer })
     × (reader_ok no_reader ≡ false) × (writer_ok no_writer ≡ false)
 unfolding set_up_reader set_up_writer
 setup_refused s e = (rw e, rw e, no-reader, no-writer)
@@ -65,12 +85,12 @@ module _ (w : Writer) (l : ℕ) (batch insert ocf area : List ℕ) where
   pub none-refused : given (write_refusals w l batch insert ocf area) ≡ 0 → Accepted w l batch insert ocf area
   unfolding write_refusals
   none-refused e =
-      let r₁ = given-zero _ _ (zero-lt-suc 0) e in
-      let r₂ = given-zero _ _ (zero-lt-suc 1) r₁.1 in
-      let r₁₃ = given-zero _ _ (zero-lt-suc 12) r₂.1 in
-      let r₁₄ = given-zero _ _ (zero-lt-suc 13) r₁₃.1 in
-      let r₁₅ = given-zero _ _ (zero-lt-suc 14) r₁₄.1 in
-      let r₁₆ = given-zero _ _ (zero-lt-suc 15) r₁₅.1 in
+      let r₁ = given-zero _ _ e in
+      let r₂ = given-zero _ _ r₁.1 in
+      let r₁₃ = given-zero _ _ r₂.1 in
+      let r₁₄ = given-zero _ _ r₁₃.1 in
+      let r₁₅ = given-zero _ _ r₁₄.1 in
+      let r₁₆ = given-zero _ _ r₁₅.1 in
       let o = or-none _ _ r₁₅.0 in
       record {
         good = good_writer w (not-false _ r₁.0);
@@ -82,38 +102,39 @@ module _ (w : Writer) (l : ℕ) (batch insert ocf area : List ℕ) where
         below = leb-false _ _ r₁₆.0;
       }
 
-  pub accepted : (write w l batch insert ocf area).sender.outcome ≡ Done → given (write_refusals w l batch insert ocf area) ≡ 0
+  -- What a write answers is what its rows do.
+  pub write-answered : (write w l batch insert ocf area).sender.outcome ≡ answered (write_refusals w l batch insert ocf area)
   unfolding write
-  accepted e = go (given (write_refusals w l batch insert ocf area)) e
+  write-answered = go (answered (write_refusals w l batch insert ocf area))
     where
-      go : (n : ℕ) → (written w l batch insert ocf area n).sender.outcome ≡ Done → n ≡ 0
-      go zero q = refl
-      go (suc n) q = unfold written in let z : ◌≡◌ {A = ℕ} 0 1 = cc in absurd (omega arith)
+      go : (r : Result Unit Refusal) → (written w l batch insert ocf area r).sender.outcome ≡ r
+      go (Ok x) = unfold written in refl
+      go (Err e) = unfold written in refl
+
+  pub accepted : (write w l batch insert ocf area).sender.outcome ≡ Ok tt → given (write_refusals w l batch insert ocf area) ≡ 0
+  unfolding refusal_of
+  accepted e = sym (answered-given (write_refusals w l batch insert ocf area)) ∙ ap refusal_of (sym write-answered ∙ e)
 
   -- A refusal changes no octet and no state.
-  pub write-refused : (n : ℕ) → (write w l batch insert ocf area).sender.outcome ≡ Refused n
-      → write w l batch insert ocf area ≡ record { sender = record { outcome = Refused n; state = w }; area = area }
-  unfolding write
-  write-refused n e = go (given (write_refusals w l batch insert ocf area)) e
-    where
-      go : (m : ℕ) → (written w l batch insert ocf area m).sender.outcome ≡ Refused n
-          → written w l batch insert ocf area m ≡ record { sender = record { outcome = Refused n; state = w }; area = area }
-      go zero q = unfold written in let z : ◌≡◌ {A = ℕ} 0 1 = cc in absurd (omega arith)
-      go (suc m) q = unfold written in ap (λ (o : Outcome). record { sender = record { outcome = o; state = w }; area = area }) q
+  pub write-refused : (n : Refusal) → (write w l batch insert ocf area).sender.outcome ≡ Err n
+      → write w l batch insert ocf area ≡ record { sender = record { outcome = Err n; state = w }; area = area }
+  unfolding write written
+  write-refused n e = ap (written w l batch insert ocf area) (sym write-answered ∙ e)
 
   -- A valid state stays valid.
   pub write-valid : writer_ok w ≡ true → writer_ok (write w l batch insert ocf area).sender.state ≡ true
-  unfolding write
-  write-valid ok = go (given (write_refusals w l batch insert ocf area)) refl
+  unfolding write refusal_of
+  write-valid ok = go (answered (write_refusals w l batch insert ocf area)) refl
     where
-      go : (n : ℕ) → given (write_refusals w l batch insert ocf area) ≡ n → writer_ok (written w l batch insert ocf area n).sender.state ≡ true
-      go zero e =
+      go : (r : Result Unit Refusal) → answered (write_refusals w l batch insert ocf area) ≡ r
+          → writer_ok (written w l batch insert ocf area r).sender.state ≡ true
+      go (Ok x) e =
           unfold written in
-          let a : Accepted w l batch insert ocf area = none-refused e in
+          let a : Accepted w l batch insert ocf area = none-refused (sym (answered-given _) ∙ ap refusal_of e) in
           let b = good_batch _ _ batch (a.good.setting.lanes l a.numbered).kind.most a.batch in
           let c = good_channel_of a.good.setting l a.numbered in
           writer-ok _ (good_after w a.good l batch a.below (le_trans (frames-few _ batch c.room b.some) b.most))
-      go (suc n) e = unfold written in ok
+      go (Err n) e = unfold written in ok
 
 -- ---- read
 

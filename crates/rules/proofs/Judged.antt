@@ -44,16 +44,16 @@ module _ {s : Setting} {f : List ℕ} {p : Option ℕ} where
   pub clear : given (refusals_at s f p) ≡ 0 → Clear s f p
   unfolding refusals_at
   clear e =
-      let r₃ = given-zero _ _ (zero-lt-suc 2) e in
-      let r₄ = given-zero _ _ (zero-lt-suc 3) r₃.1 in
-      let r₅ = given-zero _ _ (zero-lt-suc 4) r₄.1 in
-      let r₆ = given-zero _ _ (zero-lt-suc 5) r₅.1 in
-      let r₇ = given-zero _ _ (zero-lt-suc 6) r₆.1 in
-      let r₈ = given-zero _ _ (zero-lt-suc 7) r₇.1 in
-      let r₉ = given-zero _ _ (zero-lt-suc 8) r₈.1 in
-      let r₁₀ = given-zero _ _ (zero-lt-suc 9) r₉.1 in
-      let r₁₁ = given-zero _ _ (zero-lt-suc 10) r₁₀.1 in
-      let r₁₂ = given-zero _ _ (zero-lt-suc 11) r₁₁.1 in
+      let r₃ = given-zero _ _ e in
+      let r₄ = given-zero _ _ r₃.1 in
+      let r₅ = given-zero _ _ r₄.1 in
+      let r₆ = given-zero _ _ r₅.1 in
+      let r₇ = given-zero _ _ r₆.1 in
+      let r₈ = given-zero _ _ r₇.1 in
+      let r₉ = given-zero _ _ r₈.1 in
+      let r₁₀ = given-zero _ _ r₉.1 in
+      let r₁₁ = given-zero _ _ r₁₀.1 in
+      let r₁₂ = given-zero _ _ r₁₁.1 in
       record {
         row₃ = r₃.0;
         row₄ = r₄.0;

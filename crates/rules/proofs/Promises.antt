@@ -3,7 +3,6 @@
 use mathlib.Core.Path.{◌≡◌, refl, sym, ap, ap₂, ◌∙◌}
 use mathlib.Core.Logic.{◌⊎◌, inl, inr}
 use Prim.Native.Nat.{ℕ, zero, suc}
-use native.Mathlib.Nat.{zero-lt-suc}
 use native.Mathlib.Omega.{arith}
 use mathlib.Core.Bool.{Bool, true, false, cond, not, ◌&&◌, ◌||◌, true≢false}
 use mathlib.Core.List.{List, [], ◌∷◌}
@@ -11,8 +10,8 @@ use borrow.Author.Tests.{eqb-true, eq-eqb, ne_eqb, not-false}
 use Rattle.rules.specs.declared.Setting.{Setting}
 use Rattle.rules.specs.declared.Reader.{Reader}
 use Rattle.rules.specs.declared.Writer.{Writer}
-use Rattle.rules.specs.declared.Outcome.{Outcome}
-use Rattle.rules.specs.declared.Outcome.TheVariants.{Done, Refused}
+use Rattle.std.specs.Prelude.{Result, Ok, Err, get_or, ◌-◌}
+use Rattle.rules.specs.declared.Refusal.{Refusal}
 use Rattle.rules.specs.declared.Class.{Class}
 use Rattle.rules.specs.declared.Answer.{Answer}
 use Rattle.rules.specs.declared.Taken.{Taken}
@@ -22,26 +21,27 @@ use Rattle.rules.specs.declared.Sender.{Sender}
 use Rattle.rules.specs.declared.Verdict.{Verdict}
 use Rattle.std.specs.Prelude.{Option}
 use Rattle.std.specs.Prelude.{Some, None}
-use Rattle.rules.specs.Tests.{◌=?◌, none, Refusal, given}
+use Rattle.rules.specs.Tests.{◌=?◌, none, number_of, Row, given, answered}
 use Rattle.rules.specs.Settings.{channel, lane, setting_ok, fresh_reader, fresh_writer, no_reader, no_writer}
 use Rattle.rules.specs.Frames.{vc, map, bypass, command, count_in}
 use Rattle.rules.specs.Refusals.{channel_at, lane_at, refusals_at, refusals, on_channel, passed, judged}
 use Rattle.rules.specs.Calls.{refusal_of, class_refusal, set_up_reader, set_up_writer, Sent, write_refusals, written, write, Got, laid_out, read_on, repeats_at, again, on_verdict, read_refusals, verdict, read, look_refusals, looked, on_look, look}
 use Rattle.rules.specs.Promises.{reader_numbers, writer_numbers, set_up_numbers, look_numbers, among, Told, outcome_leaves, set_up_refusals, ReaderStarts, WriterStarts, WriteGives, placed, channel_in, lane_in, class_in, count_of, gap_in, made_in, Values, values_in, class_values, class_state, class_area, ReadGives, missing_in, class_missing, class_channel, class_lane, LookGives}
-use Rattle.rules.proofs.Tests.{and_left, given-zero, first_found, Found}
+use Rattle.rules.proofs.Tests.{and_left, some_number, given-zero, first_found, Found}
 use Rattle.rules.specs.Valid.{Good}
 use Rattle.rules.proofs.Valid.{good_reader}
 use Rattle.rules.proofs.Judged.{Clear, clear}
+use Rattle.rules.proofs.Calls.{answered-given}
 use Rattle.rules.proofs.States.{gap-setting}
 
 -- ---- the paper's number, and what it says of the case
 
 -- The number of a refusal that is given is one of the table's.
-numbers : List Refusal → List ℕ
+numbers : List Row → List ℕ
 numbers [] = []
-numbers (r ∷ rs) = r.number ∷ numbers rs
+numbers (r ∷ rs) = number_of r.refusal ∷ numbers rs
 
-given-among : (rs : List Refusal) → (given rs ≡ 0) ⊎ (among (given rs) (numbers rs) ≡ true)
+given-among : (rs : List Row) → (given rs ≡ 0) ⊎ (among (given rs) (numbers rs) ≡ true)
 unfolding given among numbers
 given-among [] = inl refl
 given-among (r ∷ rs) = go r.applies (given-among rs)
@@ -51,26 +51,60 @@ given-among (r ∷ rs) = go r.applies (given-among rs)
     or_right false b e = e
 
     Either : ℕ → Type 0
-    Either n = (n ≡ 0) ⊎ ((n =? r.number || among n (numbers rs)) ≡ true)
+    Either n = (n ≡ 0) ⊎ ((n =? number_of r.refusal || among n (numbers rs)) ≡ true)
 
-    go : (t : Bool) → (given rs ≡ 0) ⊎ (among (given rs) (numbers rs) ≡ true) → Either (cond t r.number (given rs))
-    go true e = inr (rw (eq-eqb r.number r.number refl))
+    go : (t : Bool) → (given rs ≡ 0) ⊎ (among (given rs) (numbers rs) ≡ true) → Either (cond t (number_of r.refusal) (given rs))
+    go true e = inr (rw (eq-eqb (number_of r.refusal) (number_of r.refusal) refl))
     go false (inl e) = inl e
-    go false (inr e) = inr (or_right (given rs =? r.number) (among (given rs) (numbers rs)) e)
+    go false (inr e) = inr (or_right (given rs =? number_of r.refusal) (among (given rs) (numbers rs)) e)
+
+-- Which refusal it is, by its number.
+abbrev by-number : List Refusal
+by-number = Refusal.Invalid ∷ Refusal.AreaShort ∷ Refusal.Length ∷ Refusal.Check ∷ Refusal.Version ∷ Refusal.Craft ∷ Refusal.HeaderEnd ∷ Refusal.Fields ∷ Refusal.Unlisted ∷ Refusal.CountLength ∷ Refusal.OcfFlag ∷ Refusal.DataField ∷ Refusal.NoLane ∷ Refusal.Batch ∷ Refusal.Parts ∷ Refusal.FrameNumber ∷ []
+
+number-once : (a b : Refusal) → number_of a ≡ number_of b → a ≡ b
+number-once a b e = sym (back a) ∙ ap (λ (n : ℕ). get_or by-number (n - 1) Refusal.Invalid) e ∙ back b
+  where
+    back : (e : Refusal) → get_or by-number (number_of e - 1) Refusal.Invalid ≡ e
+    back Refusal.Invalid = refl
+    back Refusal.AreaShort = refl
+    back Refusal.Length = refl
+    back Refusal.Check = refl
+    back Refusal.Version = refl
+    back Refusal.Craft = refl
+    back Refusal.HeaderEnd = refl
+    back Refusal.Fields = refl
+    back Refusal.Unlisted = refl
+    back Refusal.CountLength = refl
+    back Refusal.OcfFlag = refl
+    back Refusal.DataField = refl
+    back Refusal.NoLane = refl
+    back Refusal.Batch = refl
+    back Refusal.Parts = refl
+    back Refusal.FrameNumber = refl
 
 -- An outcome is told by its number: 0 is done.
-told-once : (rs : List Refusal) (a b : Outcome) → Told rs a → Told rs b → a ≡ b
+told-once : (rs : List Row) (a b : Result Unit Refusal) → Told rs a → Told rs b → a ≡ b
 unfolding refusal_of
-told-once rs Done b p q = sym (q.done (sym p.refusal))
-told-once rs (Refused x) Done p q = p.done (sym q.refusal)
-told-once rs (Refused x) (Refused y) p q = ap Refused (p.refusal ∙ sym q.refusal)
+told-once rs (Ok x) b p q = sym (q.done (sym p.refusal))
+told-once rs (Err x) (Ok y) p q = p.done (sym q.refusal)
+told-once rs (Err x) (Err y) p q = ap Err (number-once x y (p.refusal ∙ sym q.refusal))
+
+-- What the rows answer is told so.
+told-answered : (rs : List Row) → Told rs (answered rs)
+unfolding refusal_of
+told-answered rs = record { refusal = answered-given rs; done = λ z. none (answered rs) (answered-given rs ∙ z) }
+  where
+    none : (r : Result Unit Refusal) → refusal_of r ≡ 0 → r ≡ Ok tt
+    none (Ok x) z = refl
+    none (Err e) z = absurd (some_number e z)
 
 -- One that is refused has a number of its table.
-told-among : (rs : List Refusal) (o : Outcome) → Told rs o → (n : ℕ) → o ≡ Refused n → among n (numbers rs) ≡ true
+told-among : (rs : List Row) (o : Result Unit Refusal) → Told rs o → (n : Refusal) → o ≡ Err n → among (number_of n) (numbers rs) ≡ true
 unfolding refusal_of
 told-among rs o t n e = go (given-among rs)
   where
-    go : (given rs ≡ 0) ⊎ (among (given rs) (numbers rs) ≡ true) → among n (numbers rs) ≡ true
+    go : (given rs ≡ 0) ⊎ (among (given rs) (numbers rs) ≡ true) → among (number_of n) (numbers rs) ≡ true
     go (inl z) = let d = t.done z in let b : ◌≡◌ {A = ℕ} 0 1 = cc in absurd (omega arith)
     go (inr q) = rw (ap refusal_of (sym e) ∙ t.refusal) q
 
@@ -90,7 +124,7 @@ class_once k (Class.Refused x) (Class.Refused y) n p d q e = ap Class.Refused (p
 -- ---- set-up
 
 module _ (s : Setting) where
-  start-told : (t : Bool) → setting_ok s ≡ t → Told (set_up_refusals s) (cond t Done (Refused 1))
+  start-told : (t : Bool) → setting_ok s ≡ t → Told (set_up_refusals s) (cond t (Ok tt) (Err Refusal.Invalid))
   unfolding set_up_refusals given refusal_of
   start-told true e = record { refusal = rw e; done = λ z. refl }
   start-told false e = record { refusal = rw e; done = λ z. absurd (omega (arith, rw e at z)) }
@@ -100,7 +134,7 @@ module _ (s : Setting) where
   reader-starts = go (setting_ok s) refl
     where
       go : (t : Bool) → setting_ok s ≡ t
-          → ReaderStarts s (cond t (record { outcome = Done; state = fresh_reader s }) (record { outcome = Refused 1; state = no_reader }))
+          → ReaderStarts s (cond t (record { outcome = Ok tt; state = fresh_reader s }) (record { outcome = Err Refusal.Invalid; state = no_reader }))
       go true e = record { told = start-told true e; state = refl }
       go false e = record { told = start-told false e; state = refl }
 
@@ -109,7 +143,7 @@ module _ (s : Setting) where
   writer-starts = go (setting_ok s) refl
     where
       go : (t : Bool) → setting_ok s ≡ t
-          → WriterStarts s (cond t (record { outcome = Done; state = fresh_writer s }) (record { outcome = Refused 1; state = no_writer }))
+          → WriterStarts s (cond t (record { outcome = Ok tt; state = fresh_writer s }) (record { outcome = Err Refusal.Invalid; state = no_writer }))
       go true e = record { told = start-told true e; state = refl }
       go false e = record { told = start-told false e; state = refl }
 
@@ -117,12 +151,12 @@ module _ (s : Setting) where
   pub reader-starts-once : (a b : Listener) → ReaderStarts s a → ReaderStarts s b → a ≡ b
   reader-starts-once a b p q =
       let e : a.outcome ≡ b.outcome = told-once _ _ _ p.told q.told in
-      ap₂ (λ (o : Outcome) (r : Reader). record { outcome = o; state = r }) e (p.state ∙ rw e (sym q.state))
+      ap₂ (λ (o : Result Unit Refusal) (r : Reader). record { outcome = o; state = r }) e (p.state ∙ rw e (sym q.state))
 
   pub writer-starts-once : (a b : Sender) → WriterStarts s a → WriterStarts s b → a ≡ b
   writer-starts-once a b p q =
       let e : a.outcome ≡ b.outcome = told-once _ _ _ p.told q.told in
-      ap₂ (λ (o : Outcome) (w : Writer). record { outcome = o; state = w }) e (p.state ∙ rw e (sym q.state))
+      ap₂ (λ (o : Result Unit Refusal) (w : Writer). record { outcome = o; state = w }) e (p.state ∙ rw e (sym q.state))
 
   pub reader-starts-by : (a : Listener) → a ≡ set_up_reader s → ReaderStarts s a
   reader-starts-by a e = rw e reader-starts
@@ -137,11 +171,11 @@ module _ (s : Setting) where
   writer-starts-is a p = writer-starts-once a (set_up_writer s) p writer-starts
 
   -- "Set-up 1."
-  pub reader-starts-number : (a : Listener) → ReaderStarts s a → (n : ℕ) → a.outcome ≡ Refused n → among n set_up_numbers ≡ true
+  pub reader-starts-number : (a : Listener) → ReaderStarts s a → (n : Refusal) → a.outcome ≡ Err n → among (number_of n) set_up_numbers ≡ true
   unfolding set_up_refusals numbers
   reader-starts-number a p n e = told-among _ _ p.told n e
 
-  pub writer-starts-number : (a : Sender) → WriterStarts s a → (n : ℕ) → a.outcome ≡ Refused n → among n set_up_numbers ≡ true
+  pub writer-starts-number : (a : Sender) → WriterStarts s a → (n : Refusal) → a.outcome ≡ Err n → among (number_of n) set_up_numbers ≡ true
   unfolding set_up_refusals numbers
   writer-starts-number a p n e = told-among _ _ p.told n e
 
@@ -153,13 +187,11 @@ module _ (w : Writer) (l : ℕ) (batch insert ocf area : List ℕ) where
 
   pub write-gives : Gives (write w l batch insert ocf area)
   unfolding write refusal_of outcome_leaves
-  write-gives = go (given (write_refusals w l batch insert ocf area)) refl
+  write-gives = go (answered (write_refusals w l batch insert ocf area)) (told-answered (write_refusals w l batch insert ocf area))
     where
-      go : (n : ℕ) → given (write_refusals w l batch insert ocf area) ≡ n → Gives (written w l batch insert ocf area n)
-      go zero e = unfold written in record { told = record { refusal = sym e; done = λ z. refl }; state = refl; frame = refl }
-      go (suc n) e =
-          unfold written in
-          record { told = record { refusal = sym e; done = λ z. absurd (omega (arith, sym e ∙ z)) }; state = refl; frame = refl }
+      go : (r : Result Unit Refusal) → Told (write_refusals w l batch insert ocf area) r → Gives (written w l batch insert ocf area r)
+      go (Ok x) t = unfold written in record { told = t; state = refl; frame = refl }
+      go (Err n) t = unfold written in record { told = t; state = refl; frame = refl }
 
   -- Outcomes allowed for one input are equal.
   pub write-once : (a b : Sent) → Gives a → Gives b → a ≡ b
@@ -168,7 +200,7 @@ module _ (w : Writer) (l : ℕ) (batch insert ocf area : List ℕ) where
       let f : a.sender.state ≡ b.sender.state = p.state ∙ rw e (sym q.state) in
       let g : a.area ≡ b.area = p.frame ∙ rw e (sym q.frame) in
       ap₂ (λ (s : Sender) (x : List ℕ). record { sender = s; area = x })
-      (ap₂ (λ (o : Outcome) (v : Writer). record { outcome = o; state = v }) e f) g
+      (ap₂ (λ (o : Result Unit Refusal) (v : Writer). record { outcome = o; state = v }) e f) g
 
   pub write-by : (a : Sent) → a ≡ write w l batch insert ocf area → Gives a
   write-by a e = rw e write-gives
@@ -177,7 +209,7 @@ module _ (w : Writer) (l : ℕ) (batch insert ocf area : List ℕ) where
   write-is a p = write-once a (write w l batch insert ocf area) p write-gives
 
   -- "Writer 1, 2, 13 to 16."
-  pub write-number : (a : Sent) → Gives a → (n : ℕ) → a.sender.outcome ≡ Refused n → among n writer_numbers ≡ true
+  pub write-number : (a : Sent) → Gives a → (n : Refusal) → a.sender.outcome ≡ Err n → among (number_of n) writer_numbers ≡ true
   unfolding write_refusals numbers
   write-number a p n e = told-among _ _ p.told n e
 
@@ -269,7 +301,7 @@ module _ (r : Reader) (f : List ℕ) where
       never false false false q = let z : ◌≡◌ {A = ℕ} 0 1 = cc in omega (arith, z)
 
   -- A refusal by a class has a number of its table.
-  class-among : (rs : List Refusal) (k : Class) → class_refusal k ≡ given rs → (given rs ≡ 0 → k ≡ class_in r f) → (n : ℕ) → k ≡ Class.Refused n
+  class-among : (rs : List Row) (k : Class) → class_refusal k ≡ given rs → (given rs ≡ 0 → k ≡ class_in r f) → (n : ℕ) → k ≡ Class.Refused n
       → among n (numbers rs) ≡ true
   unfolding class_refusal
   class-among rs k e d n q = go (given-among rs)
@@ -326,8 +358,8 @@ module _ (r : Reader) (f h u c : List ℕ) where
       go : (n : ℕ) → given (read_refusals r f h u c) ≡ n → Keeps (on_verdict (again r f (judged r.setting f n)) r f h u c)
       go zero e =
           unfold judged in
-          let r₁ = given-zero _ _ (zero-lt-suc 0) e in
-          let r₂ = given-zero _ _ (zero-lt-suc 1) r₁.1 in
+          let r₁ = given-zero _ _ e in
+          let r₂ = given-zero _ _ r₁.1 in
           passed-gives e (again r f (passed r.setting f (channel_at r.setting (vc f) (bypass f))))
           (passes r f (good_reader r (not-false _ r₁.0)).setting r₂.1)
       go (suc n) e = unfold judged again in refused-gives n e
@@ -378,7 +410,7 @@ module _ (r : Reader) (f : List ℕ) where
       go : (n : ℕ) → given (look_refusals r f) ≡ n → LookGives r f (on_look (again r f (judged r.setting f n)) r f)
       go zero e =
           unfold judged in
-          let r₁ = given-zero _ _ (zero-lt-suc 0) e in
+          let r₁ = given-zero _ _ e in
           passed-looks e (again r f (passed r.setting f (channel_at r.setting (vc f) (bypass f))))
           (passes r f (good_reader r (not-false _ r₁.0)).setting r₁.1)
       go (suc n) e = unfold judged again in refused-looks n e

@@ -8,7 +8,8 @@ use mathlib.Core.List.{List, [], ◌++◌}
 use lib.ListN.{get_or, replicate}
 use Rattle.rules.specs.declared.Reader.{Reader}
 use Rattle.rules.specs.declared.Writer.{Writer}
-use Rattle.rules.specs.declared.Outcome.{Outcome}
+use Rattle.std.specs.Prelude.{Result}
+use Rattle.rules.specs.declared.Refusal.{Refusal}
 use Rattle.rules.specs.declared.Class.{Class}
 use Rattle.rules.specs.declared.Answer.{Answer}
 use Rattle.rules.specs.declared.Looked.{Looked}
@@ -147,7 +148,7 @@ reader-refusing n ok =
     let z : ◌≡◌ {A = ℕ} 0 1 = cc in
     omega (arith, z)
 
-pub writer-refusing : (n : OfWrite ℕ) → WriterAllowed (writer_refusing n) → ⊥
+pub writer-refusing : (n : OfWrite Refusal) → WriterAllowed (writer_refusing n) → ⊥
 unfolding writer_refusing writer_as_found
 writer-refusing n ok =
     let e = (ok ready 0 batch₀ [] [] area₀).told.done done in
@@ -163,7 +164,7 @@ reader-fixed a p ok =
     let q = (ok fresh [] held₀ units₀ records₀).refusal ∙ refused_3 in
     omega (arith, e, q)
 
-pub writer-fixed : (o : Outcome) (p : OfWrite Sent) → WriterAllowed (writer_fixed o p) → ⊥
+pub writer-fixed : (o : Result Unit Refusal) (p : OfWrite Sent) → WriterAllowed (writer_fixed o p) → ⊥
 unfolding writer_fixed
 writer-fixed o p ok =
     let e = (ok ready 0 batch₀ [] [] area₀).told.refusal ∙ done in
@@ -180,7 +181,7 @@ reader-as-found says ok =
     let z : get_or units₀ 0 0 ≡ 0 = ap (λ (xs : List ℕ). get_or xs 0 0) e ∙ first_octet in
     omega (arith, z, units_octet)
 
-pub writer-as-found : (says : OfWrite Outcome) → WriterAllowed (writer_as_found says) → ⊥
+pub writer-as-found : (says : OfWrite (Result Unit Refusal)) → WriterAllowed (writer_as_found says) → ⊥
 unfolding writer_as_found outcome_leaves
 writer-as-found says ok =
     let o = ok ready 0 batch₀ [] [] area₀ in

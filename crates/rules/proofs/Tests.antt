@@ -9,7 +9,8 @@ use mathlib.Core.List.{List, [], ◌∷◌}
 use lib.ListN.{get_or, replicate}
 use Rattle.std.specs.Prelude.{Option}
 use Rattle.std.specs.Prelude.{Some, None}
-use Rattle.rules.specs.Tests.{all, every, before, first, Refusal, given}
+use Rattle.rules.specs.declared.Refusal.{Refusal}
+use Rattle.rules.specs.Tests.{all, every, before, first, number_of, Row, given}
 
 -- Two numbers are in one order or the other.
 pub split {ℓ} : {X : Type ℓ} (a b : ℕ) → (a ≤ b → X) → (b < a → X) → X
@@ -125,19 +126,38 @@ found_at p n i e = go (first n p) (first_found p n) e
 
 -- ---- the refusal given
 
-pub given_skip : (r : Refusal) (rs : List Refusal) → r.applies ≡ false → given (r ∷ rs) ≡ given rs
+-- No refusal has the number 0.
+pub some_number : (e : Refusal) → number_of e ≡ 0 → ⊥
+some_number Refusal.Invalid z = absurd (omega arith)
+some_number Refusal.AreaShort z = absurd (omega arith)
+some_number Refusal.Length z = absurd (omega arith)
+some_number Refusal.Check z = absurd (omega arith)
+some_number Refusal.Version z = absurd (omega arith)
+some_number Refusal.Craft z = absurd (omega arith)
+some_number Refusal.HeaderEnd z = absurd (omega arith)
+some_number Refusal.Fields z = absurd (omega arith)
+some_number Refusal.Unlisted z = absurd (omega arith)
+some_number Refusal.CountLength z = absurd (omega arith)
+some_number Refusal.OcfFlag z = absurd (omega arith)
+some_number Refusal.DataField z = absurd (omega arith)
+some_number Refusal.NoLane z = absurd (omega arith)
+some_number Refusal.Batch z = absurd (omega arith)
+some_number Refusal.Parts z = absurd (omega arith)
+some_number Refusal.FrameNumber z = absurd (omega arith)
+
+pub given_skip : (r : Row) (rs : List Row) → r.applies ≡ false → given (r ∷ rs) ≡ given rs
 unfolding given
-given_skip r rs e = ap (λ (t : Bool). cond t r.number (given rs)) e
+given_skip r rs e = ap (λ (t : Bool). cond t (number_of r.refusal) (given rs)) e
 
 pub given-none : given [] ≡ 0
 unfolding given
 given-none = refl
 
 -- Where none is given, the first does not apply, and none of the others is given.
-pub given-zero : (r : Refusal) (rs : List Refusal) → 0 < r.number → given (r ∷ rs) ≡ 0 → (r.applies ≡ false) × (given rs ≡ 0)
+pub given-zero : (r : Row) (rs : List Row) → given (r ∷ rs) ≡ 0 → (r.applies ≡ false) × (given rs ≡ 0)
 unfolding given
-given-zero r rs h e = go r.applies e
+given-zero r rs e = go r.applies e
   where
-    go : (t : Bool) → cond t r.number (given rs) ≡ 0 → (t ≡ false) × (given rs ≡ 0)
-    go true q = absurd (omega arith)
+    go : (t : Bool) → cond t (number_of r.refusal) (given rs) ≡ 0 → (t ≡ false) × (given rs ≡ 0)
+    go true q = absurd (some_number r.refusal q)
     go false q = (refl, q)

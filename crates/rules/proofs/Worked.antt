@@ -20,7 +20,7 @@ use Rattle.rules.specs.Families
 
 -- To unfold this is to unfold every rule.
 unfoldable pub rules : ℕ
-unfolding Tests.all Tests.every Tests.first Tests.given Octets.be Octets.num Octets.widths Octets.packed Octets.bits Octets.check_bit Octets.check_bits Octets.check_from Octets.check_of Areas.laid Areas.joined Settings.zone Settings.ranges_ok Settings.channel_ok Settings.channels_agree Settings.channels_ok Settings.kind_ok Settings.lane_ok Settings.lanes_differ Settings.lanes_ok Settings.setting_ok Settings.fresh_reader Settings.fresh_writer Settings.slot_ok Settings.reader_ok Settings.writer_ok Settings.no_setting Settings.no_reader Settings.no_writer Frames.header Frames.primary Frames.data_header Frames.body Frames.checked Frames.count_in Frames.rule_in Frames.upid_in Frames.pointer_in Frames.zone_in Frames.check_holds Frames.points_to Packets.sized Packets.space_packet Packets.total_in Packets.totalled Packets.alone Packets.encapsulated Packets.headed Packets.measured Packets.measure Packets.packets_up_to Packets.packets Writing.none_above Writing.batch_ok Writing.frames Writing.zone_of Writing.rule_of Writing.start_from Writing.offset_of Writing.inside Writing.pointer_of Writing.frame_of Writing.number_after Writing.count_after Writing.writer_after Reading.missing Reading.expected Reading.last_taken Reading.repeats Reading.emptied Reading.lost Reading.gap_by Reading.gap Reading.carries Reading.both Reading.end_fate Reading.cut_fate Reading.joined_fate Reading.lead_fate Reading.lead Reading.sized_next Reading.cut_next Reading.next_of Reading.walk_up_to Reading.walk Reading.packet_lane Reading.unit_fate Reading.follow_fate Reading.portion Reading.access_lane Reading.lane_step Reading.record_of Reading.records_from Reading.info_of Refusals.channel_at Refusals.lane_at Refusals.rule_fits Refusals.data_wrong Refusals.refusals_at Refusals.refusals Refusals.on_channel Refusals.passed Refusals.judged Refusals.judge Calls.refusal_of Calls.class_refusal Calls.set_up_reader Calls.set_up_writer Calls.write_refusals Calls.written Calls.write Calls.areas_short Calls.laid_out Calls.made_by Calls.read_on Calls.repeats_at Calls.again Calls.on_verdict Calls.read_refusals Calls.verdict Calls.read Calls.look_refusals Calls.looked Calls.missing_at Calls.on_look Calls.look Listing.text Listing.digits Listing.decimal Listing.word Listing.amount Listing.line Listing.lines Listing.listing Worked.worked Worked.sent_by Worked.sends Worked.read_by Worked.reads Worked.each Worked.data_headers Worked.packet_of Worked.cases Errors.paired Errors.sealed Errors.packet_frame Errors.access_frame Errors.forged Errors.shown Errors.refused Errors.errors Errors.edges Errors.copies Errors.wide Errors.spans Errors.laden Errors.laden_writer Errors.counting Errors.laden_sends Errors.wholes Families.families
+unfolding Tests.all Tests.every Tests.first Tests.given Tests.answered Octets.be Octets.num Octets.widths Octets.packed Octets.bits Octets.check_bit Octets.check_bits Octets.check_from Octets.check_of Areas.laid Areas.joined Settings.zone Settings.ranges_ok Settings.channel_ok Settings.channels_agree Settings.channels_ok Settings.kind_ok Settings.lane_ok Settings.lanes_differ Settings.lanes_ok Settings.setting_ok Settings.fresh_reader Settings.fresh_writer Settings.slot_ok Settings.reader_ok Settings.writer_ok Settings.no_setting Settings.no_reader Settings.no_writer Frames.header Frames.primary Frames.data_header Frames.body Frames.checked Frames.count_in Frames.rule_in Frames.upid_in Frames.pointer_in Frames.zone_in Frames.check_holds Frames.points_to Packets.sized Packets.space_packet Packets.total_in Packets.totalled Packets.alone Packets.encapsulated Packets.headed Packets.measured Packets.measure Packets.packets_up_to Packets.packets Writing.none_above Writing.batch_ok Writing.frames Writing.zone_of Writing.rule_of Writing.start_from Writing.offset_of Writing.inside Writing.pointer_of Writing.frame_of Writing.number_after Writing.count_after Writing.writer_after Reading.missing Reading.expected Reading.last_taken Reading.repeats Reading.emptied Reading.lost Reading.gap_by Reading.gap Reading.carries Reading.both Reading.end_fate Reading.cut_fate Reading.joined_fate Reading.lead_fate Reading.lead Reading.sized_next Reading.cut_next Reading.next_of Reading.walk_up_to Reading.walk Reading.packet_lane Reading.unit_fate Reading.follow_fate Reading.portion Reading.access_lane Reading.lane_step Reading.record_of Reading.records_from Reading.info_of Refusals.channel_at Refusals.lane_at Refusals.rule_fits Refusals.data_wrong Refusals.refusals_at Refusals.refusals Refusals.on_channel Refusals.passed Refusals.judged Refusals.judge Calls.refusal_of Calls.class_refusal Calls.set_up_reader Calls.set_up_writer Calls.write_refusals Calls.written Calls.write Calls.areas_short Calls.laid_out Calls.made_by Calls.read_on Calls.repeats_at Calls.again Calls.on_verdict Calls.read_refusals Calls.verdict Calls.read Calls.look_refusals Calls.looked Calls.missing_at Calls.on_look Calls.look Listing.text Listing.digits Listing.decimal Listing.word Listing.amount Listing.line Listing.lines Listing.listing Worked.worked Worked.sent_by Worked.sends Worked.read_by Worked.reads Worked.each Worked.data_headers Worked.packet_of Worked.cases Errors.paired Errors.sealed Errors.packet_frame Errors.access_frame Errors.forged Errors.shown Errors.refused Errors.errors Errors.edges Errors.copies Errors.wide Errors.spans Errors.laden Errors.laden_writer Errors.counting Errors.laden_sends Errors.wholes Families.families
 rules = zero
 
 -- "Cases 1 to 10 are the marked set."

@@ -13,7 +13,7 @@ use Rattle.rules.specs.declared.Channel.{Channel}
 use Rattle.rules.specs.declared.Lane.{Lane}
 use Rattle.rules.specs.declared.Setting.{Setting}
 use Rattle.rules.specs.declared.Writer.{Writer}
-use Rattle.rules.specs.declared.Outcome.TheVariants.{Done}
+use Rattle.std.specs.Prelude.{Ok}
 use Rattle.std.specs.Prelude.{Option}
 use Rattle.std.specs.Prelude.{Some, None}
 use Rattle.rules.specs.declared.Verdict.TheVariants.{Counted, Read}
@@ -30,7 +30,7 @@ use Rattle.rules.proofs.Octets.{flag_small, length-be, num-be-below, Fit, bits_b
 use Rattle.rules.specs.Valid.{Good, GoodChannel, GoodLane}
 use Rattle.rules.proofs.Valid.{good_channel_of}
 use Rattle.rules.proofs.Judged.{Clear, none-given}
-use Rattle.rules.proofs.Calls.{Accepted, none-refused, accepted}
+use Rattle.rules.proofs.Calls.{Accepted, none-refused, write-answered, accepted}
 
 -- ---- the parts of a frame, one after another
 
@@ -430,7 +430,7 @@ read_back s g l lh k kb ins oc hi ho b i =
 
 -- An accepted write leaves in the first F octets a frame that nothing refuses under the same setting and whose fields read back;
 -- later octets are as they were.
-pub write_back : (w : Writer) (l : ℕ) (batch ins oc area : List ℕ) → (write w l batch ins oc area).sender.outcome ≡ Done
+pub write_back : (w : Writer) (l : ℕ) (batch ins oc area : List ℕ) → (write w l batch ins oc area).sender.outcome ≡ Ok tt
     → FrameBack w.setting l (count w (lane w.setting l).channel) batch ins oc (number w l)
     (take w.setting.length (write w l batch ins oc area).area)
     × (drop w.setting.length (write w l batch ins oc area).area ≡ drop w.setting.length area)
@@ -443,7 +443,7 @@ write_back w l batch ins oc area e =
     let x : List ℕ = frame_of s l k batch ins oc (number w l) in
     let b = read_back s a.good.setting l a.numbered k (a.good.counts (lane s l).channel (a.good.setting.lanes l a.numbered).channel) ins oc
     a.insert a.ocf batch (number w l) in
-    rw z (
+    rw (sym (write-answered w l batch ins oc area) ∙ e) (
       subst (FrameBack s l k batch ins oc (number w l)) (sym (ap (λ (n : ℕ). take n (laid area 0 x)) (sym b.full) ∙ laid-front area x)) b,
       ap (λ (n : ℕ). drop n (laid area 0 x)) (sym b.full) ∙ laid-behind area x ∙ ap (λ (n : ℕ). drop n area) b.full,
     )

@@ -1,12 +1,11 @@
 -- The calls as wholes: set-up, write and read, which is the call take, and look. Each is one equation between everything handed in and everything
 -- handed back or left in an area that was lent.
-use Rattle.std.specs.Prelude.{ℕ, zero, suc, ◌+◌, ◌*◌, Bool, cond, not, ◌||◌, List, [], ◌∷◌, length}
+use Rattle.std.specs.Prelude.{ℕ, ◌+◌, ◌*◌, Bool, cond, not, ◌||◌, List, [], ◌∷◌, length, Result, Ok, Err}
 use Rattle.rules.specs.declared.Channel.{Channel}
 use Rattle.rules.specs.declared.Setting.{Setting}
 use Rattle.rules.specs.declared.Reader.{Reader}
 use Rattle.rules.specs.declared.Writer.{Writer}
-use Rattle.rules.specs.declared.Outcome.{Outcome}
-use Rattle.rules.specs.declared.Outcome.TheVariants.{Done, Refused}
+use Rattle.rules.specs.declared.Refusal.{Refusal}
 use Rattle.rules.specs.declared.Class.{Class}
 use Rattle.rules.specs.declared.Answer.{Answer}
 use Rattle.rules.specs.declared.Taken.{Taken}
@@ -16,7 +15,7 @@ use Rattle.rules.specs.declared.Looked.{Looked}
 use Rattle.std.specs.Prelude.{Some, None}
 use Rattle.rules.specs.declared.Verdict.{Verdict}
 use Rattle.rules.specs.declared.Gap.{Gap}
-use Rattle.rules.specs.Tests.{◌≤?◌, ◌<?◌, ◌≠?◌, Refusal, refuse, given}
+use Rattle.rules.specs.Tests.{◌≤?◌, ◌<?◌, ◌≠?◌, Row, refuse, number_of, given, answered}
 use Rattle.rules.specs.Areas.{laid, joined, part, held_size, part_size, records_size, units_size}
 use Rattle.rules.specs.Settings.{channel, lane, channel_of, expect, slot, with_slot, count, number, zone, ocf_octets, setting_ok, reader_ok, writer_ok, fresh_reader, fresh_writer, no_reader, no_writer}
 use Rattle.rules.specs.Frames.{count_in, rule_in, pointer_in, zone_in, points_to}
@@ -26,9 +25,14 @@ use Rattle.rules.specs.Refusals.{refusals, judged}
 
 -- ---- the paper's number for each case of an answer; 0 where none is refused
 
-unfoldable pub refusal_of : Outcome → ℕ
-refusal_of Done = 0
-refusal_of (Refused n) = n
+unfoldable pub refusal_of : {A : Type 0} → Result A Refusal → ℕ
+refusal_of (Ok x) = 0
+refusal_of (Err e) = number_of e
+
+-- The same answer, with the number in the refusal's place.
+abbrev pub by_number : {A : Type 0} → Result A Refusal → Result A ℕ
+by_number (Ok x) = Ok x
+by_number (Err e) = Err (number_of e)
 
 unfoldable pub class_refusal : Class → ℕ
 class_refusal Class.Idle = 0
@@ -40,10 +44,10 @@ class_refusal (Class.Refused n) = n
 -- ---- set-up: "A refused set-up returns a state of zeros."
 
 unfoldable pub set_up_reader : Setting → Listener
-set_up_reader s = cond (setting_ok s) (record { outcome = Done; state = fresh_reader s }) (record { outcome = Refused 1; state = no_reader })
+set_up_reader s = cond (setting_ok s) (record { outcome = Ok tt; state = fresh_reader s }) (record { outcome = Err Refusal.Invalid; state = no_reader })
 
 unfoldable pub set_up_writer : Setting → Sender
-set_up_writer s = cond (setting_ok s) (record { outcome = Done; state = fresh_writer s }) (record { outcome = Refused 1; state = no_writer })
+set_up_writer s = cond (setting_ok s) (record { outcome = Ok tt; state = fresh_writer s }) (record { outcome = Err Refusal.Invalid; state = no_writer })
 
 -- ---- write: "A call names a lane and lends its batch, insert octets, OCF octets and a frame area."
 
@@ -53,33 +57,33 @@ pub record Sent : Type 0 where
   pub area : List ℕ
 
 -- "Writer 1, 2, 13 to 16."
-unfoldable pub write_refusals : Writer → ℕ → List ℕ → List ℕ → List ℕ → List ℕ → List Refusal
+unfoldable pub write_refusals : Writer → ℕ → List ℕ → List ℕ → List ℕ → List ℕ → List Row
 write_refusals w l batch insert ocf area =
     -- "setting or state not valid"
-    refuse 1 (not (writer_ok w))
+    refuse Refusal.Invalid (not (writer_ok w))
     -- "an area is too short (...; frame area: below F)"
-    ∷ refuse 2 (length area <? w.setting.length)
+    ∷ refuse Refusal.AreaShort (length area <? w.setting.length)
     -- "no such lane"
-    ∷ refuse 13 (w.setting.numbered ≤? l)
+    ∷ refuse Refusal.NoLane (w.setting.numbered ≤? l)
     -- "batch breaks its rule"
-    ∷ refuse 14 (not (batch_ok (lane w.setting l).kind (lane w.setting l).longest batch))
+    ∷ refuse Refusal.Batch (not (batch_ok (lane w.setting l).kind (lane w.setting l).longest batch))
     -- "insert octets not I, or OCF octets not 4 (0 without OCF)"
-    ∷ refuse 15 (length insert ≠? w.setting.insert || length ocf ≠? ocf_octets (channel_of w.setting l))
+    ∷ refuse Refusal.Parts (length insert ≠? w.setting.insert || length ocf ≠? ocf_octets (channel_of w.setting l))
     -- "lane's next frame number is not below the batch's frame count"
-    ∷ refuse 16 (frames (zone w.setting (channel_of w.setting l)) batch ≤? number w l)
+    ∷ refuse Refusal.FrameNumber (frames (zone w.setting (channel_of w.setting l)) batch ≤? number w l)
     ∷ []
 
--- "The call writes the lane's next frame into the first F octets and leaves later ones untouched." Refused by this number; 0 is none.
-unfoldable pub written : Writer → ℕ → List ℕ → List ℕ → List ℕ → List ℕ → ℕ → Sent
-written w l batch insert ocf area zero =
+-- "The call writes the lane's next frame into the first F octets and leaves later ones untouched."
+unfoldable pub written : Writer → ℕ → List ℕ → List ℕ → List ℕ → List ℕ → Result Unit Refusal → Sent
+written w l batch insert ocf area (Ok x) =
     record {
-      sender = record { outcome = Done; state = writer_after w l batch };
+      sender = record { outcome = Ok tt; state = writer_after w l batch };
       area = laid area 0 (frame_of w.setting l (count w (lane w.setting l).channel) batch insert ocf (number w l));
     }
-written w l batch insert ocf area (suc n) = record { sender = record { outcome = Refused (suc n); state = w }; area = area }
+written w l batch insert ocf area (Err e) = record { sender = record { outcome = Err e; state = w }; area = area }
 
 unfoldable pub write : Writer → ℕ → List ℕ → List ℕ → List ℕ → List ℕ → Sent
-write w l batch insert ocf area = written w l batch insert ocf area (given (write_refusals w l batch insert ocf area))
+write w l batch insert ocf area = written w l batch insert ocf area (answered (write_refusals w l batch insert ocf area))
 
 -- ---- read: "Areas lent: held octets, 65,536, ...; units, at least 12,288; records, at least 9,600", and 49,152 with A5 of document 02.
 
@@ -175,12 +179,12 @@ on_verdict (Verdict.Repeat ch) r f h u c =
     record { taken = record { answer = bare Class.Repeat; state = r }; held_area = h; unit_area = u; record_area = c }
 
 -- "Reader 1 to 12."
-unfoldable pub read_refusals : Reader → List ℕ → List ℕ → List ℕ → List ℕ → List Refusal
+unfoldable pub read_refusals : Reader → List ℕ → List ℕ → List ℕ → List ℕ → List Row
 read_refusals r f h u c =
     -- "setting or state not valid"
-    refuse 1 (not (reader_ok r))
+    refuse Refusal.Invalid (not (reader_ok r))
     -- "an area is too short (held area: not 65,536; ...)"
-    ∷ refuse 2 (areas_short h u c)
+    ∷ refuse Refusal.AreaShort (areas_short h u c)
     -- the frame's own, 3 to 12
     ∷ refusals r.setting f
 
@@ -195,10 +199,10 @@ read r f h u c = on_verdict (verdict r f h u c) r f h u c
 -- handed a state and a frame, and hands back no state.
 
 -- "Refusals: unchanged; looking is lent no areas and never gives 2."
-unfoldable pub look_refusals : Reader → List ℕ → List Refusal
+unfoldable pub look_refusals : Reader → List ℕ → List Row
 look_refusals r f =
     -- "setting or state not valid"
-    refuse 1 (not (reader_ok r))
+    refuse Refusal.Invalid (not (reader_ok r))
     -- the frame's own, 3 to 12
     ∷ refusals r.setting f
 

@@ -1,12 +1,11 @@
 -- What each call promises: a relation between everything that it is handed and everything that it hands back or leaves in an area lent.
 -- The answer is told in the paper's terms: "Where an answer is an enum, a definition sets out this paper's number and values for each of
 -- its cases. The promises use that definition."
-use Rattle.std.specs.Prelude.{◌≡◌, ℕ, ◌+◌, ◌*◌, Bool, false, cond, not, ◌||◌, List, [], ◌∷◌, length}
+use Rattle.std.specs.Prelude.{◌≡◌, ℕ, ◌+◌, ◌*◌, Bool, false, cond, not, ◌||◌, List, [], ◌∷◌, length, Result, Ok, Err}
 use Rattle.rules.specs.declared.Setting.{Setting}
 use Rattle.rules.specs.declared.Reader.{Reader}
 use Rattle.rules.specs.declared.Writer.{Writer}
-use Rattle.rules.specs.declared.Outcome.{Outcome}
-use Rattle.rules.specs.declared.Outcome.TheVariants.{Done, Refused}
+use Rattle.rules.specs.declared.Refusal.{Refusal}
 use Rattle.rules.specs.declared.Class.{Class}
 use Rattle.rules.specs.declared.Answer.{Answer}
 use Rattle.rules.specs.declared.Taken.{Taken}
@@ -16,7 +15,7 @@ use Rattle.rules.specs.declared.Sender.{Sender}
 use Rattle.std.specs.Prelude.{Option}
 use Rattle.std.specs.Prelude.{Some, None}
 use Rattle.rules.specs.declared.Gap.{Gap}
-use Rattle.rules.specs.Tests.{◌=?◌, none, Refusal, refuse, given}
+use Rattle.rules.specs.Tests.{◌=?◌, none, Row, refuse, given}
 use Rattle.rules.specs.Areas.{laid, joined, part_size}
 use Rattle.rules.specs.Settings.{channel, lane, with_slot, count, number, setting_ok, fresh_reader, fresh_writer, no_reader, no_writer}
 use Rattle.rules.specs.Frames.{vc, map, bypass, command, count_in}
@@ -48,20 +47,20 @@ among n (m ∷ ms) = n =? m || among n ms
 -- ---- set-up and write: what each outcome says
 
 -- "The first that applies is given, and none otherwise." An outcome is told by its number, and none is done.
-pub record Told (rows : List Refusal) (o : Outcome) : Type 0 where
+pub record Told (rows : List Row) (o : Result Unit Refusal) : Type 0 where
   pub refusal : refusal_of o ≡ given rows
-  pub done : given rows ≡ 0 → o ≡ Done
+  pub done : given rows ≡ 0 → o ≡ Ok tt
 
 -- What each outcome leaves. Where it is refused, "states and areas stay unchanged": what there was before.
-unfoldable pub outcome_leaves {ℓ} : {A : Type ℓ} → Outcome → A → A → A
-outcome_leaves Done before after = after
-outcome_leaves (Refused n) before after = before
+unfoldable pub outcome_leaves {ℓ} : {A : Type ℓ} → Result Unit Refusal → A → A → A
+outcome_leaves (Ok x) before after = after
+outcome_leaves (Err e) before after = before
 
 -- ---- set-up
 
 -- "Setting or state not valid."
-unfoldable pub set_up_refusals : Setting → List Refusal
-set_up_refusals s = refuse 1 (not (setting_ok s)) ∷ []
+unfoldable pub set_up_refusals : Setting → List Row
+set_up_refusals s = refuse Refusal.Invalid (not (setting_ok s)) ∷ []
 
 -- "A refused set-up returns a state of zeros."
 pub record ReaderStarts (s : Setting) (o : Listener) : Type 0 where

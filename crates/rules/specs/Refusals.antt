@@ -2,12 +2,13 @@
 use Rattle.std.specs.Prelude.{ℕ, zero, suc, ◌-◌, Bool, cond, not, ◌&&◌, ◌||◌, List, [], ◌∷◌, length}
 use Rattle.rules.specs.declared.Kind.{Kind}
 use Rattle.rules.specs.declared.Kind.TheVariants.{Packets, Access}
+use Rattle.rules.specs.declared.Refusal.{Refusal}
 use Rattle.rules.specs.declared.Setting.{Setting}
 use Rattle.std.specs.Prelude.{Option}
 use Rattle.std.specs.Prelude.{Some, None}
 use Rattle.rules.specs.declared.Verdict.{Verdict}
 use Rattle.rules.specs.declared.Verdict.TheVariants.{Refused, Idle, Counted, Read}
-use Rattle.rules.specs.Tests.{◌<?◌, ◌=?◌, ◌≠?◌, first, none, at, Refusal, refuse, given}
+use Rattle.rules.specs.Tests.{◌<?◌, ◌=?◌, ◌≠?◌, first, none, at, Row, refuse, given}
 use Rattle.rules.specs.Octets.{flag}
 use Rattle.rules.specs.Settings.{channel, lane, zone_for}
 use Rattle.rules.specs.Frames.{version, craft, source_bit, vc, map, end_of_header, length_field, bypass, command, spare, ocf_flag, count_length, rule_in, upid_in, pointer_in, check_holds}
@@ -37,31 +38,31 @@ data_wrong s c l f =
     || not (pointer_in s (channel s c) f <? zone_for s (channel s c) (length f) || pointer_in s (channel s c) f =? 0xFFFF)
 
 -- The rows of the table, from "frame is not F octets" on, for a frame whose virtual channel and service are listed at the place p.
-unfoldable pub refusals_at : Setting → List ℕ → Option ℕ → List Refusal
+unfoldable pub refusals_at : Setting → List ℕ → Option ℕ → List Row
 refusals_at s f p =
     -- "frame is not F octets"
-    refuse 3 (length f ≠? s.length)
+    refuse Refusal.Length (length f ≠? s.length)
     -- "frame check differs"
-    ∷ refuse 4 (not (check_holds s f))
+    ∷ refuse Refusal.Check (not (check_holds s f))
     -- "version is not 1100"
-    ∷ refuse 5 (version f ≠? 0b1100)
+    ∷ refuse Refusal.Version (version f ≠? 0b1100)
     -- "spacecraft or source-or-destination bit differs"
-    ∷ refuse 6 (craft f ≠? s.craft || source_bit f ≠? s.bit)
+    ∷ refuse Refusal.Craft (craft f ≠? s.craft || source_bit f ≠? s.bit)
     -- "end-of-header flag is 1"
-    ∷ refuse 7 (end_of_header f =? 1)
+    ∷ refuse Refusal.HeaderEnd (end_of_header f =? 1)
     -- "length field is not F - 1, spare bits not 00, or control command with bypass 0 (house reading)"
-    ∷ refuse 8 (length_field f ≠? (s.length - 1) || spare f ≠? 0b00 || (command f =? 1 && bypass f =? 0))
+    ∷ refuse Refusal.Fields (length_field f ≠? (s.length - 1) || spare f ≠? 0b00 || (command f =? 1 && bypass f =? 0))
     -- "virtual channel not 63 and, with this service, not listed"
-    ∷ refuse 9 (vc f ≠? 63 && none p)
+    ∷ refuse Refusal.Unlisted (vc f ≠? 63 && none p)
     -- "count length not the channel's (63: not checked)"
-    ∷ refuse 10 (at p (λ (c : ℕ). count_length f ≠? (channel s c).octets))
+    ∷ refuse Refusal.CountLength (at p (λ (c : ℕ). count_length f ≠? (channel s c).octets))
     -- "OCF flag not the channel's (63: not checked)"
-    ∷ refuse 11 (at p (λ (c : ℕ). ocf_flag f ≠? flag (channel s c).ocf))
+    ∷ refuse Refusal.OcfFlag (at p (λ (c : ℕ). ocf_flag f ≠? flag (channel s c).ocf))
     -- "map in a lane of that channel, command bit 0, and rule or UPID not that lane's, or pointer neither below Z nor FFFF"
-    ∷ refuse 12 (at p (λ (c : ℕ). at (lane_at s c (map f)) (λ (l : ℕ). command f =? 0 && data_wrong s c l f)))
+    ∷ refuse Refusal.DataField (at p (λ (c : ℕ). at (lane_at s c (map f)) (λ (l : ℕ). command f =? 0 && data_wrong s c l f)))
     ∷ []
 
-unfoldable pub refusals : Setting → List ℕ → List Refusal
+unfoldable pub refusals : Setting → List ℕ → List Row
 refusals s f = refusals_at s f (channel_at s (vc f) (bypass f))
 
 -- ---- "A frame that passes the checks is one of three."

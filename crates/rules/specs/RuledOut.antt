@@ -1,10 +1,9 @@
 -- "Ruled out by name": the wrong readers and writers that document 01 lists, each as a function of everything that a call is handed. That
 -- the promises do not allow them is shown in the proofs of the same name.
-use Rattle.std.specs.Prelude.{ℕ, zero, suc, Bool, cond, not, List}
+use Rattle.std.specs.Prelude.{ℕ, zero, suc, Bool, cond, not, List, Result, Err}
 use Rattle.rules.specs.declared.Reader.{Reader}
 use Rattle.rules.specs.declared.Writer.{Writer}
-use Rattle.rules.specs.declared.Outcome.{Outcome}
-use Rattle.rules.specs.declared.Outcome.TheVariants.{Refused}
+use Rattle.rules.specs.declared.Refusal.{Refusal}
 use Rattle.rules.specs.declared.Class.{Class}
 use Rattle.rules.specs.declared.Answer.{Answer}
 use Rattle.rules.specs.declared.Looked.{Looked}
@@ -47,7 +46,7 @@ unfoldable pub reader_as_found : OfRead Answer → OfRead Got
 reader_as_found says r f h u c =
     record { taken = record { answer = says r f h u c; state = r }; held_area = h; unit_area = u; record_area = c }
 
-unfoldable pub writer_as_found : OfWrite Outcome → OfWrite Sent
+unfoldable pub writer_as_found : OfWrite (Result Unit Refusal) → OfWrite Sent
 writer_as_found says w l batch insert ocf area =
     record { sender = record { outcome = says w l batch insert ocf area; state = w }; area = area }
 
@@ -56,8 +55,8 @@ writer_as_found says w l batch insert ocf area =
 unfoldable pub reader_refusing : OfRead ℕ → OfRead Got
 reader_refusing n r f h u c = reader_as_found (λ r f h u c. bare (Class.Refused (n r f h u c))) r f h u c
 
-unfoldable pub writer_refusing : OfWrite ℕ → OfWrite Sent
-writer_refusing n w l batch insert ocf area = writer_as_found (λ w l batch insert ocf area. Refused (n w l batch insert ocf area)) w l batch insert ocf area
+unfoldable pub writer_refusing : OfWrite Refusal → OfWrite Sent
+writer_refusing e w l batch insert ocf area = writer_as_found (λ w l batch insert ocf area. Err (e w l batch insert ocf area)) w l batch insert ocf area
 
 unfoldable pub looker_refusing : OfLook ℕ → OfLook Looked
 looker_refusing n r f = nowhere (Class.Refused (n r f))
@@ -73,7 +72,7 @@ reader_fixed a p r f h u c =
       record_area = (p r f h u c).record_area;
     }
 
-unfoldable pub writer_fixed : Outcome → OfWrite Sent → OfWrite Sent
+unfoldable pub writer_fixed : Result Unit Refusal → OfWrite Sent → OfWrite Sent
 writer_fixed o p w l batch insert ocf area =
     record {
       sender = record { outcome = o; state = (p w l batch insert ocf area).sender.state };

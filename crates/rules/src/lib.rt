@@ -2,6 +2,9 @@
 // has its wide fields first and its narrow ones last, whatever the paper's order: the gaps between them would be copied piece by piece.
 #![tactic(auto)]
 
+ghost use Rattle.std.specs.Prelude.{◌≡◌};
+ghost use Rattle.rules.specs.Tests.{number_of};
+
 // Sizes in octets: of the held area, of a lane's part of it, of the least unit and record areas, of a record, of the longest batch.
 pub const HELD_SIZE: usize = 65536;
 
@@ -23,7 +26,7 @@ pub enum Kind {
 }
 
 // A virtual channel with a service (0 sequence-controlled, 1 expedited), how many octets its count has, and whether its
-// frames have an operational control field.
+// frames have an operational control field. The service stays a number: set-up refuses any other by 1, and an enum would ask that of its callers.
 #[derive(Clone, Copy)]
 pub struct Channel {
     pub octets: u8,
@@ -43,7 +46,7 @@ pub struct Lane {
 }
 
 // Frame length, spacecraft number, source-or-destination bit, octets of the insert zone, whether there is a frame check;
-// then how many of the channels are listed, and how many of the lanes are numbered: later slots say nothing.
+// then how many of the channels are listed, and how many of the lanes are numbered: later slots say nothing. The bit stays a number, as a service does.
 #[derive(Clone, Copy)]
 pub struct Setting {
     pub length: usize,
@@ -57,7 +60,8 @@ pub struct Setting {
     pub check: bool,
 }
 
-// What a reader expects of a channel: whether it expects a count, and which.
+// What a reader expects of a channel: whether it expects a count, and which. No Option: refusal 1 (rules/Settings.reader_ok) judges the count of a
+// channel also where none is expected, so a state says one there too.
 #[derive(Clone, Copy)]
 pub struct Expect {
     pub count: u64,
@@ -95,28 +99,52 @@ pub struct Writer {
     pub next: [usize; 8],
 }
 
-// How set-up and write end: done, or refused with the paper's number.
-#[derive(Clone, Copy)]
-pub enum Outcome {
-    Done,
-    Refused(u8),
+// Why a call is refused: a case for each of the paper's numbers, in their order, which begins with 1.
+#[derive(Clone, Copy, PartialEq, Eq)]
+pub enum Refusal {
+    Invalid = 1,
+    AreaShort,
+    Length,
+    Check,
+    Version,
+    Craft,
+    HeaderEnd,
+    Fields,
+    Unlisted,
+    CountLength,
+    OcfFlag,
+    DataField,
+    NoLane,
+    Batch,
+    Parts,
+    FrameNumber,
+}
+
+impl Refusal {
+    // The paper's number.
+    pub fn number(self) -> u8
+        ensures { result ≡ number_of self }
+    {
+        self as u8
+    }
 }
 
 // What the reader's set-up answers.
 #[derive(Clone, Copy)]
 pub struct Listener {
     pub state: Reader,
-    pub outcome: Outcome,
+    pub outcome: Result<(), Refusal>,
 }
 
 // What the writer's set-up and each write answer.
 #[derive(Clone, Copy)]
 pub struct Sender {
     pub state: Writer,
-    pub outcome: Outcome,
+    pub outcome: Result<(), Refusal>,
 }
 
-// The class of a frame.
+// The class of a frame. A refusal is its number, no case of Refusal: what prints a class promises a text for every number, and the enum would ask more
+// of its callers.
 #[derive(Clone, Copy)]
 pub enum Class {
     Idle,
@@ -198,7 +226,7 @@ pub enum Fate {
     Drop,
 }
 
-// What a frame is: refused, idle, counted on a channel, read by a lane, or a repeat on a channel.
+// What a frame is: refused, idle, counted on a channel, read by a lane, or a repeat on a channel. A refusal is its number, as in a class.
 #[derive(Clone, Copy)]
 pub enum Verdict {
     Refused(u8),

@@ -6,8 +6,9 @@ use mathlib.Core.List.{List, ◌++◌, append_assoc}
 use lib.ListN.{length, take, drop}
 use lib.Seq.{length-take-le, drop-drop}
 use Rattle.std.specs.Prelude.{Option, Some}
-use Rattle.rules.specs.declared.Outcome.{Outcome}
-use Rattle.rules.specs.declared.Outcome.TheVariants as outcomes
+use Rattle.std.specs.Prelude.{Result, Ok, Err}
+use Rattle.rules.specs.declared.Refusal.{Refusal}
+use Rattle.rules.specs.Tests.{number_of}
 use Rattle.rules.specs.declared.Sender.{Sender}
 use Rattle.rules.specs.Areas.{laid}
 use Rattle.rules.specs.Calls.{write, Sent as Written}
@@ -33,20 +34,21 @@ module _ (c : Course) (l : ℕ) (batch insert ocf : List ℕ) {x : Sender} {area
   unfolding sent_on
   answered c' q = q ∙ ap (λ (y : Written). course_of c y.sender.outcome y.sender.state (sound c'.fault)) e
 
-  pub sent-done : (f : Option Fault) (m : ℕ) → x.outcome ≡ outcomes.Done → f ≡ sent_fault (sound f) → m ≡ one_more c.frames
+  pub sent-done : (f : Option Fault) (m : ℕ) → x.outcome ≡ Ok tt → f ≡ sent_fault (sound f) → m ≡ one_more c.frames
       → SentNext c l batch insert ocf (record { state = x.state; frames = m; octets = c.octets; fault = f })
   unfolding course_of
   sent-done f m o h k =
       answered (record { state = x.state; frames = m; octets = c.octets; fault = f })
-      (subst (λ (y : Outcome). record { state = x.state; frames = m; octets = c.octets; fault = f } ≡ course_of c y x.state (sound f)) (sym o)
+      (subst (λ (y : Result Unit Refusal). record { state = x.state; frames = m; octets = c.octets; fault = f } ≡ course_of c y x.state (sound f)) (sym o)
       (ap₂ (λ (g : Option Fault) (i : ℕ). record { state = x.state; frames = i; octets = c.octets; fault = g }) h k))
 
-  pub sent-refused : (n : ℕ) → x.outcome ≡ outcomes.Refused n
+  pub sent-refused : (n : ℕ) (r : Refusal) → n ≡ number_of r → x.outcome ≡ Err r
       → SentNext c l batch insert ocf (record { state = x.state; frames = c.frames; octets = c.octets; fault = Some (faults.Refused n) })
   unfolding course_of
-  sent-refused n o =
+  sent-refused n r m o =
       let d : Course = record { state = x.state; frames = c.frames; octets = c.octets; fault = Some (faults.Refused n) } in
-      answered d (subst (λ (y : Outcome). d ≡ course_of c y x.state (sound d.fault)) (sym o) refl)
+      answered d (subst (λ (y : Result Unit Refusal). d ≡ course_of c y x.state (sound d.fault)) (sym o)
+      (ap (λ (i : ℕ). record { state = x.state; frames = c.frames; octets = c.octets; fault = Some (faults.Refused i) }) m))
 
   -- What the area holds after the write is the frame.
   pub frame-by : (end : ℕ) → take end area ≡ take c.state.setting.length area → FrameOf c.state l batch insert ocf (take end area)

@@ -1,8 +1,7 @@
 -- Frame by frame: what goes from one to the next.
-use Rattle.std.specs.Prelude.{ℕ, ◌+◌, min, ◌≡◌, Bool, cond, not, ◌&&◌, Option, Some, None, List, take, replicate}
-use Rattle.rules.specs.Tests.{◌=?◌}
-use Rattle.rules.specs.declared.Outcome.{Outcome}
-use Rattle.rules.specs.declared.Outcome.TheVariants as outcomes
+use Rattle.std.specs.Prelude.{ℕ, ◌+◌, min, ◌≡◌, Bool, cond, not, ◌&&◌, Option, Some, None, List, take, replicate, Result, Ok, Err}
+use Rattle.rules.specs.Tests.{◌=?◌, number_of}
+use Rattle.rules.specs.declared.Refusal.{Refusal}
 use Rattle.rules.specs.declared.Sender.{Sender}
 use Rattle.rules.specs.declared.Writer.{Writer}
 use Rattle.rules.specs.Settings.{number}
@@ -34,9 +33,9 @@ abbrev pub FrameOf : Writer → ℕ → List ℕ → List ℕ → List ℕ → L
 FrameOf w l batch insert ocf frame = frame ≡ take w.setting.length (write w l batch insert ocf area_before).area
 
 -- The course after a write with this outcome, of a frame that standard output took or not.
-unfoldable pub course_of : Course → Outcome → Writer → Bool → Course
-course_of c outcomes.Done w sent = record { state = w; frames = one_more c.frames; octets = c.octets; fault = sent_fault sent }
-course_of c (outcomes.Refused n) w sent = record { state = w; frames = c.frames; octets = c.octets; fault = Some (faults.Refused n) }
+unfoldable pub course_of : Course → Result Unit Refusal → Writer → Bool → Course
+course_of c (Ok x) w sent = record { state = w; frames = one_more c.frames; octets = c.octets; fault = sent_fault sent }
+course_of c (Err e) w sent = record { state = w; frames = c.frames; octets = c.octets; fault = Some (faults.Refused (number_of e)) }
 
 unfoldable pub sent_on : Course → Sender → Bool → Course
 sent_on c x sent = course_of c x.outcome x.state sent

@@ -13,7 +13,7 @@ ghost use Rattle.turns.specs.Courses.{ended, Sent, FrameOf, SentNext, CourseOn, 
 ghost use Rattle.turns.specs.Turns.{worked, Over, Worked, Turned, ReadOn, ReadTurn, after_turn, Taken, TakenAt};
 
 use intake::{System, Window};
-use rules::{Outcome, Writer};
+use rules::Writer;
 use streams::{Fault, Form, Stream};
 
 // ---- frames
@@ -208,7 +208,7 @@ impl Frames<'_> {
             ..c
         };
         match t.outcome {
-            Outcome::Done => {
+            Ok(()) => {
                 let end = streams::within(w.setting.length, &area);
                 let fault = self.hand(w, l, batch, &area[..end]);
                 Course {
@@ -217,8 +217,8 @@ impl Frames<'_> {
                     ..after
                 }
             }
-            Outcome::Refused(n) => Course {
-                fault: Some(Fault::Refused(n)),
+            Err(refusal) => Course {
+                fault: Some(Fault::Refused(refusal.number())),
                 ..after
             },
         }

@@ -7,20 +7,21 @@ use mathlib.Core.Bool.{true, false}
 use mathlib.Core.List.{List}
 use lib.ListN.{length, set}
 use Rattle.rules.specs.declared.Writer.{Writer}
-use Rattle.rules.specs.declared.Outcome.TheVariants.{Done, Refused}
-use Rattle.std.specs.Prelude.{Some, None}
-use Rattle.rules.specs.Tests.{Refusal, given}
+use Rattle.rules.specs.declared.Refusal.{Refusal}
+use Rattle.std.specs.Prelude.{Some, None, Result, Ok, Err, IsErrAnd}
+use Rattle.rules.specs.Tests.{number_of, given}
 use Rattle.rules.specs.Areas.{laid}
 use Rattle.rules.specs.Settings.{lane, channel_of, count, number, zone, writer_ok}
 use Rattle.rules.specs.Writing.{batch_ok, frames, frame_of, number_after, count_after, writer_after}
-use Rattle.rules.specs.Calls.{Sent, write_refusals, written, write}
+use Rattle.rules.specs.Calls.{refusal_of, write_refusals}
+use Rattle.rules.specs.Promises.{outcome_leaves, WriteGives}
 use Rattle.rules.specs.Valid.{Good}
 use Rattle.rules.proofs.Valid.{good_writer, good_channel_of}
-use Rattle.rules.proofs.Calls.{Accepted}
+use Rattle.rules.proofs.Tests.{some_number}
+use Rattle.rules.proofs.Calls.{Accepted, none-refused}
 use Rattle.rules.proofs.Written.{zone-small}
 use Rattle.writer.specs.declared.frames.Upcoming.{Upcoming}
-use Rattle.batches.specs.Starts.{Keeps}
-use Rattle.writer.specs.declared.Judged.{Judged}
+use Rattle.batches.specs.Starts.{Keeps, StartsAt}
 use Rattle.writer.specs.Lookups.{upcoming_of, late_refusals, batch_refusals, Judges}
 use Rattle.writer.specs.Fits.{upcoming_frame, FrameFits}
 
@@ -84,33 +85,32 @@ begins-small w l x ok h e =
 
 -- ---- what the checks say
 
--- A batch that keeps its rule, and what comes after it; or one that does not.
-pub judged-kept : (w : Writer) (l : ℕ) (batch insert ocf : List ℕ) (x : Upcoming) (start n : ℕ) → x ≡ upcoming_of w l
-    → Keeps x.lane.kind x.lane.longest batch (x.number * x.zone) (Some start) → n ≡ given (late_refusals w.setting x batch insert ocf)
-    → Judges w l batch (batch_refusals w l batch insert ocf) (record { start = start; number = n })
-unfolding given batch_refusals upcoming_of
-judged-kept w l batch insert ocf x start n e k m =
-    let q : Keeps (lane w.setting l).kind (lane w.setting l).longest batch (number w l * zone w.setting (channel_of w.setting l)) (Some start) =
-    rw e at k in
-    record { says = m ∙ ap (λ (y : Upcoming). given (late_refusals w.setting y batch insert ocf)) e ∙ rw q.0; starts = λ z. q.1 }
+module _ (w : Writer) (l : ℕ) (batch insert ocf : List ℕ) (x : Upcoming) (e : x ≡ upcoming_of w l) where
+  -- A batch that keeps its rule, and what comes after it; or one that does not.
+  pub judged-kept : (start : ℕ) (r : Result Unit Refusal) → Keeps x.lane.kind x.lane.longest batch (x.number * x.zone) (Some start)
+      → refusal_of r ≡ given (late_refusals w.setting x batch insert ocf)
+      → (refusal_of r ≡ given (batch_refusals w l batch insert ocf))
+      × StartsAt (lane w.setting l).kind batch (number w l * zone w.setting (channel_of w.setting l)) start
+  unfolding given batch_refusals upcoming_of
+  judged-kept start r k m =
+      let q : Keeps (lane w.setting l).kind (lane w.setting l).longest batch (number w l * zone w.setting (channel_of w.setting l)) (Some start) =
+      rw e at k in
+      (m ∙ ap (λ (y : Upcoming). given (late_refusals w.setting y batch insert ocf)) e ∙ rw q.0, q.1)
 
-pub judged_broken : (w : Writer) (l : ℕ) (batch insert ocf : List ℕ) (x : Upcoming) (j : Judged) → x ≡ upcoming_of w l
-    → Keeps x.lane.kind x.lane.longest batch (x.number * x.zone) None → j ≡ record { start = 0; number = 14 }
-    → Judges w l batch (batch_refusals w l batch insert ocf) j
-unfolding given batch_refusals upcoming_of
-judged_broken w l batch insert ocf x j e k r =
-    let q : batch_ok (lane w.setting l).kind (lane w.setting l).longest batch ≡ false = rw e at k in
-    record { says = rw (q, r); starts = λ z. let n : j.number ≡ 14 = ap (λ (y : Judged). y.number) r in absurd (omega arith) }
+  -- Then a later refusal that is passed on is the answer.
+  pub judged-late : (start : ℕ) → Keeps x.lane.kind x.lane.longest batch (x.number * x.zone) (Some start)
+      → (r : Result ℕ Refusal) (n : Refusal) → IsErrAnd r (λ (y : Refusal). y ≡ n)
+      → number_of n ≡ given (late_refusals w.setting x batch insert ocf) → Judges w l batch (batch_refusals w l batch insert ocf) r
+  unfolding refusal_of
+  judged-late start k (Ok y) n h m = absurd h
+  judged-late start k (Err y) n h m = record { says = (judged-kept start (Err y) k (ap number_of h ∙ m)).0; starts = tt }
 
-module _ {w : Writer} {l : ℕ} {batch : List ℕ} where
-  pub judged-refused : {rows : List Refusal} {j : Judged} {n : ℕ} → j ≡ record { start = 0; number = n } → (n ≡ 0 → ⊥) → n ≡ given rows
-      → Judges w l batch rows j
-  judged-refused {rows} {j} r some e =
-      let m = ap (λ (y : Judged). y.number) r in
-      record { says = m ∙ e; starts = λ z. absurd (some (sym m ∙ z)) }
-
-  pub judged-same : {rows others : List Refusal} {j : Judged} → given rows ≡ given others → Judges w l batch rows j → Judges w l batch others j
-  judged-same e q = record { says = q.says ∙ e; starts = q.starts }
+  pub judged_broken : Keeps x.lane.kind x.lane.longest batch (x.number * x.zone) None
+      → Judges w l batch (batch_refusals w l batch insert ocf) (Err Refusal.Batch)
+  unfolding given batch_refusals upcoming_of refusal_of
+  judged_broken k =
+      let q : batch_ok (lane w.setting l).kind (lane w.setting l).longest batch ≡ false = rw e at k in
+      record { says = rw q; starts = tt }
 
 -- ---- the state after
 
@@ -155,21 +155,27 @@ pub same-frame : (w : Writer) (l : ℕ) (batch insert ocf : List ℕ)
 unfolding upcoming_frame upcoming_of frame_of
 same-frame w l batch insert ocf = refl
 
-pub written_is : (w : Writer) (l : ℕ) (batch insert ocf area : List ℕ) (x : Upcoming) (t : Writer) (d : List ℕ)
-    → given (write_refusals w l batch insert ocf area) ≡ 0 → x ≡ upcoming_of w l → t ≡ writer_after w l batch
-    → d ≡ laid area 0 (upcoming_frame w.setting x batch insert ocf)
-    → ◌≡◌ {A = Sent} (record { sender = record { outcome = Done; state = t }; area = d }) (write w l batch insert ocf area)
-unfolding write written
-written_is w l batch insert ocf area x t d z e f g =
-    rw (z, f, g, e) (ap (λ (y : List ℕ). record { sender = record { outcome = Done; state = writer_after w l batch }; area = laid area 0 y })
-    (same-frame w l batch insert ocf))
+module _ (w : Writer) (l : ℕ) (batch insert ocf area : List ℕ) (j : Result ℕ Refusal)
+    (e : refusal_of j ≡ given (write_refusals w l batch insert ocf area)) where
+  pub accepted : (start : ℕ) → j ≡ Ok start → Accepted w l batch insert ocf area
+  unfolding refusal_of
+  accepted start q = none-refused w l batch insert ocf area (sym e ∙ ap refusal_of q)
 
-pub refused_is : (w : Writer) (l : ℕ) (batch insert ocf area : List ℕ) (n : ℕ) → n ≡ given (write_refusals w l batch insert ocf area) → (n ≡ 0 → ⊥)
-    → ◌≡◌ {A = Sent} (record { sender = record { outcome = Refused n; state = w }; area = area }) (write w l batch insert ocf area)
-unfolding write
-refused_is w l batch insert ocf area n e h = go n h ∙ ap (written w l batch insert ocf area) e
-  where
-    go : (n : ℕ) → (n ≡ 0 → ⊥) → ◌≡◌ {A = Sent} (record { sender = record { outcome = Refused n; state = w }; area = area })
-        (written w l batch insert ocf area n)
-    go zero h = absurd (h refl)
-    go (suc n) h = unfold written in refl
+  pub written_is : (start : ℕ) → j ≡ Ok start → (x : Upcoming) (t : Writer) (d : List ℕ) → x ≡ upcoming_of w l → t ≡ writer_after w l batch
+      → d ≡ laid area 0 (upcoming_frame w.setting x batch insert ocf)
+      → WriteGives w l batch insert ocf area (record { outcome = Ok tt; state = t }) d
+  unfolding refusal_of outcome_leaves
+  written_is start q x t d f g h =
+      record {
+        told = record { refusal = ap refusal_of (sym q) ∙ e; done = λ z. refl };
+        state = g;
+        frame =
+            h ∙ ap (λ (y : List ℕ). laid area 0 y)
+            (ap (λ (y : Upcoming). upcoming_frame w.setting y batch insert ocf) f ∙ same-frame w l batch insert ocf);
+      }
+
+  pub refused_is : (n : Refusal) → j ≡ Err n → WriteGives w l batch insert ocf area (record { outcome = Err n; state = w }) area
+  unfolding refusal_of outcome_leaves
+  refused_is n q =
+      let m : number_of n ≡ given (write_refusals w l batch insert ocf area) = ap refusal_of (sym q) ∙ e in
+      record { told = record { refusal = m; done = λ z. absurd (some_number n (m ∙ z)) }; state = refl; frame = refl }

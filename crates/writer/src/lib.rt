@@ -5,14 +5,14 @@ ghost use Rattle.std.specs.Prelude.{◌≡◌, true, ◌<◌};
 ghost use Rattle.rules.specs.Tests.{given};
 ghost use Rattle.rules.specs.Settings.{channel_of, number, zone, writer_ok};
 ghost use Rattle.rules.specs.Writing.{frames, number_after, writer_after};
-ghost use Rattle.rules.specs.Calls.{write_refusals};
+ghost use Rattle.rules.specs.Calls.{refusal_of, write_refusals};
 ghost use Rattle.rules.specs.Promises.{WriterStarts, WriteGives};
 ghost use Rattle.writer.specs.Lookups.{upcoming_of, late_refusals, batch_refusals, Judges};
 
 mod frames;
 
 use frames::Upcoming;
-use rules::{Outcome, Sender, Setting, Writer};
+use rules::{Refusal, Sender, Setting, Writer};
 
 // Looks lane l up.
 fn upcoming_of(w: Writer, l: usize) -> Upcoming
@@ -21,19 +21,18 @@ fn upcoming_of(w: Writer, l: usize) -> Upcoming
 {
     let s = w.setting;
     let lanes = s.lanes;
-    let a = lanes[l];
-    let p = a.channel as usize;
+    let lane = lanes[l];
+    let place = lane.channel as usize;
     let channels = s.channels;
-    let c = channels[p];
-    let z = setting::zone_of(s, c);
+    let channel = channels[place];
     let counts = w.counts;
     let next = w.next;
     Upcoming {
-        place: p,
-        lane: a,
-        channel: c,
-        zone: z,
-        count: counts[p],
+        place,
+        lane,
+        channel,
+        zone: setting::zone_of(s, channel),
+        count: counts[place],
         number: next[l],
     }
 }
@@ -41,14 +40,12 @@ fn upcoming_of(w: Writer, l: usize) -> Upcoming
 // ---- the state after it
 
 // The frame number after frame i of n.
+#[tactic(auto, unfolding(rules::specs::Writing::number_after))]
 fn number_after(i: usize, n: usize) -> usize
     requires { i < n }
     ensures { result ≡ number_after i n }
 {
-    if i + 1 == n {
-        return 0;
-    }
-    i + 1
+    if i + 1 == n { 0 } else { i + 1 }
 }
 
 // The state after a frame of a batch on lane l, of which x was looked up.
@@ -68,82 +65,67 @@ fn after(w: Writer, l: usize, x: Upcoming, batch: &[u8]) -> Writer
 
 // ---- refusals
 
-// 15 and 16, or 0.
-fn late_refusal(s: Setting, x: Upcoming, batch: &[u8], insert: &[u8], ocf: &[u8]) -> u8
-    ensures { result ≡ given (late_refusals s x batch.now insert.now ocf.now) }
+// Refuses by 15 and 16.
+#[tactic(auto, unfolding(rules::specs::Tests::given, rules::specs::Calls::refusal_of, rules::specs::Writing::frames, crate::specs::Lookups::late_refusals))]
+fn check_parts(
+    s: Setting,
+    x: Upcoming,
+    batch: &[u8],
+    insert: &[u8],
+    ocf: &[u8],
+) -> Result<(), Refusal>
+    ensures { refusal_of result ≡ given (late_refusals s x batch.now insert.now ocf.now) }
 {
-    if insert.len() != s.insert {
-        return 15;
+    if insert.len() != s.insert || ocf.len() != setting::ocf_octets(x.channel) {
+        return Err(Refusal::Parts);
     }
-    let c = x.channel;
-    let o = setting::ocf_octets(c);
-    if ocf.len() != o {
-        return 15;
+    if batches::frames_of(x.zone, batch.len()) <= x.number {
+        return Err(Refusal::FrameNumber);
     }
-    let n = batches::frames_of(x.zone, batch.len());
-    if n <= x.number {
-        return 16;
-    }
-    0
+    Ok(())
 }
 
-// What the checks of a write say: a refusal's number, or 0; and then where the first packet from the frame's zone on starts.
-#[derive(Clone, Copy)]
-struct Judged {
-    start: usize,
-    number: u8,
-}
-
-// 14 and those after it, of a lane that is there.
-fn batch_refusal(w: Writer, l: usize, batch: &[u8], insert: &[u8], ocf: &[u8]) -> Judged
+// Refuses by 14 and those after it, of a lane that is there; or says where the first packet from the frame's zone on starts.
+fn check_batch(
+    w: Writer,
+    l: usize,
+    batch: &[u8],
+    insert: &[u8],
+    ocf: &[u8],
+) -> Result<usize, Refusal>
     requires { (writer_ok w ≡ true) × (l < w.setting.numbered) }
     ensures { Judges w l batch.now (batch_refusals w l batch.now insert.now ocf.now) result }
 {
     let x = upcoming_of(w, l);
-    let a = x.lane;
-    let kind = a.kind;
-    let p = batches::batch_start(kind, a.longest as usize, batch, x.number * x.zone);
-    match p {
-        Some(start) => {
-            let s = w.setting;
-            let n = late_refusal(s, x, batch, insert, ocf);
-            return Judged {
-                start: start,
-                number: n,
-            };
-        }
-        None => {
-            return refused(14);
-        }
-    }
+    let longest = x.lane.longest as usize;
+    let Some(start) = batches::batch_start(x.lane.kind, longest, batch, x.number * x.zone) else {
+        return Err(Refusal::Batch);
+    };
+    check_parts(w.setting, x, batch, insert, ocf)?;
+    Ok(start)
 }
 
-// Refused by a number.
-fn refused(number: u8) -> Judged
-    ensures { result ≡ record { start = 0; number = number } }
-{
-    Judged {
-        start: 0,
-        number: number,
-    }
-}
-
-// The first refusal that applies to a write.
-fn refusal(w: Writer, l: usize, batch: &[u8], insert: &[u8], ocf: &[u8], area: &[u8]) -> Judged
+// Refuses by the first refusal that applies to a write; or says where the first packet from the frame's zone on starts.
+fn check(
+    w: Writer,
+    l: usize,
+    batch: &[u8],
+    insert: &[u8],
+    ocf: &[u8],
+    area: &[u8],
+) -> Result<usize, Refusal>
     ensures { Judges w l batch.now (write_refusals w l batch.now insert.now ocf.now area.now) result }
 {
-    let valid = setting::writer_ok(w);
-    if valid {
-        let s = w.setting;
-        if area.len() < s.length {
-            return refused(2);
-        }
-        if s.numbered <= l {
-            return refused(13);
-        }
-        return batch_refusal(w, l, batch, insert, ocf);
+    if !setting::writer_ok(w) {
+        return Err(Refusal::Invalid);
     }
-    refused(1)
+    if area.len() < w.setting.length {
+        return Err(Refusal::AreaShort);
+    }
+    if w.setting.numbered <= l {
+        return Err(Refusal::NoLane);
+    }
+    check_batch(w, l, batch, insert, ocf)
 }
 
 // ---- the calls
@@ -152,18 +134,16 @@ fn refusal(w: Writer, l: usize, batch: &[u8], insert: &[u8], ocf: &[u8], area: &
 pub fn set_up(s: Setting) -> Sender
     ensures { WriterStarts s result }
 {
-    let ok = setting::setting_ok(s);
-    if ok {
-        let w = setting::fresh_writer(s);
-        return Sender {
-            outcome: Outcome::Done,
-            state: w,
-        };
-    }
-    let w = setting::no_writer();
-    Sender {
-        outcome: Outcome::Refused(1),
-        state: w,
+    if setting::setting_ok(s) {
+        Sender {
+            outcome: Ok(()),
+            state: setting::fresh_writer(s),
+        }
+    } else {
+        Sender {
+            outcome: Err(Refusal::Invalid),
+            state: setting::no_writer(),
+        }
     }
 }
 
@@ -178,20 +158,18 @@ pub fn write(
 ) -> Sender
     ensures { WriteGives w l batch.now insert.now ocf.now area.old result area.new }
 {
-    let j = refusal(w, l, batch, insert, ocf, area);
-    let n = j.number;
-    if n == 0 {
-        let x = upcoming_of(w, l);
-        let s = w.setting;
-        frames::put_frame(s, x, j.start, batch, insert, ocf, area);
-        let t = after(w, l, x, batch);
-        return Sender {
-            outcome: Outcome::Done,
-            state: t,
-        };
-    }
-    Sender {
-        outcome: Outcome::Refused(n),
-        state: w,
+    match check(w, l, batch, insert, ocf, area) {
+        Ok(start) => {
+            let x = upcoming_of(w, l);
+            frames::put_frame(w.setting, x, start, batch, insert, ocf, area);
+            Sender {
+                outcome: Ok(()),
+                state: after(w, l, x, batch),
+            }
+        }
+        Err(refusal) => Sender {
+            outcome: Err(refusal),
+            state: w,
+        },
     }
 }

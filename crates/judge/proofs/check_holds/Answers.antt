@@ -1,27 +1,23 @@
 -- `judge::check_holds` meets its contract: the part before the last two octets is checked, and the two are read as a number.
 use lib.ListN.{length, take, drop, length-drop}
-use lib.Seq.{length-take-le, take_all}
+use lib.Seq.{take_all}
 use lib.Dec.{eqb}
 use native.Mathlib.Omega.{arith}
 use mathlib.Core.Path.{◌≡◌, sym, ap, ◌∙◌}
+use borrow.Author.Tests.{not-true, not-false}
 use Prim.Native.Nat.{◌-◌}
 use Rattle.rules.specs.Octets.{num}
 use Rattle.rules.specs.Frames.{check_holds}
 use Rattle.judge.proofs.check_holds.Goals as goal
 
-pub slice_bounds-check_of-end : goal.slice_bounds-check_of-end
-slice_bounds-check_of-end c = sym (length-take-le _ _ (omega arith))
-
-pub returns-then-s : goal.returns-then-s
+pub returns-then-not-s : goal.returns-then-not-s
 unfolding check_holds
-returns-then-s c =
-    let a = c.args in
-    let n = length a.frame.now - 2 in
-    let t : take (length a.frame.now - n) (drop n a.frame.now) ≡ drop n a.frame.now =
-    take_all (length a.frame.now - n) (drop n a.frame.now) (omega (arith, length-drop n a.frame.now)) in
-    rw (c.if-s.true, sym c.check_of-v.ensures)
-    (ap (eqb c.check_of-v.result) (c.exact-w.ensures ∙ ap num t))
+returns-then-not-s c = rw (not-true _ c.if-not-s.true)
 
 pub returns : goal.returns
 unfolding check_holds
-returns c = rw c.if-s.false
+returns c =
+    let f = c.args.frame.now in
+    let n = length f - 2 in
+    let t : take (length f - n) (drop n f) ≡ drop n f = take_all (length f - n) (drop n f) (omega (arith, length-drop n f)) in
+    rw (not-false _ c.if-not-s.false, sym c.check_of.ensures) (ap (eqb c.check_of.result) (c.exact.ensures ∙ ap num t))

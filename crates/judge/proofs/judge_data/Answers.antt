@@ -42,12 +42,12 @@ slice_bounds-data_of-start c =
     let q = fits _ _ p.ok p.listed in
     omega (arith, q.inside, p.whole)
 
-pub returns-then-wrong : goal.returns-then-wrong
+pub returns-then-data_wrong : goal.returns-then-data_wrong
 unfolding sight_of
-returns-then-wrong c =
+returns-then-data_wrong c =
     let a = c.args in
-    let e = refused-12 a.s a.frame.now a.c a.l _ _ c.zone_for-z.ensures
-    c.data_of-d.ensures _ c.data_wrong-wrong.ensures c.if-wrong.true in
+    let e = refused-12 a.s a.frame.now a.c a.l _ _ c.zone_for-size.ensures
+    c.data_of-d.ensures _ c.data_wrong.ensures c.if-data_wrong.true in
     ap (sight_of a.s a.frame.now) (sym e)
 
 pub overflow_add-result : goal.overflow_add-result
@@ -59,6 +59,6 @@ pub returns : goal.returns
 returns c =
     let a = c.args in
     let p = c.requires in
-    seen-is a.s a.frame.now a.c a.l _ _ c.zone_for-z.ensures
-    c.data_of-d.ensures _ c.data_wrong-wrong.ensures c.if-wrong.false
-    p.2 a.k p.3 _ c.points_to-place.ensures
+    seen-is a.s a.frame.now a.c a.l _ _ c.zone_for-size.ensures
+    c.data_of-d.ensures _ c.data_wrong.ensures c.if-data_wrong.false
+    p.2 a.k p.3 _ c.points_to.ensures

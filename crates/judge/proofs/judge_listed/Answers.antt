@@ -10,6 +10,7 @@ use Rattle.judge.specs.Judging.{judge_listed}
 use Rattle.judge.specs.Sights.{sight_of}
 use Rattle.judge.proofs.Places.{fits}
 use Rattle.judge.proofs.Sights.{fitting}
+use Rattle.rules.proofs.Calls.{if_ok-by}
 use Rattle.judge.proofs.judge_listed.Goals as goal
 
 pub offset_bounds-channels-c : goal.offset_bounds-channels-c
@@ -24,12 +25,12 @@ returns-then-h-ch c =
     let k = ap (λ (x : Head). x.octets) c.requires.1 in
     (rw (sym k, ne_eqb _ _ c.if-h-ch.true), tt)
 
-pub returns-then-h-o : goal.returns-then-h-o
+pub returns-then-h-ch-2 : goal.returns-then-h-ch-2
 unfolding judge_listed head_of sight_of
-returns-then-h-o c =
+returns-then-h-ch-2 c =
     let k = ap (λ (x : Head). x.octets) c.requires.1 in
     let o = ap (λ (x : Head). x.ocf) c.requires.1 in
-    (rw (sym k, eq-eqb _ _ c.if-h-ch.false, sym o, sym c.flag_of-o.ensures, ne_eqb _ _ c.if-h-o.true), tt)
+    (rw (sym k, eq-eqb _ _ c.if-h-ch.false, sym o, ne_eqb _ _ c.if-h-ch-2.true), tt)
 
 pub count_in-k-requires : goal.count_in-k-requires
 count_in-k-requires c =
@@ -48,9 +49,7 @@ returns c =
         sym k,
         eq-eqb _ _ c.if-h-ch.false,
         sym o,
-        sym
-            c.flag_of-o.ensures,
-        eq-eqb _ _ c.if-h-o.false,
+        eq-eqb _ _ c.if-h-ch-2.false,
       ) c.judge_map.ensures,
-      rw c.judge_map.ensures (fitting a.s a.frame.now a.c (omega (arith, n.0, n.1)) (lane_at a.s a.c (map a.frame.now)) refl),
+      if_ok-by c.judge_map.result _ (rw c.judge_map.ensures (fitting a.s a.frame.now a.c (omega (arith, n.0, n.1)) (lane_at a.s a.c (map a.frame.now)) refl)),
     )

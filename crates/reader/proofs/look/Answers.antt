@@ -6,4 +6,4 @@ use Rattle.reader.proofs.look.Goals as goal
 pub returns : goal.returns
 returns c =
     let a = c.args in
-    look-by a.r a.frame.now _ (is-look a.r a.frame.now _ c.find-v.ensures.0 _ c.shown.ensures)
+    look-by a.r a.frame.now _ (is-look a.r a.frame.now _ c.find.ensures.0 _ c.shown.ensures)

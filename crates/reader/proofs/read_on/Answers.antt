@@ -10,12 +10,8 @@ pub terms_for-terms-requires : goal.terms_for-terms-requires
 terms_for-terms-requires c =
     (channel-eight _ _ _ _ _ _ c.requires.0 c.args.x c.requires.1, eight _ _ _ _ _ _ c.requires.0)
 
-pub overflow_add-end : goal.overflow_add-end
-overflow_add-end c =
-    omega (arith, inside _ _ _ _ _ _ c.requires.0 c.args.x c.requires.1, c.requires.0.reads.whole)
-
-pub slice_bounds-lane_step-end : goal.slice_bounds-lane_step-end
-slice_bounds-lane_step-end c =
+pub slice_bounds-zone-end : goal.slice_bounds-zone-end
+slice_bounds-zone-end c =
     inside _ _ _ _ _ _ c.requires.0 c.args.x c.requires.1
 
 pub lane_step-led-requires : goal.lane_step-led-requires

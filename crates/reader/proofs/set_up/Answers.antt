@@ -4,10 +4,10 @@ use Rattle.rules.specs.Calls.{set_up_reader}
 use Rattle.rules.proofs.Promises.{reader-starts-by}
 use Rattle.reader.proofs.set_up.Goals as goal
 
-pub returns-then-ok : goal.returns-then-ok
+pub returns-then-setting_ok : goal.returns-then-setting_ok
 unfolding set_up_reader
-returns-then-ok c = reader-starts-by _ _ (rw (sym c.setting_ok-ok.ensures ∙ c.if-ok.true, c.fresh_reader-r.ensures))
+returns-then-setting_ok c = reader-starts-by _ _ (rw (sym c.setting_ok.ensures ∙ c.if-setting_ok.true, c.fresh_reader.ensures))
 
-pub returns : goal.returns
+pub returns-else-setting_ok : goal.returns-else-setting_ok
 unfolding set_up_reader
-returns c = reader-starts-by _ _ (rw (sym c.setting_ok-ok.ensures ∙ c.if-ok.false, c.no_reader-r.ensures))
+returns-else-setting_ok c = reader-starts-by _ _ (rw (sym c.setting_ok.ensures ∙ c.if-setting_ok.false, c.no_reader.ensures))

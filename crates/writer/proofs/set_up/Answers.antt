@@ -4,10 +4,10 @@ use Rattle.rules.specs.Calls.{set_up_writer}
 use Rattle.rules.proofs.Promises.{writer-starts-by}
 use Rattle.writer.proofs.set_up.Goals as goal
 
-pub returns-then-ok : goal.returns-then-ok
+pub returns-then-setting_ok : goal.returns-then-setting_ok
 unfolding set_up_writer
-returns-then-ok c = writer-starts-by _ _ (rw (sym c.setting_ok-ok.ensures ∙ c.if-ok.true, c.fresh_writer-w.ensures))
+returns-then-setting_ok c = writer-starts-by _ _ (rw (sym c.setting_ok.ensures ∙ c.if-setting_ok.true, c.fresh_writer.ensures))
 
-pub returns : goal.returns
+pub returns-else-setting_ok : goal.returns-else-setting_ok
 unfolding set_up_writer
-returns c = writer-starts-by _ _ (rw (sym c.setting_ok-ok.ensures ∙ c.if-ok.false, c.no_writer-w.ensures))
+returns-else-setting_ok c = writer-starts-by _ _ (rw (sym c.setting_ok.ensures ∙ c.if-setting_ok.false, c.no_writer.ensures))

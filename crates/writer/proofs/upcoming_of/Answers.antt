@@ -10,19 +10,19 @@ offset_bounds-lanes-l c = let q = slots _ _ c.requires.0 c.requires.1 in omega (
 pub bounds-lanes-l : goal.bounds-lanes-l
 bounds-lanes-l c = (slots _ _ c.requires.0 c.requires.1).eight
 
-pub offset_bounds-channels-p : goal.offset_bounds-channels-p
-offset_bounds-channels-p c = let q = slots _ _ c.requires.0 c.requires.1 in omega (arith, q.place)
+pub offset_bounds-channels-place : goal.offset_bounds-channels-place
+offset_bounds-channels-place c = let q = slots _ _ c.requires.0 c.requires.1 in omega (arith, q.place)
 
-pub bounds-channels-p : goal.bounds-channels-p
-bounds-channels-p c = (slots _ _ c.requires.0 c.requires.1).place
+pub bounds-channels-place : goal.bounds-channels-place
+bounds-channels-place c = (slots _ _ c.requires.0 c.requires.1).place
 
-pub offset_bounds-counts-p : goal.offset_bounds-counts-p
-offset_bounds-counts-p c =
+pub offset_bounds-counts-place : goal.offset_bounds-counts-place
+offset_bounds-counts-place c =
     let p = c.requires in
     let q = slots _ _ p.0 p.1 in omega (arith, q.place)
 
-pub bounds-counts-p : goal.bounds-counts-p
-bounds-counts-p c =
+pub bounds-counts-place : goal.bounds-counts-place
+bounds-counts-place c =
     let p = c.requires in
     (slots _ _ p.0 p.1).place
 
@@ -38,4 +38,4 @@ bounds-next-l c =
 
 pub returns : goal.returns
 unfolding upcoming_of
-returns c = rw c.zone_of-z.ensures
+returns c = rw c.zone_of.ensures

@@ -10,11 +10,11 @@ hand-fault-requires c = frame-by c.args.c _ _ _ _
     (write-is _ _ _ _ _ _ _ c.write-t.ensures)
     c.within-end.result c.within-end.ensures.area_value
 
-pub returns-in-Done : goal.returns-in-Done
+pub returns-in-Ok : goal.returns-in-Ok
 unfolding area_before one_more
-returns-in-Done c = sent-done _ _ _ _ _ (write-is _ _ _ _ _ _ _ c.write-t.ensures) _ _ c.in-Done.is
+returns-in-Ok c = sent-done _ _ _ _ _ (write-is _ _ _ _ _ _ _ c.write-t.ensures) _ _ c.in-Ok.is
     c.hand-fault.ensures c.saturating_add.ensures
 
-pub returns-in-Refused : goal.returns-in-Refused
+pub returns-in-Err : goal.returns-in-Err
 unfolding area_before
-returns-in-Refused c = sent-refused _ _ _ _ _ (write-is _ _ _ _ _ _ _ c.write-t.ensures) _ c.in-Refused.is
+returns-in-Err c = sent-refused _ _ _ _ _ (write-is _ _ _ _ _ _ _ c.write-t.ensures) _ _ c.number.ensures c.in-Err.is
