@@ -89,7 +89,8 @@ module _ (longest z : ℕ) (zp : 0 < z) (zl : z ≤ 4096) (k : ℕ) (b : List �
   lane-reads Packets h enough ok f j n js e =
       let p : Batch longest b = packet_batch longest b ok in
       let l : k * z < length (joined (packets b)) = rw p.joins (frame-within z zp b k f) in
-      ap₂ (λ (x : DataUnit) (q : Option ℕ). yield (packet_lane longest x q (zone_of Packets z b k))) e (points_back z (start_from (packets b) (k * z) - k * z) zl)
+      ap₂ (λ (x : DataUnit) (q : Option ℕ). yield (packet_lane longest x q (zone_of Packets z b k))) e
+      (points_back z (start_from (packets b) (k * z) - k * z) zl)
       ∙ subst
       (λ (x : List ℕ).
       yield (packet_lane longest (held_from j n 0 (k * z) (packets b)) (inside z (start_from (packets b) (k * z) - k * z)) (zone_of Packets z x k))

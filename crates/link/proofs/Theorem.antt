@@ -60,7 +60,8 @@ writer_accepted : (s : Setting) → (set_up_writer s).outcome ≡ Ok tt → sett
 unfolding set_up_writer
 writer_accepted s e = go (setting_ok s) e
   where
-    go : (t : Bool) → (cond {A = Sender} t (record { outcome = Ok tt; state = fresh_writer s }) (record { outcome = Err Refusal.Invalid; state = no_writer })).outcome
+    go : (t : Bool)
+        → (cond {A = Sender} t (record { outcome = Ok tt; state = fresh_writer s }) (record { outcome = Err Refusal.Invalid; state = no_writer })).outcome
         ≡ Ok tt → t ≡ true
     go true q = refl
     go false q = let z : ◌≡◌ {A = ℕ} 0 1 = cc in absurd (omega arith)

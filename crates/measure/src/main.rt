@@ -3,9 +3,9 @@
 // how many frames there were and a sum over what came out.
 #![tactic(auto)]
 
-ghost use Rattle.std.specs.Prelude.{◌≡◌, ◌+◌, ◌%◌, ◌≤◌, ◌∷◌, get_or};
+ghost use Rattle.std.specs.Prelude.{◌≡◌, ◌+◌, ◌%◌, ◌∷◌, get_or};
 
-use rules::{Answer, Channel, Lane, Looked, Reader, Setting, Writer};
+use rules::{Answer, Channel, Lane, Looked, Setting, Writer};
 
 // ---- numbers
 

@@ -38,7 +38,8 @@ module _ (q desk held units records : List ℕ) where
 
   -- Of the others each changes the desk alone.
   same-areas : {d d' : List ℕ} → d ≡ d'
-      → ◌≡◌ {A = Areas} (record { desk = d; held = held; units = units; records = records }) (record { desk = d'; held = held; units = units; records = records })
+      → ◌≡◌ {A = Areas} (record { desk = d; held = held; units = units; records = records })
+      (record { desk = d'; held = held; units = units; records = records })
   same-areas p = ap (λ (x : List ℕ). record { desk = x; held = held; units = units; records = records }) p
 
   pub lays : (d : List ℕ) → word q 0 ≡ 4 → d ≡ laid_in desk (word q 2) (behind q) → Leaves d held units records

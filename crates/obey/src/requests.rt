@@ -6,7 +6,7 @@ ghost use Rattle.rows.specs.Rows.{word};
 ghost use Rattle.rows.specs.States.{setting_in};
 ghost use Rattle.obey.specs.Requests.{cut, behind, laid_in, one, answered, sent_on, heard_on, class_number, answer_row, taken_on};
 ghost use Rattle.obey.specs.Requests.{asked, sent, written, sizes_in, read_in, whole, frame_in, read_on, Left, place_number, look_row, look_on};
-ghost use Rattle.obey.specs.Requests.{Means, desk_after, obeyed};
+ghost use Rattle.obey.specs.Requests.{Means, obeyed};
 
 use rows::{put_reader, put_row, put_writer, reader_in, setting_in, word_in, writer_in};
 use rules::{Answer, Class, Listener, Looked, Reader, Refusal, Sender, Taken, Writer};

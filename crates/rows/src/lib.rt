@@ -2,14 +2,13 @@
 #![tactic(auto)]
 
 ghost use Rattle.std.specs.Prelude.{◌≡◌, ℕ, ◌+◌, ◌*◌, ◌≤◌, ◌<◌, List, length, get_or};
-ghost use Rattle.rules.specs.Octets.{flag};
 ghost use Rattle.rules.specs.Areas.{laid};
 ghost use Rattle.rules.specs.Settings.{no_channel, no_lane, expect_on};
 ghost use Rattle.rows.specs.Rows.{word, spelled};
 ghost use Rattle.rows.specs.States.{channel_in, kind_in, lane_in, channels_in, counts_in, known_in, lanes_in, slot_in, slots_in};
 ghost use Rattle.rows.specs.States.{setting_in, reader_in, writer_in};
-ghost use Rattle.rows.specs.States.{front_row, channel_row, kind_number, no_tail, lane_row, rows, state_octets};
-ghost use Rattle.rows.specs.States.{tail_of, tails_of, reader_octets, expects_of, tails_of_next, writer_octets};
+ghost use Rattle.rows.specs.States.{front_row, channel_row, no_tail, lane_row, rows, state_octets};
+ghost use Rattle.rows.specs.States.{tail_of, reader_octets, writer_octets};
 
 use rules::{Channel, Expect, Expects, Kind, Lane, Reader, Setting, Slot, Writer};
 use std::array;

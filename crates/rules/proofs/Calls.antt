@@ -64,7 +64,8 @@ unfolding set_up_reader set_up_writer
 setup_accepted s e = (rw e, rw e, fresh-reader s e, fresh-writer s e)
 
 pub setup_refused : (s : Setting) → setting_ok s ≡ false
-    → (set_up_reader s ≡ record { outcome = Err Refusal.Invalid; state = no_reader }) × (set_up_writer s ≡ record { outcome = Err Refusal.Invalid; state = no_writer })
+    → (set_up_reader s ≡ record { outcome = Err Refusal.Invalid; state = no_reader })
+    × (set_up_writer s ≡ record { outcome = Err Refusal.Invalid; state = no_writer })
     × (reader_ok no_reader ≡ false) × (writer_ok no_writer ≡ false)
 unfolding set_up_reader set_up_writer
 setup_refused s e = (rw e, rw e, no-reader, no-writer)

@@ -60,7 +60,9 @@ given-among (r ∷ rs) = go r.applies (given-among rs)
 
 -- Which refusal it is, by its number.
 abbrev by-number : List Refusal
-by-number = Refusal.Invalid ∷ Refusal.AreaShort ∷ Refusal.Length ∷ Refusal.Check ∷ Refusal.Version ∷ Refusal.Craft ∷ Refusal.HeaderEnd ∷ Refusal.Fields ∷ Refusal.Unlisted ∷ Refusal.CountLength ∷ Refusal.OcfFlag ∷ Refusal.DataField ∷ Refusal.NoLane ∷ Refusal.Batch ∷ Refusal.Parts ∷ Refusal.FrameNumber ∷ []
+by-number =
+    Refusal.Invalid ∷ Refusal.AreaShort ∷ Refusal.Length ∷ Refusal.Check ∷ Refusal.Version ∷ Refusal.Craft ∷ Refusal.HeaderEnd ∷ Refusal.Fields
+    ∷ Refusal.Unlisted ∷ Refusal.CountLength ∷ Refusal.OcfFlag ∷ Refusal.DataField ∷ Refusal.NoLane ∷ Refusal.Batch ∷ Refusal.Parts ∷ Refusal.FrameNumber ∷ []
 
 number-once : (a b : Refusal) → number_of a ≡ number_of b → a ≡ b
 number-once a b e = sym (back a) ∙ ap (λ (n : ℕ). get_or by-number (n - 1) Refusal.Invalid) e ∙ back b

@@ -15,7 +15,9 @@ returns-then-all c =
     let each : c.all.result ≡ every s.listed (λ i. channel_ok s (channel s i)) =
     all_from_yields_List (channel_ok s) _ _ _ c.all.ensures.ran (YieldsList-from_slice (take s.listed s.channels) (search rules)) (λ x t q d. search rules)
     ∙ every_of (channel_ok s) s.channels no_channel _ (omega arith) in
-    let two = c.every_two.ensures channels_agree no_channel (λ a b t d. d) ∙ pairs_in channels_agree no_channel s.channels _ s.listed (omega arith) (search rules) in
+    let two =
+    c.every_two.ensures channels_agree no_channel (λ a b t d. d)
+    ∙ pairs_in channels_agree no_channel s.channels _ s.listed (omega arith) (search rules) in
     search (rules, each, two)
 
 pub returns-else-all : goal.returns-else-all

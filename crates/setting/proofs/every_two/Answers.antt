@@ -13,14 +13,18 @@ pub returns-then-not-all : goal.returns-then-not-all
 returns-then-not-all g c = λ p z h.
     let i = c.loop-i.i in
     let b = c.index-xs-i.result in
-    let all = all_from_yields_List (λ a. p a b) _ _ _ c.all.ensures.ran (YieldsList-from_slice (take i c.args.xs.now) c.iter.ensures.rest) (λ x t q d. (search rules, h _ _ _ (search rules))) in
+    let all =
+    all_from_yields_List (λ a. p a b) _ _ _ c.all.ensures.ran (YieldsList-from_slice (take i c.args.xs.now) c.iter.ensures.rest)
+    (λ x t q d. (search rules, h _ _ _ (search rules))) in
     sym (every-not _ _ _ c.loop-i-test.true (sym (beside p z _ _ _ _ c.loop-i-test.true c.index-xs-i.is all) ∙ c.if-not-all.true))
 
 pub loop-i-preserved : goal.loop-i-preserved
 loop-i-preserved g c = λ p z h.
     let i = c.loop-i.i in
     let b = c.index-xs-i.result in
-    let all = all_from_yields_List (λ a. p a b) _ _ _ c.all.ensures.ran (YieldsList-from_slice (take i c.args.xs.now) c.iter.ensures.rest) (λ x t q d. (search rules, h _ _ _ (search rules))) in
+    let all =
+    all_from_yields_List (λ a. p a b) _ _ _ c.all.ensures.ran (YieldsList-from_slice (take i c.args.xs.now) c.iter.ensures.rest)
+    (λ x t q d. (search rules, h _ _ _ (search rules))) in
     below_more _ _ (c.loop-i.invariant p z h) (sym (beside p z _ _ _ _ c.loop-i-test.true c.index-xs-i.is all) ∙ c.if-not-all.false)
 
 pub returns : goal.returns
