@@ -223,10 +223,9 @@ fn main(rt: HostRuntime) {
     let mut path = io::buffer();
     let k = console::arg(&system, 2, &mut path).unwrap_or(0);
     let mut text = [0u8; 65537];
-    let j = setting_file::load(&system, b"measure", &path[..k], &mut text).judged;
-    if j.good {
+    if let Ok(s) = setting_file::load(&system, b"measure", &path[..k], &mut text).judged {
         let mut area = io::buffer();
-        let end = j.setting.length.min(4096);
-        work(word[0], j.setting, &mut area[..end]);
+        let end = s.length.min(4096);
+        work(word[0], s, &mut area[..end]);
     }
 }

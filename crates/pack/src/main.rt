@@ -776,8 +776,8 @@ fn pack_all(system: &System, s: Setting, q: Asked, n: usize) {
 
 // Packs by the setting that was loaded, if it is one.
 fn with_setting(system: &System, l: Loaded, q: Asked, n: usize) {
-    if l.judged.good {
-        pack_all(system, l.judged.setting, q, n);
+    if let Ok(s) = l.judged {
+        pack_all(system, s, q, n);
     }
 }
 

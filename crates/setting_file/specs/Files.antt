@@ -1,26 +1,22 @@
 -- What a file with a setting is.
-use Rattle.std.specs.Prelude.{ℕ, false, cond, List, length, take}
+use Rattle.std.specs.Prelude.{ℕ, cond, List, length, take, Option, Some, None, Result, Ok, Err}
 use Rattle.rules.specs.Tests.{◌≤?◌}
-use Rattle.rules.specs.Settings.{setting_ok, no_setting}
-use Rattle.setting_text.specs.declared.Parsed.{Parsed}
+use Rattle.rules.specs.declared.Setting.{Setting}
+use Rattle.setting_text.specs.declared.Finding.{Finding}
 use Rattle.setting_text.specs.Facts.{parsed}
-use Rattle.setting_file.specs.declared.Found.{Found}
-use Rattle.setting_file.specs.declared.Found.TheVariants.{Unread, TooLong, Text}
-use Rattle.setting_file.specs.declared.Judged.{Judged}
-use Rattle.setting_file.specs.declared.Filled.{Filled}
+use Rattle.setting_file.specs.declared.Wrong.{Wrong}
+use Rattle.setting_file.specs.declared.Wrong.TheVariants.{Unread, TooLong, Text}
 
--- No setting, but one of zeros.
-unfoldable pub none : Found → Judged
-none found = record { found = found; good = false; setting = no_setting }
-
--- What a text is found to be, and its setting, which is good if document 01 accepts it.
-unfoldable pub parsed_to : Parsed → Judged
-parsed_to p = record { found = Text p.finding; good = setting_ok p.setting; setting = p.setting }
+-- What is wrong with a text is wrong with its file.
+abbrev pub parsed_to : Result Setting Finding → Result Setting Wrong
+parsed_to (Ok s) = Ok s
+parsed_to (Err f) = Err (Text f)
 
 -- "At most 65,536 octets are read from a file, and a longer one is refused."
-unfoldable pub text_found : List ℕ → Judged
-text_found xs = cond (length xs ≤? 65536) (parsed_to (parsed xs)) (none TooLong)
+abbrev pub text_found : List ℕ → Result Setting Wrong
+text_found xs = cond (length xs ≤? 65536) (parsed_to (parsed xs)) (Err TooLong)
 
--- What a file is that was read so into the area.
-unfoldable pub judged : Filled → List ℕ → Judged
-judged f area = cond f.read (text_found (take f.size area)) (none Unread)
+-- The setting of a file of which so many octets were read into the area, or of one that could not be read.
+abbrev pub judged : Option ℕ → List ℕ → Result Setting Wrong
+judged (Some n) area = text_found (take n area)
+judged None area = Err Unread

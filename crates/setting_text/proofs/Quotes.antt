@@ -1,15 +1,13 @@
 -- Laws of the places of lines, words and quotes, in the code's own tests.
-use Prim.Native.Nat.{ℕ, zero, suc, ◌+◌, ◌-◌, ◌≤◌, ◌<◌}
+use Prim.Native.Nat.{ℕ, zero, suc, max, ◌+◌, ◌-◌, ◌≤◌, ◌<◌}
 use mathlib.Core.Path.{◌≡◌, refl, sym, ap, ◌∙◌}
 use mathlib.Core.Bool.{Bool, true, false, cond}
 use mathlib.Core.List.{List, [], ◌∷◌}
 use native.Mathlib.Omega.{arith}
 use lib.ListN.{length, take, drop, get_or, length-take, length-drop, drop_of_length-le}
-use lib.Seq.{length-take-le, take_all, take-nil, take-take, drop-drop, drop-length, drop-cons}
-use borrow.Author.Tests.{eq-eqb, ne_eqb}
-use Rattle.rules.specs.Tests.{◌=?◌}
+use lib.Seq.{take_all, take-nil, take-take, drop-drop, drop-length, drop-cons}
 use Rattle.setting_text.specs.declared.Stop.TheVariants as stop
-use Rattle.setting_text.specs.Texts.{blank, stops, until, cut, lines, words, first, others}
+use Rattle.setting_text.specs.Texts.{blank, stops, until, lines, words, first, others}
 use Rattle.setting_text.specs.Places.{Word}
 use Rattle.setting_text.proofs.Texts.{pieces, cut-until}
 use Rattle.setting_text.specs.Quotes.{last_end, trimmed}
@@ -19,7 +17,7 @@ use Rattle.setting_text.specs.Parts.{Part, Line}
 
 -- A text without octets has no line but an empty one.
 lines_none : (j : ℕ) → get_or (lines []) j [] ≡ []
-unfolding lines cut
+unfolding lines
 lines_none zero = refl
 lines_none (suc j) = refl
 
@@ -68,9 +66,6 @@ further xs ys n k h e = let z : n - k ≡ suc (n - (k + 1)) = omega arith in ap 
 
 here : (xs : List (List ℕ)) (n k : ℕ) → n ≤ k → get_or xs (n - k) [] ≡ get_or xs 0 []
 here xs n k h = let z : n - k ≡ 0 = omega arith in ap (λ (j : ℕ). get_or xs j []) z
-
-pub begins : (xs : List (List ℕ)) (n : ℕ) → get_or xs n [] ≡ get_or xs (n - 0) []
-begins xs n = let z : n ≡ n - 0 = omega arith in ap (λ (j : ℕ). get_or xs j []) z
 
 pub part_same : (xs ys t : List ℕ) (from to : ℕ) → ys ≡ xs → Part xs t from to → Part ys t from to
 part_same xs ys t from to e p = record { octets = e ∙ p.octets; forward = p.forward; within = p.within }
@@ -161,28 +156,11 @@ part_in xs t f to a b p h g =
     let l : f ≤ length t = omega arith in
     part-behind xs t f a b (part-front xs (drop f t) (to - f) a b p k) l
 
--- ---- how long a part is
-
-part_length : (xs t : List ℕ) (a b : ℕ) → Part xs t a b → length xs ≡ b - a
-part_length xs t a b p =
-    let k : b - a ≤ length (drop a t) = simp length-drop (omega (arith, p.within)) in
-    ap length p.octets ∙ length-take-le (b - a) (drop a t) k
-
-pub part_none : (xs t : List ℕ) (a b : ℕ) → Part xs t a b → a ≡ b → (length xs =? 0) ≡ true
-part_none xs t a b p e = let z : length xs ≡ 0 = omega (arith, part_length xs t a b p, e) in eq-eqb _ _ z
-
-pub part-some : (xs t : List ℕ) (a b : ℕ) → Part xs t a b → (a ≡ b → ⊥) → (length xs =? 0) ≡ false
-part-some xs t a b p e = ne_eqb _ _ (λ (z : length xs ≡ 0). e (omega (arith, part_length xs t a b p, z, p.forward)))
-
 -- ---- the words of a line
 
-module _ (l : List ℕ) (from end : ℕ) (f : from ≡ until (stops stop.Word) l) (e : end ≡ last_end 0 0 l) where
-  pub words-none : from ≤ length l → end < from → Part (trimmed l) l from from
-  unfolding trimmed
-  words-none h q =
-      let z : end - from ≡ from - from = omega arith in
-      record { octets = rw (sym f, sym e, z); forward = omega arith; within = h }
-
-  pub words-some : end ≤ length l → from ≤ end → Part (trimmed l) l from end
-  unfolding trimmed
-  words-some h q = record { octets = rw (sym f, sym e); forward = q; within = h }
+pub words_part : (l : List ℕ) (from end : ℕ) → from ≡ until (stops stop.Word) l → from ≤ length l → end ≡ last_end 0 0 l → end ≤ length l
+    → Part (trimmed l) l from (max end from)
+unfolding trimmed
+words_part l from end f h e g =
+    let z : max end from - from ≡ end - from = omega arith in
+    record { octets = rw (sym f, sym e, z); forward = omega arith; within = omega arith }

@@ -1,5 +1,7 @@
 -- The setting as a text: lines, words and numbers.
-use Rattle.std.specs.Prelude.{ℕ, suc, ◌+◌, ◌-◌, ◌*◌, Bool, true, false, cond, not, ◌&&◌, ◌||◌, List, [], ◌∷◌, take}
+use Rattle.std.specs.Prelude.{ℕ, suc, ◌+◌, ◌-◌, ◌*◌, Bool, true, false, cond, not, ◌&&◌, ◌||◌, List, [], ◌∷◌, take, Option, Some, None}
+use Rattle.std.specs.List.{slice_split}
+use Rattle.std.specs.Str.{bytes_eq}
 use Rattle.rules.specs.Tests.{◌≤?◌, ◌=?◌}
 use Rattle.setting_text.specs.declared.Stop.{Stop}
 use Rattle.setting_text.specs.declared.Stop.TheVariants as stop
@@ -7,11 +9,11 @@ use Rattle.setting_text.specs.declared.Stop.TheVariants as stop
 -- ---- lines and words
 
 -- "A blank is a space, a tab or a carriage return."
-unfoldable pub blank : ℕ → Bool
+abbrev pub blank : ℕ → Bool
 blank x = x =? 32 || x =? 9 || x =? 13
 
 -- Whether an octet is a line feed, a `#`, a blank, something else than a blank, or a carriage return.
-unfoldable pub stops : Stop → ℕ → Bool
+abbrev pub stops : Stop → ℕ → Bool
 stops stop.Feed x = x =? 10
 stops stop.Hash x = x =? 35
 stops stop.Blank x = blank x
@@ -23,15 +25,9 @@ unfoldable pub until : (ℕ → Bool) → List ℕ → ℕ
 until p [] = 0
 until p (x ∷ xs) = cond (p x) 0 (suc (until p xs))
 
--- One octet more at the front of the first piece.
-unfoldable pub onto : ℕ → List (List ℕ) → List (List ℕ)
-onto x [] = (x ∷ []) ∷ []
-onto x (w ∷ ws) = (x ∷ w) ∷ ws
-
 -- The pieces that stand between the octets that pass, empty ones too.
-unfoldable pub cut : (ℕ → Bool) → List ℕ → List (List ℕ)
-cut p [] = [] ∷ []
-cut p (x ∷ xs) = cond (p x) ([] ∷ cut p xs) (onto x (cut p xs))
+abbrev pub cut : (ℕ → Bool) → List ℕ → List (List ℕ)
+cut = slice_split
 
 -- The pieces that have an octet.
 unfoldable pub full : List (List ℕ) → List (List ℕ)
@@ -62,15 +58,12 @@ others [] = []
 others (w ∷ ws) = ws
 
 -- Two words are the same.
-unfoldable pub same : List ℕ → List ℕ → Bool
-same [] [] = true
-same [] (y ∷ ys) = false
-same (x ∷ xs) [] = false
-same (x ∷ xs) (y ∷ ys) = x =? y && same xs ys
+abbrev pub same : List ℕ → List ℕ → Bool
+same = bytes_eq
 
 -- ---- "A number is one or more decimal digits (leading zeros are fine)."
 
-unfoldable pub digit : ℕ → Bool
+abbrev pub digit : ℕ → Bool
 digit x = 48 ≤? x && x ≤? 57
 
 unfoldable pub digits : List ℕ → Bool
@@ -86,6 +79,6 @@ unfoldable pub value : ℕ → List ℕ → ℕ
 value n [] = n
 value n (x ∷ xs) = value (10 * n + (x - 48)) xs
 
--- The number, up to 65,535, that a word stands for; 65,536 where it stands for none.
-unfoldable pub number_of : List ℕ → ℕ
-number_of w = cond (is_number w && value 0 w ≤? 65535) (value 0 w) 65536
+-- The number, up to 65,535, that a word stands for, if any.
+unfoldable pub number_of : List ℕ → Option ℕ
+number_of w = cond (is_number w && value 0 w ≤? 65535) (Some (value 0 w)) None

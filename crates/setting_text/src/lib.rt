@@ -1,25 +1,27 @@
 // A setting from its text: a table of its lines, what each says, the first bad line, and what a text lacks.
 #![tactic(auto)]
 
+mod messages;
 pub mod quoting;
 
-ghost use Rattle.std.specs.Prelude.{◌≡◌, ◌&&◌, cond, ◌≤◌, ◌<◌, [], ◌∷◌, get_or};
-ghost use Rattle.rules.specs.Tests.{◌≤?◌, ◌=?◌};
+ghost use Rattle.std.specs.Prelude.{◌≡◌, ◌≤◌, ◌<◌, [], ◌∷◌, get_or, map, cond, Option, Some, None, Ok, Err};
+ghost use Rattle.rules.specs.Tests.{◌=?◌};
+ghost use Rattle.rules.specs.Listing.{text};
 ghost use Rattle.rules.specs.Refusals.{channel_at};
 ghost use Rattle.rules.specs.declared.Kind.TheVariants as kinds;
 ghost use Rattle.setting_text.specs.declared.Ask.TheVariants as ask;
+ghost use Rattle.setting_text.specs.declared.Finding.TheVariants as finds;
 ghost use Rattle.setting_text.specs.declared.Says.TheVariants as say;
-ghost use Rattle.setting_text.specs.Texts.{blank, stops, same, words, number_of};
-ghost use Rattle.setting_text.specs.Table.{VC, SERVICE, ASIDE, item, from, end, yes_or_no, direction_line, frame_lines, part_lines, channel_name, channel_line, lane_head, longest_end, packets_end, access_end, lane_lines, place, worth, fresh, counted, noted, step, follow, through, heard};
-ghost use Rattle.setting_text.specs.Places.{Until, Word, seen, moved, most, Bounded, Known, Sound, Gathering};
-ghost use Rattle.setting_text.specs.Facts.{nothing, refuse, forbid, told, with_fact, add_fact, with_channel, with_lane, ocf_unlike, add_channel, channel_of, add_lane, lane_of, add_lane_of, take_said, take_asked, take_line, zoneless, judged, lacking, all_found, found, answered, parsed};
+ghost use Rattle.setting_text.specs.Texts.{blank, stops, words, number_of};
+ghost use Rattle.setting_text.specs.Table.{index, field_of, wanted, says, item, word, either, from, end, yes_or_no, direction_line, frame_lines, part_lines, channel_name, channel_line, lane_head, longest_end, packets_end, access_end, lane_lines, place, in_range, worth, fresh, put, counted, noted, step, follow, through, heard};
+ghost use Rattle.setting_text.specs.Places.{Until, Word, seen, moved, most, Bounded, Sound, Room, Gathering};
+ghost use Rattle.setting_text.specs.Facts.{nothing, refuse, forbid, is_told, with_fact, add_fact, with_channel, with_lane, ocf_unlike, add_channel, channel_of, add_lane, lane_of, add_lane_of, take_heard, take_line, completed, zoneless, judged, parsed};
 
 use rules::{Channel, Kind, Lane, Setting};
 
 // What was expected at a line that is refused.
 #[derive(Clone, Copy)]
 pub enum Wanted {
-    Nothing,
     Fact,
     Length,
     Service,
@@ -41,34 +43,48 @@ pub enum Wanted {
     FewerLanes,
 }
 
-// What was never said.
+// The facts that a text says once, each in a line of its own.
 #[derive(Clone, Copy)]
-pub enum Missing {
+pub enum Fact {
     Length,
     Spacecraft,
     Direction,
     Insert,
     Check,
+}
+
+// What a line says, and what a text has to say: each single fact, a channel, a lane.
+#[derive(Clone, Copy)]
+pub enum Says {
+    Fact(Fact),
     Channel,
     Lane,
 }
 
-// A valid setting; a bad line, from 1, the first of its words that does not fit, from 0 (256 where all do), and what was expected there; what the text lacks; virtual
-// channel and service of a channel whose zone has no octet; another rule of document 01 that the setting breaks.
+// Why a line is refused: the first of its words that does not fit, from 0, or none where all do and the lines before forbid it; and what was
+// expected there.
+#[derive(Clone, Copy)]
+pub struct Misfit {
+    pub word: Option<usize>,
+    pub wanted: Wanted,
+}
+
+// Why a text is no valid setting: a bad line, from 1; what the text lacks; virtual channel and service of a channel whose zone has no octet;
+// another rule of document 01 that the setting breaks.
 #[derive(Clone, Copy)]
 pub enum Finding {
-    Good,
-    Line(usize, usize, Wanted),
-    Lacks(Missing),
+    Line(usize, Misfit),
+    Lacks(Says),
     Zone(u8, u8),
     Other,
 }
 
-// What a text is, and its setting: one of zeros where the text is not good.
-#[derive(Clone, Copy)]
-pub struct Parsed {
-    pub finding: Finding,
-    pub setting: Setting,
+impl From<Says> for Finding {
+    ghost from_gives = { λ s f. f ≡ finds.Lacks s };
+
+    fn from(s: Says) -> Finding {
+        Finding::Lacks(s)
+    }
 }
 
 // Octets that end something: a line feed, a `#`, a blank, what is no blank, a carriage return.
@@ -88,130 +104,95 @@ pub struct Span {
     pub to: usize,
 }
 
-// What a line says: a single fact, by its field, a channel, a lane, or nothing.
+// Where a line's number goes: to one of five single facts, to a channel's fields, or to what a lane has besides.
 #[derive(Clone, Copy)]
-pub enum Says {
-    Fact(usize),
+pub enum Field {
+    Length,
+    Spacecraft,
+    Direction,
+    Insert,
+    Check,
     Channel,
-    Lane,
-    Nothing,
+    Service,
+    Count,
+    Ocf,
+    Map,
+    Upid,
+    Longest,
+}
+
+impl From<Fact> for Field {
+    ghost from_gives = { λ f r. r ≡ field_of f };
+
+    fn from(fact: Fact) -> Field {
+        match fact {
+            Fact::Length => Field::Length,
+            Fact::Spacecraft => Field::Spacecraft,
+            Fact::Direction => Field::Direction,
+            Fact::Insert => Field::Insert,
+            Fact::Check => Field::Check,
+        }
+    }
 }
 
 // What is asked of a word: to be one of some words, or else this was wanted; to be a number from .. to ..; not to be there, and
-// then the line says this.
+// then the line says this, if anything.
 #[derive(Clone, Copy)]
 pub enum Ask {
     Word(Wanted),
     Number(usize, usize),
-    End(Says),
+    End(Option<Says>),
 }
 
-// What is heard of a line: its numbers by their fields, how many words fit, what was asked last, and whether all words fit.
+// What is heard of a line: its numbers by their fields, how many words fit, and what the line says, or what was wanted in the place of the
+// first word that does not fit.
 #[derive(Clone, Copy)]
 pub struct Heard {
-    pub numbers: [usize; 14],
+    pub numbers: [usize; 12],
     pub count: usize,
-    pub ask: Ask,
-    pub fits: bool,
+    pub says: Result<Option<Says>, Wanted>,
 }
 
 // How far a line is held against the table: the next octet, what is heard of it as the present line of the table, and as the best
 // one before.
 #[derive(Clone, Copy)]
-pub struct Trace {
+pub struct Trace<'a> {
+    pub line: &'a [u8],
     pub at: usize,
     pub now: Heard,
     pub best: Heard,
 }
 
-// What the lines said so far, whether each single fact, a channel and a lane were said, whether all lines fit, and otherwise which word of the
-// last does not (256 where the lines before forbid it) and what was expected.
+// What the lines said so far: each single fact, and a setting with the channels and lanes, in which nothing else is said.
 #[derive(Clone, Copy)]
 pub struct Draft {
-    pub setting: Setting,
-    pub facts: [bool; 7],
-    pub fits: bool,
-    pub word: usize,
-    pub wanted: Wanted,
+    pub length: Option<usize>,
+    pub craft: Option<u16>,
+    pub bit: Option<u8>,
+    pub insert: Option<usize>,
+    pub check: Option<bool>,
+    pub lists: Setting,
 }
-
-// What all lines said, and the number of the one that does not fit; 0 where all do.
-#[derive(Clone, Copy)]
-pub struct Gathered {
-    pub draft: Draft,
-    pub line: usize,
-}
-
-// The fields of a line's numbers: five single facts; those of a channel; those that a lane has besides; what
-// says nothing; the line's end.
-const LENGTH: usize = 0;
-
-const CRAFT: usize = 1;
-
-const DIRECTION: usize = 2;
-
-const INSERT: usize = 3;
-
-const CHECK: usize = 4;
-
-const VC: usize = 5;
-
-const SERVICE: usize = 6;
-
-const OCTETS: usize = 7;
-
-const OCF: usize = 8;
-
-const MAP: usize = 9;
-
-const UPID: usize = 10;
-
-const LONGEST: usize = 11;
-
-const ASIDE: usize = 12;
-
-const END: usize = 13;
-
-// In the place of a word, where all of a line fit: more than a line of the table has.
-pub const NO_WORD: usize = 256;
-
-// What is missing where it was never said.
-const MISSING: [Missing; 7] = [
-    Missing::Length,
-    Missing::Spacecraft,
-    Missing::Direction,
-    Missing::Insert,
-    Missing::Check,
-    Missing::Channel,
-    Missing::Lane,
-];
 
 // Whether an octet is a blank.
 pub fn is_blank(x: u8) -> bool
     ensures { result ≡ blank x }
 {
-    if x == 32 {
-        return true;
-    }
-    if x == 9 {
-        return true;
-    }
-    x == 13
+    matches!(x, b' ' | b'\t' | b'\r')
 }
 
-// Whether an octet is one of these.
-fn stops_at(s: Stop, x: u8) -> bool
-    ensures { result ≡ stops s x }
-{
-    match s {
-        Stop::Feed => x == 10,
-        Stop::Hash => x == 35,
-        Stop::Blank => is_blank(x),
-        Stop::Word => {
-            let b = is_blank(x);
-            return !b;
+impl Stop {
+    // Whether an octet is one of these.
+    fn stops(self, x: u8) -> bool
+        ensures { result ≡ stops self x }
+    {
+        match self {
+            Stop::Feed => x == b'\n',
+            Stop::Hash => x == b'#',
+            Stop::Blank => is_blank(x),
+            Stop::Word => !is_blank(x),
+            Stop::Return => x == b'\r',
         }
-        Stop::Return => x == 13,
     }
 }
 
@@ -219,33 +200,10 @@ fn stops_at(s: Stop, x: u8) -> bool
 pub fn until_stop(octets: &[u8], s: Stop) -> usize
     ensures { Until s octets.now result }
 {
-    let mut i: usize = 0;
-    while i < octets.len() {
-        let x = octets[i];
-        let found = stops_at(s, x);
-        if found {
-            return i;
-        }
-        i += 1;
-    }
-    i
-}
-
-// Whether two words are the same.
-fn same_word(a: &[u8], b: &[u8]) -> bool
-    ensures { result ≡ same a.now b.now }
-{
-    if a.len() != b.len() {
-        return false;
-    }
-    let mut i: usize = 0;
-    while i < a.len() {
-        if a[i] != b[i] {
-            return false;
-        }
-        i += 1;
-    }
-    true
+    octets
+        .iter()
+        .position(|x| s.stops(*x))
+        .unwrap_or(octets.len())
 }
 
 // Where the next word stands from octet `at` on; an empty place where there is none.
@@ -256,111 +214,113 @@ pub fn next_word(line: &[u8], at: usize) -> Span
     if n < at {
         return Span { from: n, to: n };
     }
-    let rest = &line[at..];
-    let gap = until_stop(rest, Stop::Word);
-    let from = at + gap;
-    let tail = &line[from..];
-    let size = until_stop(tail, Stop::Blank);
-    Span {
-        from: from,
-        to: from + size,
-    }
+    let from = at + until_stop(&line[at..], Stop::Word);
+    let to = from + until_stop(&line[from..], Stop::Blank);
+    Span { from, to }
 }
 
-// The number, up to 65,535, that a word stands for; 65,536 where it stands for none.
-fn number_of(word: &[u8]) -> usize
+// The number, up to 65,535, that a word stands for, if any.
+fn number_of(word: &[u8]) -> Option<usize>
     ensures { result ≡ number_of word.now }
 {
-    let n = word.len();
-    if n == 0 {
-        return 65536;
+    if word.is_empty() {
+        return None;
     }
-    let mut v: usize = 0;
-    let mut i: usize = 0;
-    while i < n {
-        let x = word[i];
-        if x < 48 {
-            return 65536;
+    let mut v = 0;
+    for x in word {
+        if !x.is_ascii_digit() {
+            return None;
         }
-        if 57 < x {
-            return 65536;
-        }
-        v = 10 * v + (x as usize - 48);
+        v = 10 * v + usize::from(*x - b'0');
         if 65535 < v {
-            return 65536;
+            return None;
         }
-        i += 1;
     }
-    v
+    Some(v)
 }
 
-// Which of some words a word is, from 0; 65,536 where it is none.
-fn place_of(word: &[u8], keys: &[u8]) -> usize
-    ensures { result ≡ place 0 word.now (words keys.now) }
+// Which of some words a word is, from 0, if any.
+fn place_of(word: &[u8], keys: &[&[u8]]) -> Option<usize>
+    ensures { result ≡ place 0 word.now (map (λ k. k.now) keys.now) }
 {
-    let mut n: usize = 0;
-    let mut at: usize = 0;
-    while at < keys.len() {
-        let w = next_word(keys, at);
-        let from = w.from;
-        let to = w.to;
-        if from == to {
-            return 65536;
-        }
-        let key = &keys[from..to];
-        let found = same_word(word, key);
-        if found {
-            return n;
-        }
-        n += 1;
-        at = to;
-    }
-    65536
+    keys.iter().position(|k| word == *k)
 }
 
-// The number that a word stands for, from `low` to `high`; 65,536 where it stands for none.
-fn number_in(word: &[u8], low: usize, high: usize) -> usize
-    ensures { result ≡ cond (low ≤? number_of word.now && number_of word.now ≤? high) (number_of word.now) 65536 }
-{
-    let n = number_of(word);
-    if n < low {
-        return 65536;
+impl Ask {
+    // The number of a word of which this is asked, if it fits. That of one of some words is its place among them.
+    fn worth(self, word: &[u8], keys: &[&[u8]]) -> Option<usize>
+        ensures { result ≡ worth self (map (λ k. k.now) keys.now) word.now }
+    {
+        match self {
+            Ask::Word(_) => place_of(word, keys),
+            Ask::Number(low, high) => number_of(word).filter(|n| low <= *n && *n <= high),
+            Ask::End(_) => word.is_empty().then_some(0),
+        }
     }
-    if high < n {
-        return 65536;
-    }
-    n
-}
 
-// The number of a word of which this is asked; 65,536 where it does not fit. That of one of some words is its place among them.
-fn worth_of(word: &[u8], keys: &[u8], ask: Ask) -> usize
-    ensures { result ≡ worth ask keys.now word.now }
-{
-    match ask {
-        Ask::Word(wanted) => {
-            return place_of(word, keys);
+    // What was wanted, where a word does not fit.
+    fn wanted(self) -> Wanted
+        ensures { result ≡ wanted self }
+    {
+        match self {
+            Ask::Word(wanted) => wanted,
+            Ask::Number(low, high) => Wanted::Number(low, high),
+            Ask::End(_) => Wanted::End,
         }
-        Ask::Number(low, high) => {
-            return number_in(word, low, high);
-        }
-        Ask::End(says) => {
-            if word.len() == 0 {
-                return 0;
-            }
-            return 65536;
+    }
+
+    // What the line says, where it ends here.
+    fn says(self) -> Option<Says>
+        ensures { result ≡ says self }
+    {
+        match self {
+            Ask::End(says) => says,
+            _ => None,
         }
     }
 }
 
-// No word was heard yet.
-fn fresh_heard(fits: bool) -> Heard
-    ensures { result ≡ fresh fits }
+// The numbers with one more, in its field, if it has one.
+fn put(numbers: [usize; 12], field: Option<Field>, n: usize) -> [usize; 12]
+    ensures { result ≡ put field n numbers }
 {
-    Heard {
-        numbers: [0; 14],
-        count: 0,
-        ask: Ask::Word(Wanted::Fact),
-        fits: fits,
+    let mut numbers = numbers;
+    if let Some(f) = field {
+        numbers[f as usize] = n;
+    }
+    numbers
+}
+
+impl Heard {
+    // No word was heard yet.
+    fn fresh(says: Result<Option<Says>, Wanted>) -> Heard
+        ensures { result ≡ fresh says }
+    {
+        Heard {
+            numbers: [0; 12],
+            count: 0,
+            says,
+        }
+    }
+
+    // What is heard after a word of which this was asked, and which has this number, if it fits; once a word did not fit, none does.
+    fn note(self, ask: Ask, field: Option<Field>, n: Option<usize>) -> Heard
+        ensures { result ≡ noted ask field n self }
+    {
+        if self.says.is_err() {
+            return self;
+        }
+        let Some(n) = n else {
+            return Heard {
+                says: Err(ask.wanted()),
+                ..self
+            };
+        };
+        Heard {
+            numbers: put(self.numbers, field, n),
+            count: one_more(self.count),
+            says: Ok(ask.says()),
+        }
     }
 }
 
@@ -368,437 +328,229 @@ fn fresh_heard(fits: bool) -> Heard
 fn one_more(n: usize) -> usize
     ensures { result ≡ counted n }
 {
-    if n < 255 {
-        return n + 1;
-    }
-    n
+    if n < 255 { n + 1 } else { n }
 }
 
-// What is heard after a word of which this was asked.
-fn note(h: Heard, ask: Ask, field: usize, n: usize) -> Heard
-    requires { field < 14 }
-    ensures { result ≡ noted ask field n h }
-{
-    if !h.fits {
-        return h;
-    }
-    let mut numbers = h.numbers;
-    if n == 65536 {
-        return Heard {
-            numbers: numbers,
-            count: h.count,
-            ask: ask,
-            fits: false,
+// Each of these holds what comes next in the line against the table: what they are called says which part of it.
+#[tactic(auto, unfolding(rules::specs::Listing::text, crate::specs::Table::follow, crate::specs::Table::through, crate::specs::Table::frame_lines, crate::specs::Table::part_lines, crate::specs::Table::channel_line, crate::specs::Table::lane_head, crate::specs::Table::packets_end, crate::specs::Table::access_end))]
+impl<'a> Trace<'a> {
+    // The place after a word that ends at `to` and of which this was asked; after a line of the table, the begin of the line.
+    #[tactic(auto, unfolding(crate::specs::Places::seen))]
+    fn move_on(self, to: usize, ask: Ask, now: Heard) -> Trace<'a>
+        ensures { seen result ≡ moved to ask now self.entry }
+    {
+        let Ask::End(_) = ask else {
+            return Trace {
+                at: to,
+                now,
+                ..self
+            };
         };
+        let best = if self.best.count < now.count {
+            now
+        } else {
+            self.best
+        };
+        Trace {
+            line: self.line,
+            at: 0,
+            now: Heard::fresh(Ok(None)),
+            best,
+        }
     }
-    numbers[field] = n;
-    let count = one_more(h.count);
-    Heard {
-        numbers: numbers,
-        count: count,
-        ask: ask,
-        fits: true,
+
+    // The next word: the words that may stand there, what is asked, and the field that its number goes to.
+    fn word(self, keys: &[&[u8]], ask: Ask, field: Option<Field>) -> Trace<'a>
+        ensures { seen result ≡ step (item (map (λ k. k.now) keys.now) ask field) (seen self.entry) }
+    {
+        let w = next_word(self.line, self.at);
+        let n = ask.worth(&self.line[w.from..w.to], keys);
+        self.move_on(w.to, ask, self.now.note(ask, field, n))
     }
-}
 
-// The place after a word that ends at `to`; after a line of the table, the begin of the line.
-fn move_on(t: Trace, to: usize, field: usize, h: Heard) -> Trace
-    ensures { result ≡ moved to field h t }
-{
-    let best = t.best;
-    let mut r = t;
-    if field != END {
-        r.at = to;
-        r.now = h;
-        return r;
+    // One of two words; its number is its place, 0 or 1.
+    fn either(self, one: &[u8], other: &[u8], wanted: Wanted, field: Field) -> Trace<'a>
+        ensures { seen result ≡ step (either one.now other.now wanted field) (seen self.entry) }
+    {
+        self.word(&[one, other], Ask::Word(wanted), Some(field))
     }
-    let now = fresh_heard(true);
-    r.at = 0;
-    r.now = now;
-    if best.count < h.count {
-        r.best = h;
-        return r;
+
+    // A number.
+    fn number(self, low: usize, high: usize, field: Field) -> Trace<'a>
+        ensures { seen result ≡ step (from low high field) (seen self.entry) }
+    {
+        self.word(&[], Ask::Number(low, high), Some(field))
     }
-    r
-}
 
-// The next word, held against its place in a line of the table: the words that may stand there, what is asked, and the field that
-// its number goes to.
-fn hear_word(line: &[u8], t: Trace, keys: &[u8], ask: Ask, field: usize) -> Trace
-    requires { field < 14 }
-    ensures { seen line.now result ≡ step (words line.now) (item keys.now ask field) (seen line.now t) }
-{
-    let w = next_word(line, t.at);
-    let from = w.from;
-    let to = w.to;
-    let word = &line[from..to];
-    let n = worth_of(word, keys, ask);
-    let h = t.now;
-    let g = note(h, ask, field, n);
-    move_on(t, to, field, g)
-}
+    // The line's end, and what the line says then.
+    fn end(self, says: Option<Says>) -> Trace<'a>
+        ensures { seen result ≡ step (end says) (seen self.entry) }
+    {
+        self.word(&[], Ask::End(says), None)
+    }
 
-// The next word, which has to be a number.
-fn hear_number(line: &[u8], t: Trace, low: usize, high: usize, field: usize) -> Trace
-    requires { field < 14 }
-    ensures { seen line.now result ≡ step (words line.now) (from low high field) (seen line.now t) }
-{
-    hear_word(line, t, b"", Ask::Number(low, high), field)
-}
+    // This word, which has no number of its own.
+    fn key(self, key: &[u8], wanted: Wanted) -> Trace<'a>
+        ensures { seen result ≡ step (word key.now wanted) (seen self.entry) }
+    {
+        self.word(&[key], Ask::Word(wanted), None)
+    }
 
-// The line's end, and what the line says then.
-fn hear_end(line: &[u8], t: Trace, says: Says) -> Trace
-    ensures { seen line.now result ≡ step (words line.now) (end says) (seen line.now t) }
-{
-    hear_word(line, t, b"", Ask::End(says), END)
-}
+    // This word, and a number after it.
+    fn named(self, key: &[u8], wanted: Wanted, low: usize, high: usize, field: Field) -> Trace<'a>
+        ensures { seen result ≡ follow (word key.now wanted ∷ from low high field ∷ []) (seen self.entry) }
+    {
+        self.key(key, wanted).number(low, high, field)
+    }
 
-// The next word, which has to be this one and has no number of its own.
-fn hear_key(line: &[u8], t: Trace, key: &[u8], wanted: Wanted) -> Trace
-    ensures { seen line.now result ≡ step (words line.now) (item key.now (ask.Word wanted) ASIDE) (seen line.now t) }
-{
-    hear_word(line, t, key, Ask::Word(wanted), ASIDE)
-}
+    // This word, and a number after it, which is all that the line says.
+    fn fact(self, key: &[u8], wanted: Wanted, low: usize, high: usize, fact: Fact) -> Trace<'a>
+        ensures { seen result ≡ follow (word key.now wanted ∷ from low high (field_of fact) ∷ end (Some (say.Fact fact)) ∷ []) (seen self.entry) }
+    {
+        self.named(key, wanted, low, high, Field::from(fact))
+            .end(Some(Says::Fact(fact)))
+    }
 
-// This word, and a number after it.
-fn hear_named(
-    line: &[u8],
-    t: Trace,
-    key: &[u8],
-    wanted: Wanted,
-    low: usize,
-    high: usize,
-    field: usize,
-) -> Trace
-    requires { field < 14 }
-    ensures { seen line.now result ≡ follow (words line.now) (item key.now (ask.Word wanted) ASIDE ∷ from low high field ∷ []) (seen line.now t) }
-{
-    let t = hear_key(line, t, key, wanted);
-    hear_number(line, t, low, high, field)
-}
+    // This word, and whether after it stands yes.
+    fn whether(self, key: &[u8], wanted: Wanted, field: Field) -> Trace<'a>
+        ensures { seen result ≡ follow (word key.now wanted ∷ yes_or_no field ∷ []) (seen self.entry) }
+    {
+        self.key(key, wanted)
+            .either(b"no", b"yes", Wanted::YesOrNo, field)
+    }
 
-// This word, and a number after it, which is all that the line says.
-fn hear_fact(
-    line: &[u8],
-    t: Trace,
-    key: &[u8],
-    wanted: Wanted,
-    low: usize,
-    high: usize,
-    field: usize,
-) -> Trace
-    requires { field < 14 }
-    ensures { seen line.now result ≡ follow (words line.now) (item key.now (ask.Word wanted) ASIDE ∷ from low high field ∷ end (say.Fact field) ∷ []) (seen line.now t) }
-{
-    let t = hear_named(line, t, key, wanted, low, high, field);
-    hear_end(line, t, Says::Fact(field))
-}
+    // Source or destination.
+    fn direction(self) -> Trace<'a>
+        ensures { seen result ≡ follow direction_line (seen self.entry) }
+    {
+        self.either(b"source", b"destination", Wanted::Fact, Field::Direction)
+            .end(Some(Says::Fact(Fact::Direction)))
+    }
 
-// This word, and whether after it stands yes.
-fn hear_whether(line: &[u8], t: Trace, key: &[u8], wanted: Wanted, field: usize) -> Trace
-    requires { field < 14 }
-    ensures { seen line.now result ≡ follow (words line.now) (item key.now (ask.Word wanted) ASIDE ∷ yes_or_no field ∷ []) (seen line.now t) }
-{
-    let t = hear_key(line, t, key, wanted);
-    hear_word(line, t, b"no yes", Ask::Word(Wanted::YesOrNo), field)
-}
+    // Frame length, spacecraft, source or destination.
+    fn frame(self) -> Trace<'a>
+        ensures { seen result ≡ follow frame_lines (seen self.entry) }
+    {
+        self.key(b"frame", Wanted::Fact)
+            .fact(b"length", Wanted::Length, 32, 4096, Fact::Length)
+            .fact(b"spacecraft", Wanted::Fact, 0, 65535, Fact::Spacecraft)
+            .direction()
+    }
 
-// The table: source or destination.
-fn hear_direction(line: &[u8], t: Trace) -> Trace
-    ensures { seen line.now result ≡ follow (words line.now) direction_line (seen line.now t) }
-{
-    let t = hear_word(
-        line,
-        t,
-        b"source destination",
-        Ask::Word(Wanted::Fact),
-        DIRECTION,
-    );
-    hear_end(line, t, Says::Fact(DIRECTION))
-}
+    // Insert, check, and a line without words.
+    fn parts(self) -> Trace<'a>
+        ensures { seen result ≡ follow part_lines (seen self.entry) }
+    {
+        self.fact(b"insert", Wanted::Fact, 0, 64, Fact::Insert)
+            .whether(b"check", Wanted::Fact, Field::Check)
+            .end(Some(Says::Fact(Fact::Check)))
+            .end(None)
+    }
 
-// The table: frame length, spacecraft, source or destination.
-fn hear_frame(line: &[u8], t: Trace) -> Trace
-    ensures { seen line.now result ≡ follow (words line.now) frame_lines (seen line.now t) }
-{
-    let t = hear_key(line, t, b"frame", Wanted::Fact);
-    let t = hear_fact(line, t, b"length", Wanted::Length, 32, 4096, LENGTH);
-    let t = hear_fact(line, t, b"spacecraft", Wanted::Fact, 0, 65535, CRAFT);
-    hear_direction(line, t)
-}
+    // Which channel it is, in its own line and in that of a lane.
+    fn name(self, wanted: Wanted) -> Trace<'a>
+        ensures { seen result ≡ follow (channel_name wanted []) (seen self.entry) }
+    {
+        self.named(b"channel", wanted, 0, 62, Field::Channel)
+            .named(b"service", Wanted::Service, 0, 1, Field::Service)
+    }
 
-// The table: insert, check, and a line without words.
-fn hear_parts(line: &[u8], t: Trace) -> Trace
-    ensures { seen line.now result ≡ follow (words line.now) part_lines (seen line.now t) }
-{
-    let t = hear_fact(line, t, b"insert", Wanted::Fact, 0, 64, INSERT);
-    let t = hear_whether(line, t, b"check", Wanted::Fact, CHECK);
-    let t = hear_end(line, t, Says::Fact(CHECK));
-    hear_end(line, t, Says::Nothing)
-}
+    // A channel.
+    fn channel(self) -> Trace<'a>
+        ensures { seen result ≡ follow channel_line (seen self.entry) }
+    {
+        self.name(Wanted::Fact)
+            .named(b"count", Wanted::Count, 1, 7, Field::Count)
+            .whether(b"ocf", Wanted::Ocf, Field::Ocf)
+            .end(Some(Says::Channel))
+    }
 
-// The table: which channel it is, in its own line and in that of a lane.
-fn hear_name(line: &[u8], t: Trace, wanted: Wanted) -> Trace
-    ensures { seen line.now result ≡ follow (words line.now) (channel_name wanted []) (seen line.now t) }
-{
-    let t = hear_named(line, t, b"channel", wanted, 0, 62, VC);
-    hear_named(line, t, b"service", Wanted::Service, 0, 1, SERVICE)
-}
+    // What all lanes have.
+    fn lane(self) -> Trace<'a>
+        ensures { seen result ≡ follow lane_head (seen self.entry) }
+    {
+        self.key(b"lane", Wanted::Fact)
+            .name(Wanted::Channel)
+            .named(b"map", Wanted::Map, 0, 15, Field::Map)
+    }
 
-// The table: a channel.
-fn hear_channel(line: &[u8], t: Trace) -> Trace
-    ensures { seen line.now result ≡ follow (words line.now) channel_line (seen line.now t) }
-{
-    let t = hear_name(line, t, Wanted::Fact);
-    let t = hear_named(line, t, b"count", Wanted::Count, 1, 7, OCTETS);
-    let t = hear_whether(line, t, b"ocf", Wanted::Ocf, OCF);
-    hear_end(line, t, Says::Channel)
-}
+    // The longest unit of a lane, with which its line ends.
+    fn longest(self, low: usize) -> Trace<'a>
+        ensures { seen result ≡ follow (longest_end low) (seen self.entry) }
+    {
+        self.named(b"longest", Wanted::Longest, low, 8192, Field::Longest)
+            .end(Some(Says::Lane))
+    }
 
-// The table: what all lanes have.
-fn hear_lane(line: &[u8], t: Trace) -> Trace
-    ensures { seen line.now result ≡ follow (words line.now) lane_head (seen line.now t) }
-{
-    let t = hear_key(line, t, b"lane", Wanted::Fact);
-    let t = hear_name(line, t, Wanted::Channel);
-    hear_named(line, t, b"map", Wanted::Map, 0, 15, MAP)
-}
+    // The rest of a packet lane.
+    fn packets(self) -> Trace<'a>
+        ensures { seen result ≡ follow packets_end (seen self.entry) }
+    {
+        self.word(
+            &[&b"packets"[..]],
+            Ask::Word(Wanted::Carries),
+            Some(Field::Upid),
+        )
+        .longest(2)
+    }
 
-// The table: the longest unit of a lane, with which its line ends.
-fn hear_longest(line: &[u8], t: Trace, low: usize) -> Trace
-    ensures { seen line.now result ≡ follow (words line.now) (longest_end low) (seen line.now t) }
-{
-    let t = hear_named(line, t, b"longest", Wanted::Longest, low, 8192, LONGEST);
-    hear_end(line, t, Says::Lane)
-}
+    // The rest of an access lane.
+    fn access(self) -> Trace<'a>
+        ensures { seen result ≡ follow access_end (seen self.entry) }
+    {
+        self.named(b"access", Wanted::Carries, 1, 30, Field::Upid)
+            .longest(1)
+    }
 
-// The table: the rest of a packet lane.
-fn hear_packets(line: &[u8], t: Trace) -> Trace
-    ensures { seen line.now result ≡ follow (words line.now) packets_end (seen line.now t) }
-{
-    let t = hear_word(line, t, b"packets", Ask::Word(Wanted::Carries), UPID);
-    hear_longest(line, t, 2)
-}
-
-// The table: the rest of an access lane.
-fn hear_access(line: &[u8], t: Trace) -> Trace
-    ensures { seen line.now result ≡ follow (words line.now) access_end (seen line.now t) }
-{
-    let t = hear_named(line, t, b"access", Wanted::Carries, 1, 30, UPID);
-    hear_longest(line, t, 1)
-}
-
-// The table: a lane, of packets or of access.
-fn hear_lanes(line: &[u8], t: Trace) -> Trace
-    ensures { seen line.now result ≡ through (words line.now) lane_lines (seen line.now t) }
-{
-    let t = hear_lane(line, t);
-    let t = hear_packets(line, t);
-    let t = hear_lane(line, t);
-    hear_access(line, t)
+    // A lane, of packets or of access.
+    fn lanes(self) -> Trace<'a>
+        ensures { seen result ≡ through lane_lines (seen self.entry) }
+    {
+        self.lane().packets().lane().access()
+    }
 }
 
 // What is heard of a line.
 fn hear_line(line: &[u8]) -> Heard
     ensures { result ≡ heard (words line.now) }
 {
-    let now = fresh_heard(true);
-    let best = fresh_heard(false);
     let t = Trace {
+        line,
         at: 0,
-        now: now,
-        best: best,
+        now: Heard::fresh(Ok(None)),
+        best: Heard::fresh(Err(Wanted::Fact)),
     };
-    let t = hear_frame(line, t);
-    let t = hear_parts(line, t);
-    let t = hear_channel(line, t);
-    let t = hear_lanes(line, t);
-    t.best
+    t.frame().parts().channel().lanes().best
 }
 
-// The draft, refused: in the place of this word, that was wanted.
-fn refused(d: Draft, word: usize, wanted: Wanted) -> Draft
-    ensures { result ≡ refuse word wanted d }
+// The line is refused: in the place of this word, that was wanted.
+fn refused(word: usize, wanted: Wanted) -> Result<Draft, Misfit>
+    ensures { result ≡ refuse word wanted }
 {
-    let s = d.setting;
-    let f = d.facts;
-    Draft {
-        setting: s,
-        facts: f,
-        fits: false,
-        word: word,
-        wanted: wanted,
-    }
+    Err(Misfit {
+        word: Some(word),
+        wanted,
+    })
 }
 
-// The draft, refused: the line fits, and the lines before forbid it.
-fn forbidden(d: Draft, wanted: Wanted) -> Draft
-    ensures { result ≡ forbid wanted d }
+// The line is refused: its words fit, and the lines before forbid it.
+fn forbidden(wanted: Wanted) -> Result<Draft, Misfit>
+    ensures { result ≡ forbid wanted }
 {
-    refused(d, NO_WORD, wanted)
-}
-
-// Nothing was said.
-fn no_draft() -> Draft
-    ensures { result ≡ nothing }
-{
-    let r = setting::no_reader();
-    let s = r.setting;
-    Draft {
-        setting: s,
-        facts: [false; 7],
-        fits: true,
-        word: 0,
-        wanted: Wanted::Nothing,
-    }
-}
-
-// The setting with a single fact's number in its field.
-fn put_fact(s: Setting, fact: usize, n: usize) -> Setting
-    requires { (fact < 5) × (n ≤ get_or most fact 0) }
-    ensures { result ≡ with_fact fact n s }
-{
-    let mut t = s;
-    match fact {
-        LENGTH => {
-            t.length = n;
-            return t;
-        }
-        CRAFT => {
-            t.craft = n as u16;
-            return t;
-        }
-        DIRECTION => {
-            t.bit = n as u8;
-            return t;
-        }
-        INSERT => {
-            t.insert = n;
-            return t;
-        }
-        _ => {
-            t.check = n == 1;
-            return t;
-        }
-    }
-}
-
-// The draft with this setting, which a fact, a channel or a lane gave.
-fn tell(d: Draft, k: usize, s: Setting) -> Draft
-    requires { k < 7 }
-    ensures { result ≡ told k s d }
-{
-    let mut t = d;
-    t.setting = s;
-    t.facts[k] = true;
-    t
-}
-
-// The draft with one single fact more, if it is new.
-fn add_fact(d: Draft, fact: usize, n: usize) -> Draft
-    requires { (fact < 5) × (n ≤ get_or most fact 0) }
-    ensures { result ≡ add_fact fact n d }
-{
-    let f = d.facts;
-    if f[fact] {
-        return forbidden(d, Wanted::NewFact);
-    }
-    let s = d.setting;
-    let t = put_fact(s, fact, n);
-    tell(d, fact, t)
-}
-
-// Whether the other channel of this virtual channel has an OCF and this one not, or the reverse.
-fn ocf_unlike(s: Setting, c: Channel) -> bool
-    requires { (s.listed ≤ 8) × (c.service ≤ 1) }
-    ensures { result ≡ ocf_unlike s c }
-{
-    let p = setting::channel_at(s, c.vc, 1 - c.service);
-    match p {
-        Some(i) => {
-            let o = s.channels[i];
-            return o.ocf != c.ocf;
-        }
-        None => {
-            return false;
-        }
-    }
-}
-
-// The draft with one channel more.
-fn put_channel(d: Draft, c: Channel) -> Draft
-    requires { d.setting.listed < 8 }
-    ensures { result ≡ with_channel c d }
-{
-    let mut s = d.setting;
-    let n = s.listed;
-    s.channels[n] = c;
-    s.listed = n + 1;
-    tell(d, 5, s)
-}
-
-// The draft with one channel more, where it may be.
-fn add_channel(d: Draft, c: Channel) -> Draft
-    requires { (d.setting.listed ≤ 8) × (c.service ≤ 1) }
-    ensures { result ≡ add_channel c d }
-{
-    let s = d.setting;
-    let p = setting::channel_at(s, c.vc, c.service);
-    let None = p else {
-        return forbidden(d, Wanted::NewChannel);
-    };
-    let unlike = ocf_unlike(s, c);
-    if unlike {
-        return forbidden(d, Wanted::SameOcf);
-    }
-    if 8 <= s.listed {
-        return forbidden(d, Wanted::FewerChannels);
-    }
-    put_channel(d, c)
+    Err(Misfit { word: None, wanted })
 }
 
 // The channel of a line's numbers.
-fn channel_of(numbers: [usize; 14]) -> Channel
+fn channel_of(numbers: [usize; 12]) -> Channel
     requires { Bounded numbers }
     ensures { result ≡ channel_of numbers }
 {
-    let v = numbers[VC] as u8;
-    let b = numbers[SERVICE] as u8;
-    let o = numbers[OCF] == 1;
     Channel {
-        vc: v,
-        service: b,
-        octets: numbers[OCTETS] as u8,
-        ocf: o,
+        vc: numbers[Field::Channel as usize] as u8,
+        service: numbers[Field::Service as usize] as u8,
+        octets: numbers[Field::Count as usize] as u8,
+        ocf: numbers[Field::Ocf as usize] == 1,
     }
-}
-
-// The draft with one lane more.
-fn put_lane(d: Draft, l: Lane) -> Draft
-    requires { d.setting.numbered < 8 }
-    ensures { result ≡ with_lane l d }
-{
-    let mut s = d.setting;
-    let n = s.numbered;
-    s.lanes[n] = l;
-    s.numbered = n + 1;
-    tell(d, 6, s)
-}
-
-// The draft with one lane more, where it may be.
-fn add_lane(d: Draft, l: Lane) -> Draft
-    requires { d.setting.numbered ≤ 8 }
-    ensures { result ≡ add_lane l d }
-{
-    let s = d.setting;
-    let p = setting::lane_at(s, l.channel as usize, l.map);
-    let None = p else {
-        return forbidden(d, Wanted::NewMap);
-    };
-    if 8 <= s.numbered {
-        return forbidden(d, Wanted::FewerLanes);
-    }
-    put_lane(d, l)
 }
 
 // What a lane carries, by its UPID.
@@ -806,130 +558,235 @@ fn kind_of(upid: usize) -> Kind
     ensures { result ≡ cond (upid =? 0) kinds.Packets kinds.Access }
 {
     if upid == 0 {
-        return Kind::Packets;
+        Kind::Packets
+    } else {
+        Kind::Access
     }
-    Kind::Access
 }
 
 // The lane of a line's numbers.
-fn lane_of(channel: u8, numbers: [usize; 14]) -> Lane
+fn lane_of(channel: u8, numbers: [usize; 12]) -> Lane
     requires { Bounded numbers }
     ensures { result ≡ lane_of channel numbers }
 {
-    let m = numbers[MAP] as u8;
-    let u = numbers[UPID] as u8;
-    let k = kind_of(numbers[UPID]);
+    let upid = numbers[Field::Upid as usize];
     Lane {
-        channel: channel,
-        map: m,
-        kind: k,
-        longest: numbers[LONGEST] as u16,
-        upid: u,
+        channel,
+        map: numbers[Field::Map as usize] as u8,
+        kind: kind_of(upid),
+        longest: numbers[Field::Longest as usize] as u16,
+        upid: upid as u8,
     }
 }
 
 // The place of the channel that a line's numbers name.
-fn listed_at(s: Setting, numbers: [usize; 14]) -> Option<usize>
+fn listed_at(s: Setting, numbers: [usize; 12]) -> Option<usize>
     requires listed_bound { s.listed ≤ 8 }
     requires bounded { Bounded numbers }
-    ensures { result ≡ channel_at s (get_or numbers VC 0) (get_or numbers SERVICE 0) }
+    ensures { result ≡ channel_at s (get_or numbers 5 0) (get_or numbers 6 0) }
 {
-    let v = numbers[VC] as u8;
-    let b = numbers[SERVICE] as u8;
-    setting::channel_at(s, v, b)
+    let vc = numbers[Field::Channel as usize] as u8;
+    let service = numbers[Field::Service as usize] as u8;
+    setting::channel_at(s, vc, service)
 }
 
-// The draft with one lane more, of a listed channel.
-fn add_lane_of(d: Draft, numbers: [usize; 14]) -> Draft
-    requires { (d.setting.listed ≤ 8) × (d.setting.numbered ≤ 8) × Bounded numbers }
-    ensures { result ≡ add_lane_of (channel_at d.setting (get_or numbers VC 0) (get_or numbers SERVICE 0)) numbers d }
+// Whether the other channel of this virtual channel has an OCF and this one not, or the reverse.
+fn ocf_unlike(s: Setting, c: Channel) -> bool
+    requires { (s.listed ≤ 8) × (c.service ≤ 1) }
+    ensures { result ≡ ocf_unlike s c }
 {
-    let s = d.setting;
-    let p = listed_at(s, numbers);
-    let Some(c) = p else {
-        return forbidden(d, Wanted::ListedChannel);
-    };
-    let l = lane_of(c as u8, numbers);
-    add_lane(d, l)
-}
-
-// What a line says that fits.
-fn take_said(d: Draft, says: Says, numbers: [usize; 14]) -> Draft
-    requires { (d.setting.listed ≤ 8) × (d.setting.numbered ≤ 8) × Known says × Bounded numbers }
-    ensures { result ≡ take_said says numbers d }
-{
-    match says {
-        Says::Fact(k) => {
-            return add_fact(d, k, numbers[k]);
-        }
-        Says::Channel => {
-            let c = channel_of(numbers);
-            return add_channel(d, c);
-        }
-        Says::Lane => {
-            return add_lane_of(d, numbers);
-        }
-        Says::Nothing => {
-            return d;
-        }
+    match setting::channel_at(s, c.vc, 1 - c.service) {
+        Some(i) => s.channels[i].ocf != c.ocf,
+        None => false,
     }
 }
 
-// What a line says of which this is heard.
-fn take_heard(d: Draft, h: Heard) -> Draft
-    requires { (d.setting.listed ≤ 8) × (d.setting.numbered ≤ 8) × Sound h }
-    ensures { result ≡ take_asked h.ask h d }
-{
-    let ask = h.ask;
-    match ask {
-        Ask::Word(wanted) => {
-            return refused(d, h.count, wanted);
+impl Draft {
+    // Nothing was said.
+    #[tactic(auto, unfolding(rules::specs::Settings::no_reader, crate::specs::Facts::nothing))]
+    fn nothing() -> Draft
+        ensures { result ≡ nothing }
+    {
+        let none = setting::no_reader();
+        Draft {
+            length: None,
+            craft: None,
+            bit: None,
+            insert: None,
+            check: None,
+            lists: none.setting,
         }
-        Ask::Number(low, high) => {
-            return refused(d, h.count, Wanted::Number(low, high));
+    }
+
+    // Whether a single fact was said.
+    fn is_told(self, fact: Fact) -> bool
+        ensures { result ≡ is_told fact self }
+    {
+        match fact {
+            Fact::Length => self.length.is_some(),
+            Fact::Spacecraft => self.craft.is_some(),
+            Fact::Direction => self.bit.is_some(),
+            Fact::Insert => self.insert.is_some(),
+            Fact::Check => self.check.is_some(),
         }
-        Ask::End(says) => {
-            let numbers = h.numbers;
-            if h.fits {
-                return take_said(d, says, numbers);
+    }
+
+    // The draft with a single fact's number in its field.
+    fn with_fact(self, fact: Fact, n: usize) -> Draft
+        requires { n ≤ get_or most (index (field_of fact)) 0 }
+        ensures { result ≡ with_fact fact n self }
+    {
+        let mut d = self;
+        match fact {
+            Fact::Length => d.length = Some(n),
+            Fact::Spacecraft => d.craft = Some(n as u16),
+            Fact::Direction => d.bit = Some(n as u8),
+            Fact::Insert => d.insert = Some(n),
+            Fact::Check => d.check = Some(n == 1),
+        }
+        d
+    }
+
+    // The draft with one single fact more, if it is new.
+    fn add_fact(self, fact: Fact, n: usize) -> Result<Draft, Misfit>
+        requires { n ≤ get_or most (index (field_of fact)) 0 }
+        ensures { result ≡ add_fact fact n self }
+    {
+        if self.is_told(fact) {
+            return forbidden(Wanted::NewFact);
+        }
+        Ok(self.with_fact(fact, n))
+    }
+
+    // The draft with one channel more.
+    fn with_channel(self, c: Channel) -> Draft
+        requires { self.lists.listed < 8 }
+        ensures { result ≡ with_channel c self }
+    {
+        let mut d = self;
+        d.lists.channels[d.lists.listed] = c;
+        d.lists.listed += 1;
+        d
+    }
+
+    // The draft with one channel more, where it may be.
+    fn add_channel(self, c: Channel) -> Result<Draft, Misfit>
+        requires { Room self × (c.service ≤ 1) }
+        ensures { result ≡ add_channel c self }
+    {
+        let s = self.lists;
+        if setting::channel_at(s, c.vc, c.service).is_some() {
+            return forbidden(Wanted::NewChannel);
+        }
+        if ocf_unlike(s, c) {
+            return forbidden(Wanted::SameOcf);
+        }
+        if 8 <= s.listed {
+            return forbidden(Wanted::FewerChannels);
+        }
+        Ok(self.with_channel(c))
+    }
+
+    // The draft with one lane more.
+    fn with_lane(self, l: Lane) -> Draft
+        requires { self.lists.numbered < 8 }
+        ensures { result ≡ with_lane l self }
+    {
+        let mut d = self;
+        d.lists.lanes[d.lists.numbered] = l;
+        d.lists.numbered += 1;
+        d
+    }
+
+    // The draft with one lane more, where it may be.
+    fn add_lane(self, l: Lane) -> Result<Draft, Misfit>
+        requires { Room self }
+        ensures { result ≡ add_lane l self }
+    {
+        let s = self.lists;
+        if setting::lane_at(s, l.channel as usize, l.map).is_some() {
+            return forbidden(Wanted::NewMap);
+        }
+        if 8 <= s.numbered {
+            return forbidden(Wanted::FewerLanes);
+        }
+        Ok(self.with_lane(l))
+    }
+
+    // The draft with one lane more, of a listed channel.
+    fn add_lane_of(self, numbers: [usize; 12]) -> Result<Draft, Misfit>
+        requires { Room self × Bounded numbers }
+        ensures { result ≡ add_lane_of (channel_at self.lists (get_or numbers 5 0) (get_or numbers 6 0)) numbers self }
+    {
+        match listed_at(self.lists, numbers) {
+            Some(c) => self.add_lane(lane_of(c as u8, numbers)),
+            None => forbidden(Wanted::ListedChannel),
+        }
+    }
+
+    // What a line says of which this is heard.
+    fn take_heard(self, h: Heard) -> Result<Draft, Misfit>
+        requires { Room self × Sound h }
+        ensures { result ≡ take_heard h.says h self }
+    {
+        match h.says {
+            Err(wanted) => refused(h.count, wanted),
+            Ok(None) => Ok(self),
+            Ok(Some(Says::Fact(fact))) => {
+                self.add_fact(fact, h.numbers[Field::from(fact) as usize])
             }
-            return refused(d, h.count, Wanted::End);
+            Ok(Some(Says::Channel)) => self.add_channel(channel_of(h.numbers)),
+            Ok(Some(Says::Lane)) => self.add_lane_of(h.numbers),
         }
+    }
+
+    // What a line says.
+    fn take_line(self, line: &[u8]) -> Result<Draft, Misfit>
+        requires { Room self }
+        ensures { result ≡ take_line self line.now }
+    {
+        let n = until_stop(line, Stop::Hash);
+        self.take_heard(hear_line(&line[..n]))
+    }
+
+    // The setting, where all of it was said; otherwise the first thing that was not.
+    fn complete(self) -> Result<Setting, Says>
+        ensures { result ≡ completed self }
+    {
+        let length = self.length.ok_or(Says::Fact(Fact::Length))?;
+        let craft = self.craft.ok_or(Says::Fact(Fact::Spacecraft))?;
+        let bit = self.bit.ok_or(Says::Fact(Fact::Direction))?;
+        let insert = self.insert.ok_or(Says::Fact(Fact::Insert))?;
+        let check = self.check.ok_or(Says::Fact(Fact::Check))?;
+        if self.lists.listed == 0 {
+            return Err(Says::Channel);
+        }
+        if self.lists.numbered == 0 {
+            return Err(Says::Lane);
+        }
+        Ok(Setting {
+            length,
+            craft,
+            bit,
+            insert,
+            check,
+            ..self.lists
+        })
     }
 }
 
-// What a line says.
-fn take_line(d: Draft, line: &[u8]) -> Draft
-    requires { (d.setting.listed ≤ 8) × (d.setting.numbered ≤ 8) }
-    ensures { result ≡ take_line d line.now }
-{
-    let n = until_stop(line, Stop::Hash);
-    let words = &line[..n];
-    let h = hear_line(words);
-    take_heard(d, h)
-}
-
-// What all lines say, up to the first that does not fit.
-fn take_lines(octets: &[u8]) -> Gathered
+// What all lines say, or the first that does not fit.
+fn take_lines(octets: &[u8]) -> Result<Draft, Finding>
     ensures { Gathering octets.now result }
 {
-    let mut d = no_draft();
-    let mut n: usize = 1;
-    let mut at: usize = 0;
-    while at < octets.len() {
-        let rest = &octets[at..];
-        let size = until_stop(rest, Stop::Feed);
-        let line = &rest[..size];
-        let t = take_line(d, line);
-        if t.fits {
-            d = t;
-            n += 1;
-            at = at + size + 1;
-        } else {
-            return Gathered { draft: t, line: n };
-        }
+    let mut d = Draft::nothing();
+    for (k, line) in octets.split(|x| *x == b'\n').enumerate() {
+        d = match d.take_line(line) {
+            Ok(d) => d,
+            Err(m) => return Err(Finding::Line(k + 1, m)),
+        };
     }
-    Gathered { draft: d, line: 0 }
+    Ok(d)
 }
 
 // The first channel whose zone has no octet.
@@ -937,111 +794,36 @@ fn zoneless_at(s: Setting) -> Option<usize>
     requires { s.listed ≤ 8 }
     ensures { result ≡ zoneless s }
 {
-    let n = s.listed;
-    let mut i: usize = 0;
-    while i < n {
-        let c = s.channels[i];
-        let z = setting::zone_of(s, c);
-        if z == 0 {
+    for i in 0..s.listed {
+        if setting::zone_of(s, s.channels[i]) == 0 {
             return Some(i);
         }
-        i += 1;
     }
     None
 }
 
-// What a setting is of which every fact was said.
-fn judge(s: Setting) -> Finding
+// A setting of which every part was said, if it is valid.
+fn judge(s: Setting) -> Result<Setting, Finding>
     requires { s.listed ≤ 8 }
     ensures { result ≡ judged (zoneless s) s }
 {
-    let p = zoneless_at(s);
-    match p {
-        Some(i) => {
-            let c = s.channels[i];
-            return Finding::Zone(c.vc, c.service);
-        }
-        None => {
-            let ok = setting::setting_ok(s);
-            if ok {
-                return Finding::Good;
-            }
-            return Finding::Other;
-        }
+    if let Some(i) = zoneless_at(s) {
+        let c = s.channels[i];
+        return Err(Finding::Zone(c.vc, c.service));
+    }
+    if setting::setting_ok(s) {
+        Ok(s)
+    } else {
+        Err(Finding::Other)
     }
 }
 
-// The first of seven things that was never said.
-fn lacking_at(d: Draft) -> Option<usize>
-    ensures { result ≡ lacking d }
-{
-    let f = d.facts;
-    let mut i: usize = 0;
-    while i < 7 {
-        if !f[i] {
-            return Some(i);
-        }
-        i += 1;
-    }
-    None
-}
-
-// What a text is of which every line fits.
-fn find_all(d: Draft) -> Finding
-    requires { d.setting.listed ≤ 8 }
-    ensures { result ≡ all_found (lacking d) d.setting }
-{
-    let p = lacking_at(d);
-    match p {
-        Some(k) => {
-            let m = MISSING;
-            return Finding::Lacks(m[k]);
-        }
-        None => {
-            let s = d.setting;
-            return judge(s);
-        }
-    }
-}
-
-// What a text is of which these lines were taken.
-fn find(g: Gathered) -> Finding
-    requires { g.draft.setting.listed ≤ 8 }
-    ensures { result ≡ found g }
-{
-    let d = g.draft;
-    if d.fits {
-        return find_all(d);
-    }
-    let w = d.wanted;
-    Finding::Line(g.line, d.word, w)
-}
-
-// What a text is, with its setting if it is good.
-fn answer(f: Finding, s: Setting) -> Parsed
-    ensures { result ≡ answered f s }
-{
-    if let Finding::Good = f {
-        return Parsed {
-            finding: f,
-            setting: s,
-        };
-    }
-    let r = setting::no_reader();
-    let none = r.setting;
-    Parsed {
-        finding: f,
-        setting: none,
-    }
-}
-
-// What a text is, and its setting if it is good.
-pub fn parse(octets: &[u8]) -> Parsed
+// The setting that a text says, or what is wrong with it.
+#[tactic(auto, unfolding(crate::specs::Facts::parsed))]
+pub fn parse(octets: &[u8]) -> Result<Setting, Finding>
     ensures { result ≡ parsed octets.now }
 {
-    let g = take_lines(octets);
-    let f = find(g);
-    let d = g.draft;
-    let s = d.setting;
-    answer(f, s)
+    let d = take_lines(octets)?;
+    let s = d.complete()?;
+    judge(s)
 }

@@ -1,12 +1,11 @@
 // What a message about a setting's text quotes: the word that does not fit, the words of a line that the lines before forbid, and
 // whether a byte order mark or a carriage return is at fault. What a text is, the crate's root says; this only finds octets of it.
-ghost use Rattle.std.specs.Prelude.{◌≡◌, cond, [], ◌≤◌, length, get_or};
-ghost use Rattle.rules.specs.Tests.{◌=?◌};
+ghost use Rattle.std.specs.Prelude.{◌≡◌, [], ◌≤◌, length, get_or};
 ghost use Rattle.setting_text.specs.Texts.{said, words};
-ghost use Rattle.setting_text.specs.Quotes.{marked, last_end, lone, trimmed, line_of, quoted, returned, fault_of};
+ghost use Rattle.setting_text.specs.Quotes.{marked, last_end, lone, trimmed, line_of, words_quoted, quoted, returned, fault_of};
 ghost use Rattle.setting_text.specs.Parts.{Line, Part};
 
-use crate::{Span, Stop};
+use crate::{Span, Stop, is_blank, next_word, until_stop};
 
 // What is told of a line that does not fit: a byte order mark, a carriage return that ends no line, that the line ends too soon, or the
 // octets that are quoted.
@@ -22,15 +21,7 @@ pub enum Fault {
 fn is_marked(octets: &[u8]) -> bool
     ensures { result ≡ marked octets.now }
 {
-    if octets.len() < 3 {
-        return false;
-    }
-    if octets[0] == 239 {
-        if octets[1] == 187 {
-            return octets[2] == 191;
-        }
-    }
-    false
+    matches!(octets, [0xEF, 0xBB, 0xBF, ..])
 }
 
 // Where the line stands that begins at octet `at`; an empty place where there is none.
@@ -41,8 +32,7 @@ fn next_line(octets: &[u8], at: usize) -> Span
     if n < at {
         return Span { from: n, to: n };
     }
-    let rest = &octets[at..];
-    let size = crate::until_stop(rest, Stop::Feed);
+    let size = until_stop(&octets[at..], Stop::Feed);
     Span {
         from: at,
         to: at + size,
@@ -53,12 +43,9 @@ fn next_line(octets: &[u8], at: usize) -> Span
 fn line_at(octets: &[u8], n: usize) -> Span
     ensures { Part (line_of n octets.now) octets.now result.from result.to }
 {
-    let mut at: usize = 0;
-    let mut k: usize = 1;
-    while k < n {
-        let w = next_line(octets, at);
-        at = w.to + 1;
-        k += 1;
+    let mut at = 0;
+    for _k in 1..n {
+        at = next_line(octets, at).to + 1;
     }
     next_line(octets, at)
 }
@@ -67,28 +54,21 @@ fn line_at(octets: &[u8], n: usize) -> Span
 fn word_at(line: &[u8], n: usize) -> Span
     ensures { Part (get_or (words line.now) n []) line.now result.from result.to }
 {
-    let mut at: usize = 0;
-    let mut k: usize = 0;
-    while k < n {
-        let w = crate::next_word(line, at);
-        at = w.to;
-        k += 1;
+    let mut at = 0;
+    for _k in 0..n {
+        at = next_word(line, at).to;
     }
-    crate::next_word(line, at)
+    next_word(line, at)
 }
 
 // How many octets a line has up to the last that is no blank.
 fn end_of(line: &[u8]) -> usize
     ensures { (result ≡ last_end 0 0 line.now) × (result ≤ length line.now) }
 {
-    let mut end: usize = 0;
-    let mut i: usize = 0;
-    while i < line.len() {
-        let x = line[i];
-        let gap = crate::is_blank(x);
-        i += 1;
-        if gap {} else {
-            end = i;
+    let mut end = 0;
+    for (i, x) in line.iter().enumerate() {
+        if !is_blank(*x) {
+            end = i + 1;
         }
     }
     end
@@ -98,55 +78,45 @@ fn end_of(line: &[u8]) -> usize
 fn is_lone(line: &[u8]) -> bool
     ensures { result ≡ lone line.now }
 {
-    let back = crate::until_stop(line, Stop::Return);
-    let end = end_of(line);
-    back < end
+    until_stop(line, Stop::Return) < end_of(line)
 }
 
 // Where the words of a line stand, from the first to the end of the last; an empty place where there is none.
 fn words_at(line: &[u8]) -> Span
     ensures { Part (trimmed line.now) line.now result.from result.to }
 {
-    let from = crate::until_stop(line, Stop::Word);
-    let to = end_of(line);
-    if to < from {
-        return Span {
-            from: from,
-            to: from,
-        };
-    }
-    Span { from: from, to: to }
+    let from = until_stop(line, Stop::Word);
+    let to = end_of(line).max(from);
+    Span { from, to }
 }
 
 // Where those octets of a line without its comment stand that are quoted: its words, or one word.
-fn quote_in(line: &[u8], word: usize) -> Span
-    ensures { Part (cond (word =? 256) (trimmed line.now) (get_or (words line.now) word [])) line.now result.from result.to }
+fn quote_in(line: &[u8], word: Option<usize>) -> Span
+    ensures { Part (words_quoted word line.now) line.now result.from result.to }
 {
-    if word == crate::NO_WORD {
-        return words_at(line);
+    match word {
+        None => words_at(line),
+        Some(k) => word_at(line, k),
     }
-    word_at(line, word)
 }
 
 // Where the octets of a line stand that are quoted.
-fn quote_at(line: &[u8], word: usize) -> Span
-    ensures { Part (cond (word =? 256) (trimmed (said line.now)) (get_or (words (said line.now)) word [])) line.now result.from result.to }
+fn quote_at(line: &[u8], word: Option<usize>) -> Span
+    ensures { Part (words_quoted word (said line.now)) line.now result.from result.to }
 {
-    let n = crate::until_stop(line, Stop::Hash);
+    let n = until_stop(line, Stop::Hash);
     quote_in(&line[..n], word)
 }
 
-// Where the octets of a text stand that a message about line n quotes, of which this word does not fit.
-pub fn quote_of(octets: &[u8], n: usize, word: usize) -> Span
+// Where the octets of a text stand that a message about line n quotes: the word that does not fit, or all its words.
+pub fn quote_of(octets: &[u8], n: usize, word: Option<usize>) -> Span
     ensures { Part (quoted n word octets.now) octets.now result.from result.to }
 {
     let l = line_at(octets, n);
-    let from = l.from;
-    let to = l.to;
-    let q = quote_at(&octets[from..to], word);
+    let q = quote_at(&octets[l.from..l.to], word);
     Span {
-        from: from + q.from,
-        to: from + q.to,
+        from: l.from + q.from,
+        to: l.from + q.to,
     }
 }
 
@@ -155,36 +125,30 @@ pub fn is_lone_line(octets: &[u8], n: usize) -> bool
     ensures { result ≡ lone (line_of n octets.now) }
 {
     let l = line_at(octets, n);
-    let from = l.from;
-    let to = l.to;
-    is_lone(&octets[from..to])
+    is_lone(&octets[l.from..l.to])
 }
 
-// Whether a carriage return ends no line there, though it may have been meant to.
-fn is_returned(octets: &[u8], n: usize, word: usize) -> bool
+// Whether a carriage return ends no line there, though it may have been meant to; where all words of the line fit, it is not asked.
+fn is_returned(octets: &[u8], n: usize, word: Option<usize>) -> bool
     ensures { result ≡ returned n word octets.now }
 {
-    if word == crate::NO_WORD {
-        return false;
-    }
-    is_lone_line(octets, n)
+    word.is_some() && is_lone_line(octets, n)
 }
 
-// What is told of line n, of which this word does not fit.
-pub fn fault_of(octets: &[u8], n: usize, word: usize) -> Fault
+// What is told of line n, of which this word does not fit, or that the lines before forbid.
+pub fn fault_of(octets: &[u8], n: usize, word: Option<usize>) -> Fault
     ensures { result ≡ fault_of n word octets.now }
 {
-    let mark = is_marked(octets);
-    if mark {
+    if is_marked(octets) {
         return Fault::Mark;
     }
-    let back = is_returned(octets, n, word);
-    if back {
+    if is_returned(octets, n, word) {
         return Fault::Return;
     }
     let q = quote_of(octets, n, word);
     if q.from == q.to {
-        return Fault::End;
+        Fault::End
+    } else {
+        Fault::Quote
     }
-    Fault::Quote
 }

@@ -576,10 +576,8 @@ fn with_words(system: &System, q: Asked) {
     };
     let mut area = [0u8; 65537];
     let l = load_from(system, &path[..n], &mut area);
-    if l.judged.good {
-        let s = l.judged.setting;
-        let a = l.file;
-        with_choice(system, s, q, a);
+    if let Ok(s) = l.judged {
+        with_choice(system, s, q, l.file);
     }
 }
 

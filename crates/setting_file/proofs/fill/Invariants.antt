@@ -1,7 +1,5 @@
--- `setting_file::fill` meets its contract. So many octets as were read are in the area.
-use Prim.Native.Nat.{◌≤◌, ◌-◌}
-use mathlib.Core.Path.{◌≡◌}
-use lib.ListN.{length}
+-- So many octets as were read are in the area.
+use Rattle.std.proofs.Common.{◌≤◌, ◌-◌, ◌≡◌, length}
 use Rattle.setting_file.proofs.fill.Given as goal
 
 abbrev pub invariant-loop-n : goal.invariant-loop-n

@@ -1,37 +1,33 @@
-use mathlib.Core.Path.{sym, ◌∙◌}
-use native.Mathlib.Numerals.{add-one}
-use borrow.Author.Rules.{rules}
-use Rattle.setting_text.proofs.Texts.{number-turn, number-low, number-high, number_large, number-end, number-some, number-none}
+-- A digit more, or no number.
+use Rattle.std.proofs.Common.{sym, ◌∙◌, arith, add-one, eqb-true}
+use Rattle.std.proofs.lemmas.Bool.{eqb-false}
+use Rattle.setting_text.proofs.Texts.{number-turn, number-stop, number_large, number-end, number-some, number-none}
 use Rattle.setting_text.proofs.number_of.Goals as goal
 
-pub returns-then-n-eq0 : goal.returns-then-n-eq0
-returns-then-n-eq0 c = sym (number-none _ c.if-n-eq0.true)
+pub returns-then-is_empty : goal.returns-then-is_empty
+returns-then-is_empty c = sym (number-none _ (eqb-true _ _ (sym c.if-is_empty.ensures)))
 
-pub loop-i-init : goal.loop-i-init
-loop-i-init c = (search rules, search rules, search rules, number-some _ (search rules))
+pub loop-x-init : goal.loop-x-init
+loop-x-init c =
+    let h = eqb-false _ _ (sym c.if-is_empty.ensures) in
+    (omega arith, number-some _ (omega arith))
 
-pub returns-then-x-lt48 : goal.returns-then-x-lt48
-returns-then-x-lt48 c = let w = c.args.word.now in sym
-    (c.loop-i.invariant.3 ∙ number-low c.loop-i.v w c.loop-i.i (search rules) c.if-x-lt48.true)
-
-pub returns-then-x-gt57 : goal.returns-then-x-gt57
-returns-then-x-gt57 c = let w = c.args.word.now in sym
-    (c.loop-i.invariant.3 ∙ number-high c.loop-i.v w c.loop-i.i (search rules) c.if-x-lt48.false c.if-x-gt57.true)
+pub returns-then-not-is_ascii_digit : goal.returns-then-not-is_ascii_digit
+returns-then-not-is_ascii_digit c =
+    sym (c.loop-x.invariant.1 ∙ number-stop c.loop-x.v c.args.word.now c.loop-x.x-index c.loop-x-test.true (sym c.if-not-is_ascii_digit.ensures.value))
 
 pub returns-then-v-gt65535 : goal.returns-then-v-gt65535
-returns-then-v-gt65535 c = let w = c.args.word.now in sym
-    (c.loop-i.invariant.3 ∙ number-turn c.loop-i.v w c.loop-i.i (search rules) c.if-x-lt48.false c.if-x-gt57.false ∙ number_large _ _
-    c.if-v-gt65535.true)
+returns-then-v-gt65535 c =
+    sym (c.loop-x.invariant.1 ∙ number-turn c.loop-x.v c.args.word.now c.loop-x.x-index c.loop-x-test.true (sym c.if-not-is_ascii_digit.ensures.value)
+    ∙ number_large _ _ (rw (sym c.from.ensures) c.if-v-gt65535.true))
 
-pub loop-i-preserved : goal.loop-i-preserved
-loop-i-preserved c = let w = c.args.word.now in (
-  search rules,
-  search rules,
-  search rules,
-  c.loop-i.invariant.3 ∙ rw add-one
-      (number-turn c.loop-i.v w c.loop-i.i (search rules) c.if-x-lt48.false c.if-x-gt57.false),
+pub loop-x-preserved : goal.loop-x-preserved
+loop-x-preserved c = (
+  c.if-v-gt65535.false,
+  c.loop-x.invariant.1
+      ∙ rw (add-one, c.from.ensures) (number-turn c.loop-x.v c.args.word.now c.loop-x.x-index c.loop-x-test.true (sym c.if-not-is_ascii_digit.ensures.value)),
 )
 
 pub returns : goal.returns
-returns c = let w = c.args.word.now in sym
-    (c.loop-i.invariant.3 ∙ number-end c.loop-i.v w c.loop-i.i (search rules) c.loop-i.invariant.2)
+returns c =
+    sym (c.loop-x.invariant.1 ∙ number-end c.loop-x.v c.args.word.now c.loop-x.x-index c.loop-x-test.false c.loop-x.invariant.0)

@@ -1,50 +1,22 @@
-use borrow.Author.Rules.{rules}
-use mathlib.Core.Path.{refl, sym, ◌∙◌}
-use native.Mathlib.Omega.{arith}
-use lib.ListN.{drop_of_length-le}
-use Rattle.setting_text.specs.Texts.{words, cut, full}
+-- The first of the words that is this one.
+use Rattle.std.proofs.Common.{◌≡◌, ℕ, ◌+◌, List, [], ◌∷◌, cond, refl, ap, ◌∙◌, rules, tests, Bor, map, Option, Some}
+use Rattle.std.proofs.lemmas.Iterator.{YieldsList-from_slice}
+use Rattle.std.proofs.lemmas.Iterator.Search.{position_from_yields_List}
+use Rattle.std.proofs.lemmas.Iterator.Adapters.{position_from-zero}
+use Rattle.std.specs.List.{position_from}
+use Rattle.setting_text.specs.Texts.{same}
 use Rattle.setting_text.specs.Table.{place}
-use Rattle.setting_text.proofs.Steps.{place_none, place-some}
 use Rattle.setting_text.proofs.place_of.Goals as goal
 
-pub loop-at-init : goal.loop-at-init
-loop-at-init c = (search rules, search rules, refl)
-
-pub returns-then-from-to : goal.returns-then-from-to
-returns-then-from-to c = sym (c.loop-at.invariant.2 ∙ place_none _ _ _ _ _ _ c.next_word-w.ensures c.if-from-to.true)
-
-pub slice_bounds-key-count : goal.slice_bounds-key-count
-slice_bounds-key-count c = let w = c.next_word-w.ensures in search rules
-
-pub slice_bounds-key-start : goal.slice_bounds-key-start
-slice_bounds-key-start c = let w = c.next_word-w.ensures in search rules
-
-pub slice_bounds-key-end : goal.slice_bounds-key-end
-slice_bounds-key-end c = let w = c.next_word-w.ensures in search rules
-
-pub returns-then-found : goal.returns-then-found
-returns-then-found c =
-    sym (c.loop-at.invariant.2 ∙ place-some _ _ _ _ _ _ c.next_word-w.ensures _
-    c.same_word-found.ensures c.if-from-to.false ∙ rw c.if-found.true)
-
-pub overflow_add-n : goal.overflow_add-n
-overflow_add-n c = let p = c.loop-at.invariant in search rules
-
-pub loop-at-smaller : goal.loop-at-smaller
-loop-at-smaller c =
-    let w = c.next_word-w.ensures in
-    let o = w.onward c.loop-at.invariant.0 in
-    let n = c.if-from-to.false in
-    omega (arith, o, w.forward, n, c.loop-at-test.true)
-
-pub loop-at-preserved : goal.loop-at-preserved
-loop-at-preserved c =
-    let w = c.next_word-w.ensures in
-    let o = w.onward c.loop-at.invariant.0 in
-    let n = c.if-from-to.false in
-    let i = c.loop-at.invariant in
-    (w.within, omega (arith, o, w.forward, n, i.1), i.2 ∙ place-some _ _ _ _ _ _ w _ c.same_word-found.ensures n ∙ rw c.if-found.false)
+place_at : (n : ℕ) (w : List ℕ) (ks : List (Bor (List ℕ))) → position_from (λ k. same w k.now) n ks ≡ place n w (map (λ k. k.now) ks)
+unfolding place
+place_at n w [] = refl
+place_at n w (k ∷ ks) = ap (λ (o : Option ℕ). cond (same w k.now) (Some n) o) (place_at (n + 1) w ks)
 
 pub returns : goal.returns
-unfolding words cut full place
-returns c = sym (c.loop-at.invariant.2 ∙ rw (drop_of_length-le _ c.loop-at-test.false))
+returns c =
+    let w = c.args.word.now in
+    let ks = c.args.keys.now in
+    position_from_yields_List (λ (k : Bor (List ℕ)). same w k.now) _ _ _ c.position.ensures.ran (YieldsList-from_slice ks cc)
+    (λ x b q k. search (rules, tests))
+    ∙ position_from-zero (λ (k : Bor (List ℕ)). same w k.now) ks ∙ place_at 0 w ks

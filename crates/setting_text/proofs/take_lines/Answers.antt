@@ -1,32 +1,43 @@
-use mathlib.Core.Path.{sym}
-use borrow.Author.Rules.{rules}
-use lib.ListN.{length-take, length-drop}
-use lib.Seq.{length-take-le}
-use Rattle.setting_text.proofs.Gathers.{begins, turn, ends, stops-here}
+-- The next line is taken, or refused; or all were taken.
+use Rattle.std.proofs.Common.{rules, tests}
+use Rattle.std.proofs.lemmas.Iterator.Consumers.{YieldsList-from_enumerate, YieldsList-turn, YieldsList-end}
+use Rattle.std.proofs.lemmas.Iterator.Splits.{YieldsList-from_slice_split}
+use Rattle.std.proofs.lemmas.List.{length_push}
+use Rattle.rules.specs.Tests.{◌=?◌}
+use Rattle.setting_text.specs.Texts.{lines}
+use Rattle.setting_text.proofs.Gathers.{nothing-room, line-room, turn, refused_here, all_taken}
 use Rattle.setting_text.proofs.take_lines.Goals as goal
 
-pub loop-at-init : goal.loop-at-init
-loop-at-init c = begins _ _ c.no_draft-d.ensures
+pub loop-k-init : goal.loop-k-init
+loop-k-init c = rw c.nothing-d.ensures (record { goes = search rules; room = nothing-room })
 
-pub slice_bounds-line-end : goal.slice_bounds-line-end
-slice_bounds-line-end c = sym (length-take-le _ _ c.until_stop-size.ensures.within)
+pub returns-in-Err : goal.returns-in-Err
+unfolding lines
+returns-in-Err c =
+    let t = YieldsList-turn
+    (YieldsList-from_enumerate
+    (YieldsList-from_slice_split _ (λ x. x =? 10) c.args.octets.now (cc) (cc) (cc) (λ x b q k. search (rules, tests))) (cc))
+    c.loop-k.yielded _ c.loop-k.yielded_by _ _ (c.in-Some.k, c.in-Some.line) c.in-Some.is c.next.ensures.steps in
+    refused_here c.args.octets.now _ _ _ _ c.loop-k.invariant.goes t.0 t.1 _ c.in-Err.ensures
 
-pub take_line-t-requires : goal.take_line-t-requires
-take_line-t-requires c = (c.loop-at.invariant.room.channels, c.loop-at.invariant.room.lanes)
-
-pub overflow_add-at : goal.overflow_add-at
-overflow_add-at c = let h = simp (length-take, length-drop) at c.until_stop-size.ensures.within in search rules
-
-pub overflow_add-at-then-t : goal.overflow_add-at-then-t
-overflow_add-at-then-t c = let h = simp (length-take, length-drop) at c.until_stop-size.ensures.within in search rules
-
-pub loop-at-preserved : goal.loop-at-preserved
-loop-at-preserved c = turn _ _ _ _ c.loop-at.invariant _ _ c.until_stop-size.ensures.counts
-    c.take_line-t.ensures c.if-t.true
-
-pub returns-else-t : goal.returns-else-t
-returns-else-t c = stops-here _ _ _ _ c.loop-at.invariant _ _ c.until_stop-size.ensures.counts
-    c.take_line-t.ensures c.if-t.false
+pub loop-k-preserved : goal.loop-k-preserved
+unfolding lines
+loop-k-preserved c =
+    let t = YieldsList-turn
+    (YieldsList-from_enumerate
+    (YieldsList-from_slice_split _ (λ x. x =? 10) c.args.octets.now (cc) (cc) (cc) (λ x b q k. search (rules, tests))) (cc))
+    c.loop-k.yielded _ c.loop-k.yielded_by _ _ (c.in-Some.k, c.in-Some.line) c.in-Some.is c.next.ensures.steps in
+    rw (length_push c.loop-k.yielded (c.in-Some.k, c.in-Some.line))
+    (record {
+      goes = turn c.args.octets.now _ _ _ _ c.loop-k.invariant.goes t.0 t.1 _ c.in-Ok.ensures;
+      room = line-room _ c.loop-k.invariant.room _ _ c.in-Ok.ensures;
+    })
 
 pub returns : goal.returns
-returns c = ends _ _ _ _ c.loop-at.invariant c.loop-at-test.false
+unfolding lines
+returns c =
+    let t = YieldsList-end
+    (YieldsList-from_enumerate
+    (YieldsList-from_slice_split _ (λ x. x =? 10) c.args.octets.now (cc) (cc) (cc) (λ x b q k. search (rules, tests))) (cc))
+    c.loop-k.yielded _ c.loop-k.yielded_by _ _ c.in-None.is c.next.ensures.steps in
+    all_taken c.args.octets.now _ _ c.loop-k.invariant.goes c.loop-k.invariant.room t.1

@@ -1,11 +1,12 @@
--- `setting_text::take_lines` meets its contract. The lines before octet `at` were taken.
-use Prim.Native.Nat.{◌-◌}
-use lib.ListN.{length}
-use Rattle.setting_text.proofs.Gathers.{Taking}
+-- All lines before this one were taken.
+use Rattle.std.proofs.Common.{◌≡◌, ◌+◌, length, drop}
+use Rattle.setting_text.specs.Texts.{lines}
+use Rattle.setting_text.specs.Facts.{nothing, gather}
+use Rattle.setting_text.specs.Places.{Room}
 use Rattle.setting_text.proofs.take_lines.Given as goal
 
-abbrev pub invariant-loop-at : goal.invariant-loop-at
-invariant-loop-at l = Taking l.octets l.d l.n l.at
-
-abbrev pub decreases-loop-at : goal.decreases-loop-at
-decreases-loop-at l = length l.octets - l.at
+abbrev pub invariant-loop-k : goal.invariant-loop-k
+invariant-loop-k l = record {
+  goes : gather 1 nothing (lines l.octets) ≡ gather (length l.yielded + 1) l.d (drop (length l.yielded) (lines l.octets));
+  room : Room l.d;
+}

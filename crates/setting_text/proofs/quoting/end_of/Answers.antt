@@ -1,25 +1,19 @@
-use mathlib.Core.Path.{refl, sym, ◌∙◌}
-use native.Mathlib.Numerals.{add-one}
-use borrow.Author.Rules.{rules}
+-- One octet more, which is a blank or not.
+use Rattle.std.proofs.Common.{sym, ◌∙◌, arith, add-one}
 use Rattle.setting_text.proofs.Quotes.{end-gap, end-word, end_none}
 use Rattle.setting_text.proofs.quoting.end_of.Goals as goal
-
-pub loop-i-init : goal.loop-i-init
-loop-i-init c = (search rules, search rules, refl)
-
-pub loop-i-preserved-then-gap : goal.loop-i-preserved-then-gap
-loop-i-preserved-then-gap c = (
-  search rules,
-  search rules,
-  c.loop-i.invariant.2 ∙ rw add-one (end-gap _ _ _ c.loop-i-test.true (sym c.is_blank-gap.ensures ∙ c.if-gap.true)),
-)
+use Rattle.setting_text.proofs.quoting.end_of.Goals.{then-not-is_blank, else-not-is_blank}
 
 pub loop-i-preserved : goal.loop-i-preserved
-loop-i-preserved c = (
-  search rules,
-  search rules,
-  c.loop-i.invariant.2 ∙ rw add-one (end-word _ _ _ c.loop-i-test.true (sym c.is_blank-gap.ensures ∙ c.if-gap.false)),
-)
+loop-i-preserved c =
+    elim c.if-not-is_blank.branch [
+      | then-not-is_blank w ↦
+          let e = end-word c.args.line.now c.loop-i.i c.loop-i.end c.loop-i-test.true (sym c.is_blank.ensures ∙ w.if-not-is_blank.true) in
+          (omega (arith, w.end-is), rw (w.end-is, add-one) (c.loop-i.invariant.1 ∙ e))
+      | else-not-is_blank w ↦
+          let e = end-gap c.args.line.now c.loop-i.i c.loop-i.end c.loop-i-test.true (sym c.is_blank.ensures ∙ w.if-not-is_blank.false) in
+          (omega (arith, w.end-is), rw (w.end-is, add-one) (c.loop-i.invariant.1 ∙ e))
+    ]
 
 pub returns : goal.returns
-returns c = (sym (c.loop-i.invariant.2 ∙ end_none _ _ _ c.loop-i-test.false), search rules)
+returns c = (sym (c.loop-i.invariant.1 ∙ end_none _ _ _ c.loop-i-test.false), omega arith)

@@ -1,4 +1,4 @@
--- `setting_text::quoting::quote_of` meets its contract. A part of the line is one of the text.
+-- A part of the line is one of the text.
 use Rattle.setting_text.specs.Quotes.{quoted}
 use Rattle.setting_text.proofs.Quotes.{part_in}
 use Rattle.setting_text.proofs.quoting.quote_of.Goals as goal
