@@ -1,14 +1,16 @@
 -- Octets put one after another; the digits of a number, the words and the lines that they make.
-use Prim.Native.Nat.{ℕ, zero, suc, ◌+◌, ◌-◌, ◌/◌, ◌%◌, ◌≤◌, ◌<◌}
-use mathlib.Core.Path.{◌≡◌, refl, sym, ap, subst, ◌∙◌}
+use Prim.Native.Nat.{◌^◌, ℕ, zero, suc, ◌+◌, ◌/◌, ◌%◌, ◌≤◌, ◌<◌}
+use mathlib.Core.Path.{◌≡◌, refl, sym, ap, ◌∙◌}
 use mathlib.Core.Bool.{Bool, true, false, cond}
 use mathlib.Core.List.{List, [], ◌∷◌, ◌++◌}
 use lib.ListN.{length, take, drop, set, length-append}
 use lib.Seq.{set_split, append_snoc}
-use lib.Dec.{lit≤}
+use lib.Dec.{lit≤, lit<}
 use native.Mathlib.Omega.{arith}
-use native.Mathlib.Numerals.{add-one, sub-one}
+use native.Mathlib.Numerals.{add-one}
 use borrow.Author.Tests.{lt-ltb, le-ltb}
+use Rattle.std.specs.Fmt.{decimal as printed}
+use Rattle.std.proofs.lemmas.Fmt.{AppendsLastDigit, decimal_from_appends, length-decimal-le}
 use Rattle.rules.specs.declared.Class.{Class}
 use Rattle.rules.specs.declared.Class.TheVariants.{Idle, Counted, Read, Repeat, Refused}
 use Rattle.rules.specs.declared.Answer.{Answer}
@@ -57,45 +59,13 @@ length_digits (suc n) v = by (v <? 10) (length_digits n (v / 10))
     by true h = omega arith
     by false h = omega (arith, length-append (digits n (v / 10)) ((48 + v % 10) ∷ []))
 
-digits-short : (n v : ℕ) → 0 < n → v < 10 → (48 + v) ∷ [] ≡ digits n v
-unfolding digits
-digits-short zero v p h = absurd (omega arith)
-digits-short (suc n) v p h = rw (lt-ltb _ _ h)
-
-digits_long : (n v : ℕ) → 0 < n → 10 ≤ v → digits (n - 1) (v / 10) ++ (48 + v % 10) ∷ [] ≡ digits n v
-unfolding digits
-digits_long zero v p h = absurd (omega arith)
-digits_long (suc n) v p h = rw (le-ltb _ _ h, sub-one (suc n))
-
-pub short-length : (n v : ℕ) → 0 < n → v < 10 → length (digits n v) ≡ 1
-short-length n v p h = ap length (sym (digits-short n v p h))
-
-pub long-length : (n v : ℕ) → 0 < n → 10 ≤ v → length (digits n v) ≡ length (digits (n - 1) (v / 10)) + 1
-long-length n v p h = ap length (sym (digits_long n v p h)) ∙ length-append (digits (n - 1) (v / 10)) ((48 + v % 10) ∷ [])
-
-pub put_no_digits : (n v : ℕ) (area : List ℕ) (from : ℕ) → n ≡ 0 → Put (digits n v) area from area from
-unfolding digits
-put_no_digits n v area from z = subst (λ (k : ℕ). Put (digits k v) area from area from) (sym z) (put-none area from)
-
-pub put-short : (n v : ℕ) (area : List ℕ) (from d : ℕ)
-    → 0 < n → v < 10 → d ≡ 48 + v → from < length area → Put (digits n v) area from (set area from d) (from + 1)
-put-short n v area from d p h e room =
-    subst (λ (xs : List ℕ). Put xs area from (set area from d) (from + 1)) (ap (λ (x : ℕ). x ∷ []) e ∙ digits-short n v p h) (put_one area from d room)
-
-pub long-room : (n v : ℕ) {area : List ℕ} {from : ℕ} {area₁ : List ℕ} {at : ℕ} → 0 < n → 10 ≤ v → from + length (digits n v) ≤ length area
-    → Put (digits (n - 1) (v / 10)) area from area₁ at → at < length area₁
-long-room n v p h room q =
-    let l : length (digits n v) ≡ length (digits (n - 1) (v / 10)) + 1 = long-length n v p h in
-    omega (arith, put-length q (omega arith), q.ends)
-
-pub put-long : (n v : ℕ) (area : List ℕ) (from : ℕ) (area₁ : List ℕ) (at d : ℕ)
-    → 0 < n → 10 ≤ v → from + length (digits n v) ≤ length area → d ≡ 48 + v % 10
-    → Put (digits (n - 1) (v / 10)) area from area₁ at → Put (digits n v) area from (set area₁ at d) (at + 1)
-put-long n v area from area₁ at d p h room e q =
-    let l : length (digits n v) ≡ length (digits (n - 1) (v / 10)) + 1 = long-length n v p h in
-    let k : from + length (digits (n - 1) (v / 10)) ≤ length area = omega arith in
-    subst (λ (xs : List ℕ). Put xs area from (set area₁ at d) (at + 1)) (ap (λ (x : ℕ). digits (n - 1) (v / 10) ++ x ∷ []) e ∙ digits_long n v p h)
-    (put_then (digits (n - 1) (v / 10)) (d ∷ []) area from area₁ at (set area₁ at d) (at + 1) k q (put_one area₁ at d (long-room n v p h room q)))
+-- What the standard library prints of a number of 64 bits.
+pub decimal-printed : (v : ℕ) → v < 2 ^ 64 → printed v ≡ decimal v
+unfolding decimal digits
+decimal-printed v h = sym (decimal_from_appends digits by 20 v h (length-decimal-le 20 v (lit< tt) (omega arith) h))
+  where
+    by : AppendsLastDigit digits
+    by = record { one = λ k n l. rw (lt-ltb _ _ l); more = λ k n l. rw (le-ltb _ _ l) }
 
 pub length-decimal : (v : ℕ) → length (decimal v) ≤ 20
 unfolding decimal
@@ -103,15 +73,11 @@ length-decimal v = length_digits 20 v
 
 -- Below ten there is one digit.
 pub decimal_digit : (v : ℕ) → v < 10 → decimal v ≡ (48 + v) ∷ []
-unfolding decimal
-decimal_digit v h = sym (digits-short 20 v (lit≤ tt) h)
+unfolding decimal digits
+decimal_digit v h = rw (lt-ltb _ _ h)
 
 pub decimal_fits : (v from : ℕ) {size : ℕ} → from + 20 ≤ size → from + length (decimal v) ≤ size
 decimal_fits v from h = omega (arith, length-decimal v)
-
-pub put-decimal : (v : ℕ) (area : List ℕ) (from : ℕ) (area' : List ℕ) (end : ℕ) → Put (digits 20 v) area from area' end → Put (decimal v) area from area' end
-unfolding decimal
-put-decimal v area from area' end p = p
 
 -- ---- words
 

@@ -1,41 +1,27 @@
 -- The lines that patterns and texts make.
 use Prim.Native.Nat.{ℕ, ◌+◌, ◌≤◌}
-use mathlib.Core.Path.{◌≡◌, refl, ap, subst, ◌∙◌}
+use mathlib.Core.Path.{◌≡◌, ap, subst, ◌∙◌}
 use mathlib.Core.List.{List, [], ◌∷◌, ◌++◌, append_assoc}
 use lib.ListN.{length, length-append}
 use native.Mathlib.Omega.{arith}
 use Rattle.rules.specs.declared.Class.{Class}
-use Rattle.rules.specs.declared.Class.TheVariants.{Idle, Counted, Read, Repeat, Refused}
 use Rattle.rules.specs.declared.Answer.{Answer}
 use Rattle.rules.specs.Listing.{text, decimal, word, amount, line}
-use Rattle.listing_text.specs.Puts.{Put, filled, onto, parts, part, place, front}
+use Rattle.listing_text.specs.Puts.{Put, filled, front}
 use Rattle.listing_text.proofs.Laws.{put_then, length-decimal, length-word, length_front}
 
--- What `put_front` takes a word from.
-abbrev words : List ℕ
-words = text " idle | counted | read | repeat | refused "
-
-words_of : (c : Class) → part words (place c) ≡ text " " ++ word c ++ text " "
-unfolding part parts onto place text word
-words_of Idle = refl
-words_of Counted = refl
-words_of Read = refl
-words_of Repeat = refl
-words_of (Refused n) = refl
-
-pub length-words : (c : Class) {n : ℕ} → n ≡ place c → length (part words n) ≤ 9
+pub length-words : (c : Class) → length (text " " ++ word c ++ text " ") ≤ 9
 unfolding text
-length-words c e = rw (e, words_of c) (omega (arith, length-word c, length-append (text " " ++ word c) (text " ")))
+length-words c = omega (arith, length-word c, length-append (text " " ++ word c) (text " "))
 
-pub put_front : (k : ℕ) (c : Class) {area : List ℕ} {from : ℕ} {area₁ : List ℕ} {at n : ℕ} {area₂ : List ℕ} {end : ℕ}
-    → from + 29 ≤ length area → n ≡ place c → Put (decimal k) area from area₁ at
-    → Put (part words n) area₁ at area₂ end → Put (front k c) area from area₂ end
+pub put_front : (k : ℕ) (c : Class) {area : List ℕ} {from : ℕ} {area₁ : List ℕ} {at : ℕ} {ws area₂ : List ℕ} {end : ℕ}
+    → from + 29 ≤ length area → ws ≡ text " " ++ word c ++ text " " → Put (decimal k) area from area₁ at
+    → Put ws area₁ at area₂ end → Put (front k c) area from area₂ end
 unfolding front
-put_front k c {area} {from} {area₁} {at} {n} {area₂} {end} room e p q =
+put_front k c {area} {from} {area₁} {at} {ws} {area₂} {end} room e p q =
     let l : length (decimal k) ≤ 20 = length-decimal k in
-    let w : part words n ≡ text " " ++ word c ++ text " " = ap (part words) e ∙ words_of c in
-    subst (λ (xs : List ℕ). Put xs area from area₂ end) (ap (λ (ys : List ℕ). decimal k ++ ys) w ∙ simp append_assoc)
-    (put_then (decimal k) (part words n) area from area₁ at area₂ end (omega arith) p q)
+    subst (λ (xs : List ℕ). Put xs area from area₂ end) (ap (λ (ys : List ℕ). decimal k ++ ys) e ∙ simp append_assoc)
+    (put_then (decimal k) ws area from area₁ at area₂ end (omega arith) p q)
 
 pub put-line : (k : ℕ) (a : Answer) {area : List ℕ} {from : ℕ} {area₁ : List ℕ} {at n : ℕ} {area₂ : List ℕ} {end : ℕ}
     → from + 71 ≤ length area → n ≡ amount a.class a.units → Put (front k a.class) area from area₁ at

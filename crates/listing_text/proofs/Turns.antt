@@ -1,21 +1,34 @@
 -- What is left of a text while it is put octet by octet, and how a pattern and a list of texts go on at each octet.
-use Prim.Native.Nat.{ℕ, zero, suc, ◌+◌, ◌-◌, ◌*◌, ◌≤◌, ◌<◌}
+use Prim.Native.Nat.{ℕ, suc, ◌+◌, ◌*◌, ◌≤◌, ◌<◌}
 use mathlib.Core.Path.{◌≡◌, refl, sym, ap, ap₂, subst, ◌∙◌}
 use mathlib.Core.Bool.{Bool, true, false, cond}
 use mathlib.Core.List.{List, [], ◌∷◌, ◌++◌}
-use lib.ListN.{length, get_or, drop, set, length-append, drop_of_length-le}
-use lib.Seq.{drop-cons, drop-drop, get_or-drop}
+use lib.ListN.{length, get_or, drop, length-append, drop_of_length-le}
+use lib.Seq.{drop-cons}
 use lib.Dec.{lit≤}
-use native.Mathlib.Nat.{add-zero}
-use native.Mathlib.Numerals.{add-one, sub-one}
+use native.Mathlib.Numerals.{add-one}
 use native.Mathlib.Omega.{arith}
 use borrow.Author.Tests.{eq-eqb, ne_eqb}
+use Rattle.std.proofs.Common.{Option, None, Some, unwrap_or, option_copied, option_map, eqb}
+use denote.Ref.{Bor}
+use Rattle.std.proofs.Common.{MatchOption}
+use denote.Param.Members.{Mut}
+use Rattle.std.specs.Fn.{CalledAt}
+use Rattle.std.specs.Iterator.{YieldsThen}
+use Rattle.std.specs.Slice.Iter.{split_steps, split_rest, split_done, split_callee}
+use Rattle.std.proofs.lemmas.Iterator.Consumers.{nth_from_yields_List}
+use Rattle.std.proofs.lemmas.Iterator.Splits.{YieldsList-from_slice_split}
+use Rattle.std.specs.List.{slice_split, onto_first}
+use Rattle.std.specs.Slice.Iter.{iter_rest, iter_steps}
+use Rattle.std.proofs.Common.{Iter}
+use Rattle.std.proofs.lemmas.List.{nil_from_length}
+use Rattle.std.proofs.lemmas.Option.{unwrap_or-slice_get}
 use Rattle.rules.specs.Areas.{laid}
 use Rattle.rules.specs.Tests.{◌=?◌}
 use Rattle.rules.specs.Listing.{digits, decimal}
 use Rattle.rules.proofs.Areas.{laid_nil, laid-laid}
 use Rattle.listing_text.specs.Puts.{Put, filled, onto, parts, part}
-use Rattle.listing_text.proofs.Laws.{put_one, put-length, length-decimal}
+use Rattle.listing_text.proofs.Laws.{put-length, length-decimal}
 
 -- With `ys` from octet `at` on, the area is what it was with `xs` from octet `from` on, and has room for them.
 pub record Left (ys area : List ℕ) (at : ℕ) (xs area₀ : List ℕ) (from : ℕ) : Type 0 where
@@ -48,34 +61,38 @@ module _ {area : List ℕ} {at : ℕ} {xs area₀ : List ℕ} {from : ℕ} where
 
 -- ---- patterns
 
-module _ (p vs : List ℕ) (i k : ℕ) (h : i < length p) where
-  filled-mark : get_or p i 0 ≡ 35 → filled (drop i p) (drop k vs) ≡ decimal (get_or vs k 0) ++ filled (drop (i + 1) p) (drop (k + 1) vs)
-  unfolding filled
-  filled-mark e =
-      rw (drop-cons p i 0 h, eq-eqb _ _ e)
-      (ap₂ (λ (v : ℕ) (ws : List ℕ). decimal v ++ filled (drop (suc i) p) ws) (get_or-drop k vs 0 0 ∙ ap (λ (n : ℕ). get_or vs n 0) (add-zero k))
-      (drop-drop 1 k vs) ∙ rw (add-one i))
+-- The next of the numbers, and those after it.
+pub next-number : (s t : Iter ℕ) (r : Option (Bor ℕ)) → iter_steps s r t
+    → (unwrap_or (option_copied r) 0 ≡ get_or (iter_rest s) 0 0) × (iter_rest t ≡ drop 1 (iter_rest s))
+next-number s t None e = let n = nil_from_length (iter_rest s) e.0 in (rw n, rw (e.1, n))
+next-number s t (Some x) e = (rw e, rw e)
 
-  filled-plain : (get_or p i 0 ≡ 35 → ⊥) → filled (drop i p) (drop k vs) ≡ (get_or p i 0 ∷ []) ++ filled (drop (i + 1) p) (drop k vs)
+module _ (p : List ℕ) (i : ℕ) (h : i < length p) where
+  filled-mark : (vs : List ℕ) → get_or p i 0 ≡ 35 → filled (drop i p) vs ≡ decimal (get_or vs 0 0) ++ filled (drop (i + 1) p) (drop 1 vs)
   unfolding filled
-  filled-plain e = rw (drop-cons p i 0 h, ne_eqb _ _ e, add-one i)
+  filled-mark vs e = rw (drop-cons p i 0 h, eq-eqb _ _ e, add-one i)
 
-  module _ {area : List ℕ} {at : ℕ} {xs area₀ : List ℕ} {from : ℕ} (l : Left (filled (drop i p) (drop k vs)) area at xs area₀ from) where
-    pub mark-room : {v : ℕ} → get_or p i 0 ≡ 35 → v ≡ get_or vs k 0 → at + length (decimal v) ≤ length area
+  filled-plain : (vs : List ℕ) → (get_or p i 0 ≡ 35 → ⊥) → filled (drop i p) vs ≡ (get_or p i 0 ∷ []) ++ filled (drop (i + 1) p) vs
+  unfolding filled
+  filled-plain vs e = rw (drop-cons p i 0 h, ne_eqb _ _ e, add-one i)
+
+  module _ (vs : List ℕ) {area : List ℕ} {at : ℕ} {xs area₀ : List ℕ} {from : ℕ} (l : Left (filled (drop i p) vs) area at xs area₀ from) where
+    pub mark-room : {v : ℕ} → get_or p i 0 ≡ 35 → v ≡ get_or vs 0 0 → at + length (decimal v) ≤ length area
     mark-room {v} e f =
-        let m = (left_as (filled-mark e) l).room in
-        rw f (omega (arith, m, length-append (decimal (get_or vs k 0)) (filled (drop (i + 1) p) (drop (k + 1) vs))))
+        let m = (left_as (filled-mark vs e) l).room in
+        rw f (omega (arith, m, length-append (decimal (get_or vs 0 0)) (filled (drop (i + 1) p) (drop 1 vs))))
 
-    pub mark-next : {v : ℕ} {area' : List ℕ} {at' : ℕ} → get_or p i 0 ≡ 35 → v ≡ get_or vs k 0 → Put (decimal v) area at area' at'
-        → Left (filled (drop (i + 1) p) (drop (k + 1) vs)) area' at' xs area₀ from
+    pub mark-next : {v : ℕ} {area' : List ℕ} {at' : ℕ} → get_or p i 0 ≡ 35 → v ≡ get_or vs 0 0 → Put (decimal v) area at area' at'
+        → Left (filled (drop (i + 1) p) (drop 1 vs)) area' at' xs area₀ from
     mark-next {v} {area'} {at'} e f q =
-        left-put (left_as (filled-mark e) l) (subst (λ (n : ℕ). Put (decimal n) area at area' at') f q)
+        left-put (left_as (filled-mark vs e) l) (subst (λ (n : ℕ). Put (decimal n) area at area' at') f q)
 
-    pub plain-room : (get_or p i 0 ≡ 35 → ⊥) → at < length area
-    plain-room e = let m = (left_as (filled-plain e) l).room in omega (arith, m)
+    pub plain-room : (get_or p i 0 ≡ 35 → ⊥) → at + 1 ≤ length area
+    plain-room e = let m = (left_as (filled-plain vs e) l).room in omega (arith, m)
 
-    pub plain-next : (get_or p i 0 ≡ 35 → ⊥) → Left (filled (drop (i + 1) p) (drop k vs)) (set area at (get_or p i 0)) (at + 1) xs area₀ from
-    plain-next e = left-put (left_as (filled-plain e) l) (put_one area at (get_or p i 0) (plain-room e))
+    pub plain-next : {area' : List ℕ} {at' : ℕ} → (get_or p i 0 ≡ 35 → ⊥) → Put (get_or p i 0 ∷ []) area at area' at'
+        → Left (filled (drop (i + 1) p) vs) area' at' xs area₀ from
+    plain-next e q = left-put (left_as (filled-plain vs e) l) q
 
 pub filled-end : (p vs : List ℕ) (i : ℕ) {area : List ℕ} {at : ℕ} {xs area₀ : List ℕ} {from : ℕ} → length p ≤ i
     → Left (filled (drop i p) vs) area at xs area₀ from → Put xs area₀ from area at
@@ -107,54 +124,25 @@ filled_fits p vs from h = omega (arith, filled-most p vs)
 
 -- ---- texts
 
-module _ (t : List ℕ) (i : ℕ) (h : i < length t) where
-  part-over : get_or t i 0 ≡ 124 → (n : ℕ) → n ≡ 0 → part (drop i t) n ≡ []
-  unfolding part parts
-  part-over e n z = rw (drop-cons t i 0 h, eq-eqb _ _ e, z)
-
-  part-mark : get_or t i 0 ≡ 124 → (n : ℕ) → (n ≡ 0 → ⊥) → part (drop i t) n ≡ part (drop (i + 1) t) (n - 1)
-  unfolding part parts
-  part-mark e zero z = absurd (z refl)
-  part-mark e (suc n) z = rw (drop-cons t i 0 h, eq-eqb _ _ e, add-one i, sub-one (suc n))
-
-  part-octet : (get_or t i 0 ≡ 124 → ⊥) → (n : ℕ) → n ≡ 0 → part (drop i t) n ≡ (get_or t i 0 ∷ []) ++ part (drop (i + 1) t) n
-  unfolding part parts onto
-  part-octet e n z = rw (drop-cons t i 0 h, ne_eqb _ _ e, add-one i, z) (by (get_or t i 0) (parts (drop (suc i) t)))
-    where
-      by : (x : ℕ) (ps : List (List ℕ)) → get_or (onto x ps) 0 [] ≡ x ∷ get_or ps 0 []
-      by x [] = refl
-      by x (p ∷ ps) = refl
-
-  part-pass : (get_or t i 0 ≡ 124 → ⊥) → (n : ℕ) → (n ≡ 0 → ⊥) → part (drop i t) n ≡ part (drop (i + 1) t) n
-  unfolding part parts onto
-  part-pass e zero z = absurd (z refl)
-  part-pass e (suc n) z = rw (drop-cons t i 0 h, ne_eqb _ _ e, add-one i) (by (get_or t i 0) (parts (drop (suc i) t)))
-    where
-      by : (x : ℕ) (ps : List (List ℕ)) → get_or (onto x ps) (suc n) [] ≡ get_or ps (suc n) []
-      by x [] = refl
-      by x (p ∷ ps) = refl
-
-  module _ {n : ℕ} {area : List ℕ} {at : ℕ} {xs area₀ : List ℕ} {from : ℕ} (l : Left (part (drop i t) n) area at xs area₀ from) where
-    pub over-end : get_or t i 0 ≡ 124 → n ≡ 0 → Put xs area₀ from area at
-    over-end e z = left-none (left_as (part-over e n z) l)
-
-    pub bar-next : get_or t i 0 ≡ 124 → (n ≡ 0 → ⊥) → Left (part (drop (i + 1) t) (n - 1)) area at xs area₀ from
-    bar-next e z = left_as (part-mark e n z) l
-
-    pub octet-room : (get_or t i 0 ≡ 124 → ⊥) → n ≡ 0 → at < length area
-    octet-room e z = let m = (left_as (part-octet e n z) l).room in omega (arith, m)
-
-    pub octet-next : (get_or t i 0 ≡ 124 → ⊥) → n ≡ 0 → Left (part (drop (i + 1) t) n) (set area at (get_or t i 0)) (at + 1) xs area₀ from
-    octet-next e z = left-put (left_as (part-octet e n z) l) (put_one area at (get_or t i 0) (octet-room e z))
-
-    pub pass-next : (get_or t i 0 ≡ 124 → ⊥) → (n ≡ 0 → ⊥) → Left (part (drop (i + 1) t) n) area at xs area₀ from
-    pass-next e z = left_as (part-pass e n z) l
-
-pub part_end : (t : List ℕ) (i n : ℕ) {area : List ℕ} {at : ℕ} {xs area₀ : List ℕ} {from : ℕ} → length t ≤ i
-    → Left (part (drop i t) n) area at xs area₀ from → Put xs area₀ from area at
-unfolding part parts
-part_end t i n h l = left-none (left_as (ap (λ (s : List ℕ). part s n) (drop_of_length-le t h) ∙ by n) l)
+-- The texts between the marks are what a split at the marks gives.
+parts-split : (t : List ℕ) → slice_split (λ (x : ℕ). eqb x 124) t ≡ parts t
+unfolding parts onto
+parts-split [] = refl
+parts-split (x ∷ t) = rw (parts-split t) (ap (λ (ps : List (List ℕ)). cond (eqb x 124) ([] ∷ parts t) ps) (by (parts t)))
   where
-    by : (m : ℕ) → part [] m ≡ []
-    by zero = refl
-    by (suc m) = refl
+    by : (ps : List (List ℕ)) → onto_first x ps ≡ onto x ps
+    by [] = refl
+    by (p ∷ ps) = refl
+
+-- The n-th of them, if there is one, is what such a split gives after n.
+pub part-nth : {F : Type 0} {s : _} (g : Mut F (Bor ℕ × Unit {0}) Bool) {f : F} (t : List ℕ) (n : ℕ) (r : Option (Bor (List ℕ))) (u : _)
+    → ((xs : List (Bor (List ℕ))) × YieldsThen (split_steps g) s xs r u × MatchOption r (length xs ≤ n) (λ _. length xs ≡ n))
+    → split_rest s ≡ t → split_done s ≡ false → split_callee s ≡ f
+    → ((x : ℕ) (b : Bool) (q : F) → CalledAt g f x b q → (q ≡ f) × (b ≡ eqb x 124))
+    → part t n ≡ unwrap_or (option_map (λ (x : Bor (List ℕ)). x.now) r) []
+unfolding part
+part-nth g t n r u ran rest done callee tests =
+    let mark : ℕ → Bool = λ x. eqb x 124 in
+    let e = nth_from_yields_List r u n ran (YieldsList-from_slice_split g mark t rest done callee tests) in
+    ap (λ (ps : List (List ℕ)). get_or ps n []) (sym (parts-split t)) ∙ sym (unwrap_or-slice_get (slice_split mark t) n [])
+    ∙ ap (λ (o : Option (List ℕ)). unwrap_or o []) (sym e)

@@ -1,7 +1,6 @@
 -- What a function that puts octets into an area leaves there, and where the next ones go.
 use Rattle.std.specs.Prelude.{ℕ, ◌+◌, ◌≡◌, cond, List, [], ◌∷◌, ◌++◌, length, get_or, drop}
 use Rattle.rules.specs.declared.Class.{Class}
-use Rattle.rules.specs.declared.Class.TheVariants.{Idle, Counted, Read, Repeat, Refused}
 use Rattle.rules.specs.Areas.{laid}
 use Rattle.rules.specs.Tests.{◌=?◌}
 use Rattle.rules.specs.Listing.{text, decimal, word}
@@ -28,14 +27,6 @@ parts (x ∷ t) = cond (x =? 124) ([] ∷ parts t) (onto x (parts t))
 -- The n-th of them.
 unfoldable pub part : List ℕ → ℕ → List ℕ
 part t n = get_or (parts t) n []
-
--- The order in which a line's first words are listed.
-unfoldable pub place : Class → ℕ
-place Idle = 0
-place Counted = 1
-place Read = 2
-place Repeat = 3
-place (Refused n) = 4
 
 -- A line up to its third field.
 unfoldable pub front : ℕ → Class → List ℕ

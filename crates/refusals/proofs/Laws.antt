@@ -70,9 +70,14 @@ pub commonest-none : (counts : List ℕ) → commonest counts 0 ≡ 0
 unfolding commonest
 commonest-none counts = refl
 
-pub commonest-next : (counts : List ℕ) (i : ℕ) {best : ℕ} → best ≡ commonest counts i → commonest counts (i + 1) ≡ commoner counts best i
-unfolding commonest
-commonest-next counts i e = rw (add-one i, e)
+module _ (counts : List ℕ) (i : ℕ) {best : ℕ} (e : best ≡ commonest counts i) where
+  pub commonest-more : get_or counts best 0 < get_or counts i 0 → commonest counts (i + 1) ≡ i
+  unfolding commonest commoner
+  commonest-more h = rw (add-one i, ← e, lt-ltb _ _ h)
+
+  pub commonest-same : get_or counts i 0 ≤ get_or counts best 0 → commonest counts (i + 1) ≡ best
+  unfolding commonest commoner
+  commonest-same h = rw (add-one i, ← e, le-ltb _ _ h)
 
 -- ---- the first
 

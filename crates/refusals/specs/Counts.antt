@@ -1,5 +1,5 @@
 -- How many frames were refused, number by number, and which was the first.
-use Rattle.std.specs.Prelude.{ℕ, zero, suc, true, false, cond, List, length, get_or, set, take, replicate}
+use Rattle.std.specs.Prelude.{ℕ, zero, suc, cond, Option, Some, None, List, length, get_or, set, take, replicate}
 use Rattle.rules.specs.declared.Answer.{Answer}
 use Rattle.rules.specs.declared.Setting.{Setting}
 use Rattle.rules.specs.declared.Verdict.{Verdict}
@@ -19,8 +19,9 @@ unfoldable pub front_of : List ℕ → List ℕ
 front_of f = laid (replicate 7 0) 0 (take 7 f)
 
 -- What is kept of the first refused frame, once there is one: later ones change nothing.
-unfoldable pub first_after : First → ℕ → List ℕ → First
-first_after p k f = cond p.there p (record { frame = k; octets = length f; front = front_of f; there = true })
+unfoldable pub first_after : Option First → ℕ → List ℕ → Option First
+first_after (Some p) k f = Some p
+first_after None k f = Some (record { frame = k; octets = length f; front = front_of f })
 
 -- With frame k more, refused or not.
 unfoldable pub refused_after : Refusals → Verdict → ℕ → List ℕ → Refusals
@@ -40,7 +41,7 @@ unfoldable pub passed_over : Totals → Totals
 passed_over t = record { tally = tallied_over t.tally; refusals = t.refusals }
 
 unfoldable pub no_refusals : Refusals
-no_refusals = record { counts = replicate 13 0; first = record { frame = 0; octets = 0; front = replicate 7 0; there = false } }
+no_refusals = record { counts = replicate 13 0; first = None }
 
 unfoldable pub no_totals : Totals
 no_totals = record { tally = no_tally; refusals = no_refusals }

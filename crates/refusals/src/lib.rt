@@ -4,26 +4,25 @@
 
 ghost use Rattle.std.specs.Prelude.{◌≡◌, ◌+◌, ◌≤◌, ◌<◌, length};
 ghost use Rattle.unpack_text.specs.Lines.{Wrote};
-ghost use Rattle.refusals.specs.Counts.{raised, front_of, first_after, refused_after, totalled, passed_over, no_totals, commoner, commonest};
+ghost use Rattle.refusals.specs.Counts.{raised, front_of, first_after, refused_after, totalled, passed_over, no_totals, commonest};
 ghost use Rattle.refusals.specs.Words.{naming, refused_line, refused_lines, totals_text, common_text, first_text, marked};
 
 use rules::{Answer, Reader, Setting, Verdict};
 use unpack_text::Tally;
 
-// The first refused frame, if there is one: its number, how many octets it has, and the first seven, with zeros for those that it has not.
+// The first refused frame: its number, how many octets it has, and the first seven, with zeros for those that it has not.
 #[derive(Clone, Copy)]
 pub struct First {
     pub frame: u64,
     pub octets: usize,
     pub front: [u8; 7],
-    pub there: bool,
 }
 
-// How many frames were refused with each number, by number, and the first of all.
-#[derive(Clone, Copy)]
+// How many frames were refused with each number, by number, and the first of all, if there is one.
+#[derive(Clone, Copy, Default)]
 pub struct Refusals {
     pub counts: [u64; 13],
-    pub first: First,
+    pub first: Option<First>,
 }
 
 // The totals of a recording, with its refusals.
@@ -36,20 +35,18 @@ pub struct Totals {
 // ---- counts
 
 // One more of number n, if there is such a number.
-fn raise(counts: [u64; 13], n: usize) -> [u64; 13]
+#[tactic(auto, unfolding(crate::specs::Counts::raised))]
+fn raise(mut counts: [u64; 13], n: usize) -> [u64; 13]
     ensures { result ≡ raised counts n }
 {
-    if n < 13 {
-        let x = counts[n];
-        let y = unpack_text::add(x, 1);
-        let mut t = counts;
-        t[n] = y;
-        return t;
+    if n < counts.len() {
+        counts[n] = unpack_text::add(counts[n], 1);
     }
     counts
 }
 
 // The first seven octets of a frame, with zeros for those that it has not.
+#[tactic(auto, unfolding(crate::specs::Counts::front_of))]
 fn front_of(frame: &[u8]) -> [u8; 7]
     ensures { result ≡ front_of frame.now }
 {
@@ -58,113 +55,75 @@ fn front_of(frame: &[u8]) -> [u8; 7]
     front
 }
 
-// The first refused frame, once frame k is refused.
-fn note_first(p: First, k: u64, frame: &[u8]) -> First
-    ensures { result ≡ first_after p k frame.now }
-{
-    if p.there {
-        return p;
-    }
-    let front = front_of(frame);
-    First {
-        frame: k,
-        octets: frame.len(),
-        front: front,
-        there: true,
-    }
-}
-
 // The refusals with frame k, which is refused with number n.
+#[tactic(auto, unfolding(crate::specs::Counts::first_after))]
 fn note(t: Refusals, n: usize, k: u64, frame: &[u8]) -> Refusals
     ensures { (result.counts ≡ raised t.counts n) × (result.first ≡ first_after t.first k frame.now) }
 {
-    let xs = t.counts;
-    let counts = raise(xs, n);
-    let p = t.first;
-    let first = note_first(p, k, frame);
+    let this = First {
+        frame: k,
+        octets: frame.len(),
+        front: front_of(frame),
+    };
     Refusals {
-        counts: counts,
-        first: first,
+        counts: raise(t.counts, n),
+        first: t.first.or(Some(this)),
     }
 }
 
 // The refusals with frame k, refused or not.
+#[tactic(auto, unfolding(crate::specs::Counts::refused_after))]
 fn after(t: Refusals, v: Verdict, k: u64, frame: &[u8]) -> Refusals
     ensures { result ≡ refused_after t v k frame.now }
 {
     match v {
         Verdict::Refused(n) => note(t, n as usize, k, frame),
-        Verdict::Idle => t,
-        Verdict::Counted(_) => t,
-        Verdict::Read(_) => t,
-        Verdict::Repeat(_) => t,
+        Verdict::Idle | Verdict::Counted(_) | Verdict::Read(_) | Verdict::Repeat(_) => t,
     }
 }
 
 // The totals with one frame more.
+#[tactic(auto, unfolding(crate::specs::Counts::totalled))]
 pub fn count_frame(s: Setting, t: Totals, v: Verdict, a: Answer, frame: &[u8]) -> Totals
     ensures { result ≡ totalled s t v a frame.now }
 {
-    let x = t.tally;
-    let tally = unpack_text::count_frame(s, x, v, a);
-    let y = t.refusals;
-    let refusals = after(y, v, x.classes.frames, frame);
     Totals {
-        tally: tally,
-        refusals: refusals,
+        tally: unpack_text::count_frame(s, t.tally, v, a),
+        refusals: after(t.refusals, v, t.tally.classes.frames, frame),
     }
 }
 
 // The totals with one frame more that was left out: it is not refused.
+#[tactic(auto, unfolding(crate::specs::Counts::passed_over))]
 pub fn pass_over(t: Totals) -> Totals
     ensures { result ≡ passed_over t }
 {
-    let x = t.tally;
-    let tally = unpack_text::pass_over(x);
-    let mut u = t;
-    u.tally = tally;
-    u
+    Totals {
+        tally: unpack_text::pass_over(t.tally),
+        ..t
+    }
 }
 
 // The totals of no frame.
+#[tactic(auto, unfolding(crate::specs::Counts::no_totals, crate::specs::Counts::no_refusals))]
 pub fn no_totals() -> Totals
     ensures { result ≡ no_totals }
 {
-    let tally = unpack_text::no_tally();
     Totals {
-        tally: tally,
-        refusals: Refusals {
-            counts: [0u64; 13],
-            first: First {
-                frame: 0,
-                octets: 0,
-                front: [0u8; 7],
-                there: false,
-            },
-        },
+        tally: unpack_text::no_tally(),
+        refusals: Refusals::default(),
     }
-}
-
-// Of two numbers the one with more frames, and the first where they have as many.
-fn commoner_of(counts: [u64; 13], best: usize, i: usize) -> usize
-    requires { (best < 13) × (i < 13) }
-    ensures { (result ≡ commoner counts best i) × (result < 13) }
-{
-    if counts[best] < counts[i] {
-        return i;
-    }
-    best
 }
 
 // The number with the most frames, the lowest of several; 0 where none was refused.
 fn commonest_of(counts: [u64; 13]) -> usize
     ensures { (result ≡ commonest counts 13) × (result < 13) }
 {
-    let mut best: usize = 0;
-    let mut i: usize = 0;
-    while i < 13 {
-        best = commoner_of(counts, best, i);
-        i += 1;
+    let mut best = 0;
+    for i in 0..counts.len() {
+        if counts[best] < counts[i] {
+            best = i;
+        }
     }
     best
 }
@@ -176,8 +135,7 @@ fn put_naming(area: &mut [u8], from: usize, n: u64, m: u64) -> usize
     requires { from + 186 ≤ length area.old }
     ensures { Wrote 186 (naming n m) area.old from area.new result }
 {
-    let values = [n, m];
-    let at = listing_text::put_filled(area, from, b"refused # frames #: ", &values);
+    let at = listing_text::put_filled(area, from, b"refused # frames #: ", &[n, m]);
     listing_text::put_part(
         area,
         at,
@@ -215,11 +173,8 @@ fn put_refusals(area: &mut [u8], from: usize, counts: [u64; 13]) -> usize
     ensures { Wrote 2244 (refused_lines counts) area.old from area.new result }
 {
     let mut at = from;
-    let mut i: usize = 0;
-    while i < 12 {
-        i += 1;
-        let m = counts[i];
-        at = put_refused(area, at, i as u64, m);
+    for (i, m) in counts[1..].iter().enumerate() {
+        at = put_refused(area, at, i as u64 + 1, *m);
     }
     at
 }
@@ -229,11 +184,9 @@ pub fn put_totals(area: &mut [u8], from: usize, r: Reader, t: Totals) -> usize
     requires { (r.setting.listed ≤ 8) × (r.setting.numbered ≤ 8) × (from + 4396 ≤ length area.old) }
     ensures { Wrote 4396 (totals_text r t) area.old from area.new result }
 {
-    let x = t.tally;
-    let counts = t.refusals.counts;
-    let at = unpack_text::put_places(area, from, r, x);
-    let at = put_refusals(area, at, counts);
-    unpack_text::put_last(area, at, r, x)
+    let at = unpack_text::put_places(area, from, r, t.tally);
+    let at = put_refusals(area, at, t.refusals.counts);
+    unpack_text::put_last(area, at, r, t.tally)
 }
 
 // ---- when little was read
@@ -244,9 +197,8 @@ pub fn put_common(area: &mut [u8], from: usize, counts: [u64; 13]) -> usize
     ensures { Wrote 197 (common_text counts) area.old from area.new result }
 {
     let n = commonest_of(counts);
-    let m = counts[n];
     let at = listing_text::put_text(area, from, b"most often ");
-    put_naming(area, at, n as u64, m)
+    put_naming(area, at, n as u64, counts[n])
 }
 
 // Puts what the first refused frame says of itself, beside the setting's spacecraft.
@@ -255,16 +207,14 @@ pub fn put_first(area: &mut [u8], from: usize, p: First, own: u16) -> usize
     ensures { Wrote 182 (first_text p own) area.old from area.new result }
 {
     if p.octets < 4 {
-        let values = [p.frame, p.octets as u64];
         return listing_text::put_filled(
             area,
             from,
             b"the first refused is frame #: its length is #",
-            &values,
+            &[p.frame, p.octets as u64],
         );
     }
-    let front = p.front;
-    let h = header::head_of(&front);
+    let h = header::head_of(&p.front);
     let v = h.version as u64;
     let values = [
         p.frame,
@@ -285,8 +235,9 @@ pub fn put_first(area: &mut [u8], from: usize, p: First, own: u16) -> usize
 }
 
 // Whether a frame with this front begins with a sync marker.
+#[tactic(auto, unfolding(crate::specs::Words::marked))]
 pub fn is_marked(front: [u8; 7]) -> bool
     ensures { result ≡ marked front }
 {
-    (front[0] == 0x1A) & (front[1] == 0xCF) & (front[2] == 0xFC) & (front[3] == 0x1D)
+    matches!(front, [0x1A, 0xCF, 0xFC, 0x1D, ..])
 }

@@ -17,8 +17,9 @@ use Rattle.listing_text.proofs.Patterns.{strung}
 use Rattle.unpack_text.specs.declared.LaneTally.{LaneTally}
 use Rattle.unpack_text.specs.Totals.{no_lane_tally}
 use Rattle.unpack_text.specs.Lines.{Wrote}
-use Rattle.unit_table.specs.declared.Sort.{Sort}
-use Rattle.unit_table.specs.declared.Sort.TheVariants as sort
+use Rattle.std.proofs.Common.{Option, Some}
+use Rattle.rules.specs.declared.Family.{Family}
+use Rattle.rules.specs.declared.Family.TheVariants.{Space}
 use Rattle.unit_table.specs.declared.Row.{Row}
 use Rattle.unit_table.specs.Rows.{is_packets, number_at, place_text, frame_text, packet_text, span_text, family_text, row_text}
 
@@ -74,7 +75,7 @@ abbrev pub six_fields : List (List ℕ)
 six_fields = [] ∷ text "," ∷ text "," ∷ text "," ∷ text "," ∷ (text ",," ++ text ",") ∷ []
 
 module _ (r : Row) where
-  pub space-strung : r.sort ≡ sort.Space
+  pub space-strung : r.family ≡ Some Space
       → strung eight_fields (r.lane ∷ r.offset ∷ r.length ∷ r.frame ∷ r.count ∷ r.apid ∷ r.sequence ∷ r.span ∷ []) (text ",space" ++ text "\n")
       ≡ row_text r
   unfolding strung row_text place_text frame_text packet_text span_text family_text
@@ -84,9 +85,9 @@ module _ (r : Row) where
   six = r.lane ∷ r.offset ∷ r.length ∷ r.frame ∷ r.count ∷ r.span ∷ []
 
   -- Of another unit, with what is said of its family.
-  pub other-strung : (s : Sort) → r.sort ≡ s → packet_text s r ≡ text ",," → strung six_fields six (family_text s ++ text "\n") ≡ row_text r
+  pub other-strung : (s : Option Family) → r.family ≡ s → packet_text s r ≡ text ",," → strung six_fields six (family_text s ++ text "\n") ≡ row_text r
   unfolding strung row_text place_text frame_text span_text
-  other-strung s h e = go (packet_text r.sort r) (ap (λ (x : Sort). packet_text x r) h ∙ e) (family_text r.sort) (ap family_text h)
+  other-strung s h e = go (packet_text r.family r) (ap (λ (x : Option Family). packet_text x r) h ∙ e) (family_text r.family) (ap family_text h)
     where
       go : (p : List ℕ) → p ≡ text ",," → (f : List ℕ) → f ≡ family_text s
           → strung six_fields six (family_text s ++ text "\n") ≡ place_text r ++ frame_text r ++ p ++ span_text r ++ f ++ text "\n"

@@ -1,5 +1,5 @@
 -- The table of units, as docs/PROGRAMS.md has it.
-use Rattle.std.specs.Prelude.{ℕ, ◌+◌, ◌*◌, Bool, true, false, List, ◌++◌, get_or, take, drop}
+use Rattle.std.specs.Prelude.{ℕ, ◌+◌, ◌*◌, Bool, true, false, Option, Some, None, List, ◌++◌, get_or, take, drop}
 use Rattle.rules.specs.declared.Kind.{Kind}
 use Rattle.rules.specs.declared.Kind.TheVariants.{Packets, Access}
 use Rattle.rules.specs.declared.Family.{Family}
@@ -17,8 +17,6 @@ use Rattle.unpack_text.specs.declared.Tally.{Tally}
 use Rattle.unpack_text.specs.Totals.{add, no_lane_tally}
 use Rattle.unpack_text.specs.Lines.{firsts}
 use Rattle.unit_table.specs.declared.Origin.{Origin}
-use Rattle.unit_table.specs.declared.Sort.{Sort}
-use Rattle.unit_table.specs.declared.Sort.TheVariants as sort
 use Rattle.unit_table.specs.declared.Row.{Row}
 
 unfoldable pub table_title : List ℕ
@@ -53,17 +51,13 @@ apid xs = bits 4 5 11 xs
 unfoldable pub sequence : List ℕ → ℕ
 sequence xs = bits 4 18 14 xs
 
-unfoldable pub sort_in : Family → Sort
-sort_in Space = sort.Space
-sort_in Encapsulation = sort.Encapsulation
-
 -- The family is what the measure says of a packet lane's unit.
-unfoldable pub sort_of : Bool → Measure → Sort
-sort_of false m = sort.Nothing
-sort_of true (Lacks k) = sort.Nothing
-sort_of true (Packet f n) = sort_in f
-sort_of true (Idle n) = sort.Nothing
-sort_of true Unreadable = sort.Nothing
+unfoldable pub family_of : Bool → Measure → Option Family
+family_of false m = None
+family_of true (Lacks k) = None
+family_of true (Packet f n) = Some f
+family_of true (Idle n) = None
+family_of true Unreadable = None
 
 -- Unit i of a read, by its record (lane 1, virtual channel 1, map 1, service 1, start 4, length 4, count 8, span 4) and the unit octets.
 unfoldable pub row_of : Origin → List ℕ → List ℕ → ℕ → Row
@@ -77,7 +71,7 @@ row_of g units records i =
       apid = apid (drop (number_at records (record_size * i + 4) 4) units);
       sequence = sequence (drop (number_at records (record_size * i + 4) 4) units);
       span = number_at records (record_size * i + 20) 4;
-      sort = sort_of g.packets (measure (drop (number_at records (record_size * i + 4) 4) units));
+      family = family_of g.packets (measure (drop (number_at records (record_size * i + 4) 4) units));
     }
 
 -- "Lane; the octet of the lane's file at which the unit begins; how many octets it has; ..."
@@ -89,23 +83,23 @@ unfoldable pub frame_text : Row → List ℕ
 frame_text r = text "," ++ decimal r.frame ++ (text "," ++ decimal r.count)
 
 -- "... of a Space Packet its APID and its sequence count; of an encapsulation packet and of an access lane's unit two empty fields; ..."
-unfoldable pub packet_text : Sort → Row → List ℕ
-packet_text sort.Space r = text "," ++ decimal r.apid ++ (text "," ++ decimal r.sequence)
-packet_text sort.Encapsulation r = text ",,"
-packet_text sort.Nothing r = text ",,"
+unfoldable pub packet_text : Option Family → Row → List ℕ
+packet_text (Some Space) r = text "," ++ decimal r.apid ++ (text "," ++ decimal r.sequence)
+packet_text (Some Encapsulation) r = text ",,"
+packet_text None r = text ",,"
 
 -- "... the record's span; ..."
 unfoldable pub span_text : Row → List ℕ
 span_text r = text "," ++ decimal r.span
 
 -- "... the family, `space` or `encapsulation`, and an empty field for an access lane's unit."
-unfoldable pub family_text : Sort → List ℕ
-family_text sort.Space = text ",space"
-family_text sort.Encapsulation = text ",encapsulation"
-family_text sort.Nothing = text ","
+unfoldable pub family_text : Option Family → List ℕ
+family_text (Some Space) = text ",space"
+family_text (Some Encapsulation) = text ",encapsulation"
+family_text None = text ","
 
 unfoldable pub row_text : Row → List ℕ
-row_text r = place_text r ++ frame_text r ++ packet_text r.sort r ++ span_text r ++ family_text r.sort ++ text "\n"
+row_text r = place_text r ++ frame_text r ++ packet_text r.family r ++ span_text r ++ family_text r.family ++ text "\n"
 
 -- The lines of a read that gave n units.
 unfoldable pub rows_text : Origin → ℕ → List ℕ → List ℕ → List ℕ

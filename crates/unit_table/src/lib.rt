@@ -3,10 +3,9 @@
 
 ghost use Rattle.std.specs.Prelude.{◌≡◌, ◌+◌, ◌*◌, ◌≤◌, ◌<◌, length, get_or, drop};
 ghost use Rattle.rules.specs.Settings.{no_lane};
-ghost use Rattle.rules.specs.Packets.{measure};
 ghost use Rattle.unpack_text.specs.Totals.{no_lane_tally};
 ghost use Rattle.unpack_text.specs.Lines.{Wrote};
-ghost use Rattle.unit_table.specs.Rows.{table_title, is_packets, origin_of, number_at, sort_in, sort_of, row_of, row_text, rows_text};
+ghost use Rattle.unit_table.specs.Rows.{table_title, is_packets, origin_of, number_at, family_of, row_of, row_text, rows_text};
 
 use rules::{Family, Kind, Lane, Measure, Setting, Verdict};
 use unpack_text::{LaneTally, Tally};
@@ -19,15 +18,7 @@ pub struct Origin {
     pub packets: bool,
 }
 
-// What a line says of a unit's family: which it is of a packet, and nothing of an access unit.
-#[derive(Clone, Copy)]
-pub enum Sort {
-    Space,
-    Encapsulation,
-    Nothing,
-}
-
-// What a line says of a unit.
+// What a line says of a unit; its family, if it is a packet.
 #[derive(Clone, Copy)]
 pub struct Row {
     pub offset: u64,
@@ -38,118 +29,75 @@ pub struct Row {
     pub apid: u64,
     pub sequence: u64,
     pub span: u64,
-    pub sort: Sort,
+    pub family: Option<Family>,
 }
 
 // ---- where units come from
 
 // Whether lane l carries packets; the lane of zeros does where there is no such slot.
+#[tactic(auto, unfolding(crate::specs::Rows::is_packets))]
 fn carries_packets(lanes: [Lane; 8], l: usize) -> bool
     ensures { result ≡ is_packets (get_or lanes l no_lane).kind }
 {
-    if l < 8 {
-        let a = lanes[l];
-        let k = a.kind;
-        match k {
-            Kind::Packets => true,
-            Kind::Access => false,
-        }
-    } else {
-        true
-    }
+    lanes
+        .get(l)
+        .map_or(true, |a| matches!(a.kind, Kind::Packets))
 }
 
 // How many octets lane l has; 0 where there is no such slot.
 fn octets_of(tallies: [LaneTally; 8], l: usize) -> u64
     ensures { result ≡ (get_or tallies l no_lane_tally).octets }
 {
-    if l < 8 {
-        let a = tallies[l];
-        return a.octets;
-    }
-    0
+    tallies.get(l).map_or(0, |a| a.octets)
 }
 
 // Where the units of frame k come from, after these totals.
+#[tactic(auto, unfolding(crate::specs::Rows::origin_of))]
 pub fn origin_of(s: Setting, t: Tally, k: u64, v: Verdict) -> Origin
     ensures { result ≡ origin_of s t k v }
 {
-    let none = Origin {
-        frame: k,
-        base: 0,
-        packets: false,
-    };
     match v {
-        Verdict::Refused(_) => none,
-        Verdict::Idle => none,
-        Verdict::Counted(_) => none,
-        Verdict::Read(l) => {
-            let tallies = t.lanes;
-            let base = octets_of(tallies, l);
-            let lanes = s.lanes;
-            let packets = carries_packets(lanes, l);
-            Origin {
-                frame: k,
-                base: base,
-                packets: packets,
-            }
-        }
-        Verdict::Repeat(_) => none,
+        Verdict::Read(l) => Origin {
+            frame: k,
+            base: octets_of(t.lanes, l),
+            packets: carries_packets(s.lanes, l),
+        },
+        Verdict::Refused(_) | Verdict::Idle | Verdict::Counted(_) | Verdict::Repeat(_) => Origin {
+            frame: k,
+            base: 0,
+            packets: false,
+        },
     }
 }
 
 // ---- a row
 
+// The octets from octet `at` on; none past the end.
+fn rest(octets: &[u8], at: usize) -> &[u8]
+    ensures { result.now ≡ drop at octets.now }
+{
+    octets.get(at..).unwrap_or(&[])
+}
+
 // The number in n octets from octet `at` on; in fewer, where there are not so many.
+#[tactic(auto, unfolding(crate::specs::Rows::number_at))]
 fn number_at(octets: &[u8], at: usize, n: usize) -> u64
     requires { n ≤ 8 }
     ensures { result ≡ number_at octets.now at n }
 {
-    let size = octets.len();
-    if size < at {
-        return 0;
-    }
-    if size - at < n {
-        return octets::exact(&octets[at..]);
-    }
-    let end = at + n;
-    octets::exact(&octets[at..end])
+    let rest = rest(octets, at);
+    octets::exact(&rest[..n.min(rest.len())])
 }
 
-// What is said of a packet of this family.
-fn sort_in(f: Family) -> Sort
-    ensures { result ≡ sort_in f }
+// The family of a packet lane's unit that is a packet, by what measures it.
+#[tactic(auto, unfolding(crate::specs::Rows::family_of))]
+fn family_of(packets: bool, m: Measure) -> Option<Family>
+    ensures { result ≡ family_of packets m }
 {
-    match f {
-        Family::Space => Sort::Space,
-        Family::Encapsulation => Sort::Encapsulation,
+    match m {
+        Measure::Packet(f, _) if packets => Some(f),
+        _ => None,
     }
-}
-
-// What is said of a unit, of a packet lane or not, by what measures it.
-fn sort_of(packets: bool, m: Measure) -> Sort
-    ensures { result ≡ sort_of packets m }
-{
-    if packets {
-        match m {
-            Measure::Lacks(_) => return Sort::Nothing,
-            Measure::Packet(f, _) => return sort_in(f),
-            Measure::Idle(_) => return Sort::Nothing,
-            Measure::Unreadable => return Sort::Nothing,
-        }
-    }
-    Sort::Nothing
-}
-
-// What measures the unit that begins with octet `at`; past the end there is none.
-fn measure_from(units: &[u8], at: usize) -> Measure
-    ensures { result ≡ measure (drop at units.now) }
-{
-    let size = units.len();
-    if size < at {
-        return Measure::Lacks(1);
-    }
-    packets::measure_at(&units[at..])
 }
 
 // What the line of unit i says.
@@ -158,24 +106,19 @@ fn row_of(g: Origin, units: &[u8], records: &[u8], i: usize) -> Row
     ensures { result ≡ row_of g units.now records.now i }
 {
     let at = rules::RECORD_SIZE * i;
-    let lane = number_at(records, at, 1);
     let start = number_at(records, at + 4, 4);
-    let length = number_at(records, at + 8, 4);
-    let count = number_at(records, at + 12, 8);
-    let span = number_at(records, at + 20, 4);
     let front = number_at(units, start as usize, 4);
-    let offset = unpack_text::add(g.base, start);
-    let sort = sort_of(g.packets, measure_from(units, start as usize));
+    let m = packets::measure_at(rest(units, start as usize));
     Row {
-        offset: offset,
+        offset: unpack_text::add(g.base, start),
         frame: g.frame,
-        lane: lane,
-        length: length,
-        count: count,
+        lane: number_at(records, at, 1),
+        length: number_at(records, at + 8, 4),
+        count: number_at(records, at + 12, 8),
         apid: front / 65536 % 2048,
         sequence: front % 16384,
-        span: span,
-        sort: sort,
+        span: number_at(records, at + 20, 4),
+        family: family_of(g.packets, m),
     }
 }
 
@@ -184,21 +127,27 @@ fn put_row(area: &mut [u8], from: usize, r: Row) -> usize
     requires { from + 174 ≤ length area.old }
     ensures { Wrote 174 (row_text r) area.old from area.new result }
 {
-    let values = [r.lane, r.offset, r.length, r.frame, r.count, r.span];
-    let sort = r.sort;
-    match sort {
-        Sort::Space => {
-            let all = [
+    match r.family {
+        Some(Family::Space) => listing_text::put_filled(
+            area,
+            from,
+            b"#,#,#,#,#,#,#,#,space\n",
+            &[
                 r.lane, r.offset, r.length, r.frame, r.count, r.apid, r.sequence, r.span,
-            ];
-            return listing_text::put_filled(area, from, b"#,#,#,#,#,#,#,#,space\n", &all);
-        }
-        Sort::Encapsulation => {
-            return listing_text::put_filled(area, from, b"#,#,#,#,#,,,#,encapsulation\n", &values);
-        }
-        Sort::Nothing => {
-            return listing_text::put_filled(area, from, b"#,#,#,#,#,,,#,\n", &values);
-        }
+            ],
+        ),
+        Some(Family::Encapsulation) => listing_text::put_filled(
+            area,
+            from,
+            b"#,#,#,#,#,,,#,encapsulation\n",
+            &[r.lane, r.offset, r.length, r.frame, r.count, r.span],
+        ),
+        None => listing_text::put_filled(
+            area,
+            from,
+            b"#,#,#,#,#,,,#,\n",
+            &[r.lane, r.offset, r.length, r.frame, r.count, r.span],
+        ),
     }
 }
 
@@ -221,12 +170,9 @@ pub fn put_rows(area: &mut [u8], g: Origin, n: usize, units: &[u8], records: &[u
     requires { (n ≤ 2048) × (174 * n ≤ length area.old) }
     ensures { Wrote (174 * n) (rows_text g n units.now records.now) area.old 0 area.new result }
 {
-    let mut at: usize = 0;
-    let mut i: usize = 0;
-    while i < n {
-        let r = row_of(g, units, records, i);
-        at = put_row(area, at, r);
-        i += 1;
+    let mut at = 0;
+    for i in 0..n {
+        at = put_row(area, at, row_of(g, units, records, i));
     }
     at
 }

@@ -126,8 +126,7 @@ fn say_marker(recording: &[u8], p: First) {
 
 // Says what to look at, where frames were refused.
 fn say_refused(recording: &[u8], r: Refusals, own: u16) {
-    let p = r.first;
-    if p.there {
+    if let Some(p) = r.first {
         say_common(recording, r);
         say_first(recording, p, own);
         say_marker(recording, p);

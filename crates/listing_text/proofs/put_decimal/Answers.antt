@@ -1,14 +1,15 @@
--- A number's digits, twenty at most.
-use Rattle.listing_text.proofs.Laws.{put-decimal}
+-- A number's digits, as the library has them.
+use Rattle.std.proofs.Common.{◌≡◌, rules, ◌∙◌}
 use Rattle.rules.specs.Listing.{decimal}
-use borrow.Author.Rules.{rules}
+use Rattle.listing_text.proofs.Laws.{decimal-printed}
 use Rattle.listing_text.proofs.put_decimal.Goals as goal
 
-pub put_digits-requires : goal.put_digits-requires
-unfolding decimal
-put_digits-requires c = search rules
+pub put_text-requires : goal.put_text-requires
+put_text-requires c =
+    let e : c.as_bytes.result.now ≡ decimal c.args.v = c.as_bytes.ensures.value ∙ c.format.ensures.text ∙ decimal-printed c.args.v (search rules) in
+    rw e c.requires
 
 pub returns : goal.returns
 returns c =
-    let a = c.args in
-    put-decimal a.v a.area.now a.from _ _ c.put_digits.ensures
+    let e : c.as_bytes.result.now ≡ decimal c.args.v = c.as_bytes.ensures.value ∙ c.format.ensures.text ∙ decimal-printed c.args.v (search rules) in
+    rw (← e) c.put_text.ensures

@@ -1,44 +1,33 @@
-use native.Mathlib.Omega.{arith}
-use Rattle.listing_text.proofs.Turns.{left-all, mark-room, mark-next, plain-room, plain-next, filled-end}
-use borrow.Author.Rules.{rules}
+-- A mark takes the next number, any other octet is put as it is.
+use Rattle.std.proofs.Common.{rules, ◌∙◌}
+use Rattle.listing_text.proofs.Turns.{left-all, next-number, mark-room, mark-next, plain-room, plain-next, filled-end}
 use Rattle.listing_text.proofs.put_filled.Goals as goal
+use Rattle.listing_text.proofs.put_filled.Goals.{then-x-eq35, else-x-eq35}
 
-pub loop-i-init : goal.loop-i-init
-loop-i-init c = (search rules, search rules, left-all (search rules))
+pub loop-x-init : goal.loop-x-init
+loop-x-init c = rw c.iter-left.ensures.rest (left-all c.requires)
 
 pub put_decimal-at-requires : goal.put_decimal-at-requires
 put_decimal-at-requires c =
-    let l = c.loop-i in
-    let a = c.args in
-    mark-room a.pattern.now a.values.now l.i l.k (search rules) l.invariant.2 c.if-x-eq35.true c.number_at-v.ensures
+    let n = next-number _ _ _ c.next.ensures.steps in
+    mark-room c.args.pattern.now c.loop-x.x-index (search rules) _ c.loop-x.invariant c.if-x-eq35.true
+    (c.unwrap_or-v.ensures ∙ rw c.copied.ensures n.0)
 
-pub loop-i-preserved-then-x-eq35 : goal.loop-i-preserved-then-x-eq35
-loop-i-preserved-then-x-eq35 c =
-    let a = c.args in
-    let l = c.loop-i in (
-      search rules,
-      search rules,
-      mark-next a.pattern.now a.values.now l.i l.k (search rules) l.invariant.2 c.if-x-eq35.true
-          c.number_at-v.ensures c.put_decimal-at.ensures,
-    )
+pub put_octet-at-requires : goal.put_octet-at-requires
+put_octet-at-requires c = plain-room c.args.pattern.now c.loop-x.x-index (search rules) _ c.loop-x.invariant c.if-x-eq35.false
 
-pub bounds-area-at : goal.bounds-area-at
-bounds-area-at c =
-    let a = c.args in
-    let l = c.loop-i in
-    plain-room a.pattern.now a.values.now l.i l.k (search rules) l.invariant.2 c.if-x-eq35.false
-
-pub overflow_add-at : goal.overflow_add-at
-overflow_add-at c = omega (arith, bounds-area-at c)
-
-pub loop-i-preserved : goal.loop-i-preserved
-loop-i-preserved c =
-    let a = c.args in
-    let l = c.loop-i in
-    (search rules, search rules, plain-next a.pattern.now a.values.now l.i l.k (search rules) l.invariant.2 c.if-x-eq35.false)
-
-pub shape_of-area : goal.shape_of-area
-shape_of-area c = c.loop-i.invariant.2.same
+pub loop-x-preserved : goal.loop-x-preserved
+loop-x-preserved c =
+    elim c.if-x-eq35.branch [
+      | then-x-eq35 w ↦
+          let n = next-number _ _ _ w.next.ensures.steps in
+          rw (w.left-is, w.area-is, w.at-is, n.1)
+          (mark-next c.args.pattern.now c.loop-x.x-index (search rules) _ c.loop-x.invariant w.if-x-eq35.true
+          (w.unwrap_or-v.ensures ∙ rw w.copied.ensures n.0) w.put_decimal-at.ensures)
+      | else-x-eq35 w ↦
+          rw (w.left-is, w.area-is, w.at-is)
+          (plain-next c.args.pattern.now c.loop-x.x-index (search rules) _ c.loop-x.invariant w.if-x-eq35.false w.put_octet-at.ensures)
+    ]
 
 pub returns : goal.returns
-returns c = filled-end c.args.pattern.now _ c.loop-i.i (search rules) c.loop-i.invariant.2
+returns c = filled-end c.args.pattern.now _ c.loop-x.x-index (search rules) c.loop-x.invariant

@@ -14,5 +14,5 @@ put_filled-requires c =
 pub returns : goal.returns
 unfolding text
 returns c =
-    put-line _ _ c.requires c.amount_of-n.ensures c.put_front-at.ensures
+    put-line _ _ c.requires c.amount_of.ensures c.put_front-at.ensures
     c.put_filled.ensures

@@ -1,39 +1,23 @@
-use native.Mathlib.Omega.{arith}
-use Rattle.listing_text.proofs.Turns.{left-all, over-end, bar-next, octet-room, octet-next, pass-next, part_end}
-use borrow.Author.Rules.{rules}
+-- What the n-th of the parts is, or that there is none.
+use Rattle.std.proofs.Common.{rules, tests, arith, ap, length}
+use Rattle.listing_text.proofs.Laws.{put-none}
+use Rattle.listing_text.proofs.Turns.{part-nth}
 use Rattle.listing_text.proofs.put_part.Goals as goal
 
-pub loop-i-init : goal.loop-i-init
-loop-i-init c = (search rules, left-all (search rules))
+pub put_text-requires : goal.put_text-requires
+put_text-requires c =
+    let s = c.split.ensures in
+    let e = part-nth _ c.args.texts.now c.args.n _ _ c.nth.ensures.ran s.rest s.done s.closure (λ x b q k. search (rules, tests)) in
+    omega (arith, ap length (rw c.in-Some.is at e), c.requires)
 
-pub shape_of-area-then-left-eq0 : goal.shape_of-area-then-left-eq0
-shape_of-area-then-left-eq0 c = c.loop-i.invariant.1.same
+pub returns-in-Some : goal.returns-in-Some
+returns-in-Some c =
+    let s = c.split.ensures in
+    let e = part-nth _ c.args.texts.now c.args.n _ _ c.nth.ensures.ran s.rest s.done s.closure (λ x b q k. search (rules, tests)) in
+    rw (rw c.in-Some.is at e) c.put_text.ensures
 
-pub returns-then-left-eq0 : goal.returns-then-left-eq0
-returns-then-left-eq0 c =
-    over-end c.args.texts.now c.loop-i.i (search rules) c.loop-i.invariant.1 c.if-x-eq124.true c.if-left-eq0.true
-
-pub loop-i-preserved-then-x-eq124 : goal.loop-i-preserved-then-x-eq124
-loop-i-preserved-then-x-eq124 c =
-    (search rules, bar-next c.args.texts.now c.loop-i.i (search rules) c.loop-i.invariant.1 c.if-x-eq124.true c.if-left-eq0.false)
-
-pub bounds-area-at : goal.bounds-area-at
-bounds-area-at c =
-    octet-room c.args.texts.now c.loop-i.i (search rules) c.loop-i.invariant.1 c.if-x-eq124.false c.if-left-eq0-2.true
-
-pub overflow_add-at : goal.overflow_add-at
-overflow_add-at c = omega (arith, bounds-area-at c)
-
-pub loop-i-preserved-then-left-eq0-2 : goal.loop-i-preserved-then-left-eq0-2
-loop-i-preserved-then-left-eq0-2 c =
-    (search rules, octet-next c.args.texts.now c.loop-i.i (search rules) c.loop-i.invariant.1 c.if-x-eq124.false c.if-left-eq0-2.true)
-
-pub loop-i-preserved : goal.loop-i-preserved
-loop-i-preserved c =
-    (search rules, pass-next c.args.texts.now c.loop-i.i (search rules) c.loop-i.invariant.1 c.if-x-eq124.false c.if-left-eq0-2.false)
-
-pub shape_of-area : goal.shape_of-area
-shape_of-area c = c.loop-i.invariant.1.same
-
-pub returns : goal.returns
-returns c = part_end c.args.texts.now c.loop-i.i _ (search rules) c.loop-i.invariant.1
+pub returns-in-None : goal.returns-in-None
+returns-in-None c =
+    let s = c.split.ensures in
+    let e = part-nth _ c.args.texts.now c.args.n _ _ c.nth.ensures.ran s.rest s.done s.closure (λ x b q k. search (rules, tests)) in
+    rw (rw c.in-None.is at e) (put-none _ _)

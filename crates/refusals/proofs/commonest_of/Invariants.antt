@@ -1,11 +1,8 @@
 -- Of the numbers passed.
-use Prim.Native.Nat.{◌-◌, ◌≤◌, ◌<◌}
+use Prim.Native.Nat.{◌<◌}
 use mathlib.Core.Path.{◌≡◌}
 use Rattle.refusals.specs.Counts.{commonest}
 use Rattle.refusals.proofs.commonest_of.Given as goal
 
 abbrev pub invariant-loop-i : goal.invariant-loop-i
-invariant-loop-i l = (l.i ≤ 13) × (l.best ≡ commonest l.counts l.i) × (l.best < 13)
-
-abbrev pub decreases-loop-i : goal.decreases-loop-i
-decreases-loop-i l = 13 - l.i
+invariant-loop-i l = (l.best ≡ commonest l.counts l.i) × (l.best < 13)

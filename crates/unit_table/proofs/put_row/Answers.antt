@@ -1,6 +1,8 @@
 -- Eight numbers of a Space Packet; of any other unit six, with two empty fields before the last.
 use mathlib.Core.Path.{refl}
 use lib.Dec.{lit≤}
+use Rattle.std.proofs.Common.{Some}
+use Rattle.rules.specs.declared.Family.TheVariants.{Encapsulation}
 use Rattle.rules.specs.Listing.{text}
 use Rattle.listing_text.proofs.Turns.{filled_fits}
 use Rattle.listing_text.proofs.Patterns.{marked, plain, plains}
@@ -13,25 +15,25 @@ use Rattle.unit_table.proofs.put_row.Goals as goal
 pub put_filled-requires : goal.put_filled-requires
 put_filled-requires c = filled_fits _ _ _ (search rules)
 
-pub returns-in-Space : goal.returns-in-Space
+pub returns-in-Some-Space : goal.returns-in-Some-Space
 unfolding text marked plain plains
-returns-in-Space c =
-    wrote_filled _ _ _ (space-strung _ c.in-Space.is) refl c.put_filled.ensures
+returns-in-Some-Space c =
+    wrote_filled _ _ _ (space-strung _ (search rules)) refl c.put_filled.ensures
 
-pub put_filled-requires-in-Encapsulation : goal.put_filled-requires-in-Encapsulation
-put_filled-requires-in-Encapsulation c = filled_fits _ _ _ (search rules)
+pub put_filled-requires-in-Some-Encapsulation : goal.put_filled-requires-in-Some-Encapsulation
+put_filled-requires-in-Some-Encapsulation c = filled_fits _ _ _ (search rules)
 
-pub returns-in-Encapsulation : goal.returns-in-Encapsulation
+pub returns-in-Some-Encapsulation : goal.returns-in-Some-Encapsulation
 unfolding text marked plain plains packet_text family_text
-returns-in-Encapsulation c =
-    wrote_more 174 (lit≤ tt) (wrote_filled _ _ _ (other-strung _ _ c.in-Encapsulation.is refl) refl
-    c.put_filled-in-Encapsulation.ensures)
+returns-in-Some-Encapsulation c =
+    wrote_more 174 (lit≤ tt) (wrote_filled _ _ _ (other-strung _ (Some Encapsulation) (search rules) refl) refl
+    c.put_filled-in-Some-Encapsulation.ensures)
 
-pub put_filled-requires-in-Nothing : goal.put_filled-requires-in-Nothing
-put_filled-requires-in-Nothing c = filled_fits _ _ _ (search rules)
+pub put_filled-requires-in-None : goal.put_filled-requires-in-None
+put_filled-requires-in-None c = filled_fits _ _ _ (search rules)
 
-pub returns-in-Nothing : goal.returns-in-Nothing
+pub returns-in-None : goal.returns-in-None
 unfolding text marked plain plains packet_text family_text
-returns-in-Nothing c =
-    wrote_more 174 (lit≤ tt) (wrote_filled _ _ _ (other-strung _ _ c.in-Nothing.is refl) refl
-    c.put_filled-in-Nothing.ensures)
+returns-in-None c =
+    wrote_more 174 (lit≤ tt) (wrote_filled _ _ _ (other-strung _ _ c.in-None.is refl) refl
+    c.put_filled-in-None.ensures)

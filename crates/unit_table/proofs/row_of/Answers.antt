@@ -7,14 +7,15 @@ use Rattle.unit_table.proofs.row_of.Goals as goal
 pub returns : goal.returns
 unfolding row_of apid sequence bits number_at
 returns c = rw (
-  c.sort_of-sort.ensures,
-  c.measure_from.ensures,
-  c.add-offset.ensures,
+  c.family_of.ensures,
+  c.measure_at-m.ensures,
+  c.rest.ensures,
+  c.add.ensures,
   c.number_at-front.ensures,
-  c.number_at-span.ensures,
-  c.number_at-count.ensures,
-  c.number_at-length.ensures,
+  c.number_at-4.ensures,
+  c.number_at-3.ensures,
+  c.number_at-2.ensures,
+  c.number_at.ensures,
   c.number_at-start.ensures,
-  c.number_at-lane.ensures,
   div-one,
 )

@@ -1,19 +1,16 @@
-use mathlib.Core.Path.{◌≡◌, sym, ap, ap₂, ◌∙◌}
-use native.Mathlib.Omega.{arith}
-use borrow.Author.Rules.{rules}
-use Rattle.unpack_text.specs.Totals.{add, held_in}
-use Rattle.unpack_text.proofs.Slots.{held_next, held_none}
+-- The sum of the slots passed.
+use Rattle.std.proofs.Common.{ℕ, rules, tests, ◌∙◌, ap}
+use Rattle.std.proofs.lemmas.Iterator.{YieldsList-from_slice, YieldsList-from_take}
+use Rattle.std.proofs.lemmas.Iterator.Consumers.{fold_from_yields_List}
+use Rattle.rules.specs.declared.Slot.{Slot}
+use Rattle.std.specs.Slice.Iter.{iter_rest}
+use Rattle.unpack_text.specs.Totals.{add}
+use Rattle.unpack_text.proofs.Slots.{held-fold}
 use Rattle.unpack_text.proofs.held_in.Goals as goal
-
-pub loop-i-init : goal.loop-i-init
-loop-i-init c = (search rules, sym (held_none _))
-
-pub loop-i-preserved : goal.loop-i-preserved
-loop-i-preserved c =
-    (search rules, c.add-sum.ensures ∙ ap₂ add c.loop-i.invariant.1 c.held_by-x.ensures ∙ sym (held_next _ c.loop-i.i))
 
 pub returns : goal.returns
 returns c =
-    let l = c.loop-i in
-    let e : l.i ≡ c.args.n = omega arith in
-    l.invariant.1 ∙ ap (held_in _) e
+    fold_from_yields_List _ (λ (sum : ℕ) (x : Slot). add sum x.held) 0 c.fold.result c.fold.ensures.ran
+    (YieldsList-from_take c.args.n (YieldsList-from_slice c.args.slots (ap iter_rest c.take.ensures.source ∙ c.iter.ensures.rest)) c.take.ensures.count)
+    (λ a x b q k. search (rules, tests))
+    ∙ held-fold _ _

@@ -1,23 +1,10 @@
--- A frame that is read is its lane's.
-use Rattle.unpack_text.specs.Totals.{lanes_after}
+-- Past the eight no slot changes.
+use mathlib.Core.Path.{sym}
+use lib.Seq.{set_out}
+use Rattle.unpack_text.specs.Totals.{lanes_after, in_lane}
+use borrow.Author.Rules.{rules}
 use Rattle.unpack_text.proofs.lanes_after.Goals as goal
 
-pub returns-in-Refused : goal.returns-in-Refused
-unfolding lanes_after
-returns-in-Refused c = rw c.in-Refused.is
-
-pub returns-in-Idle : goal.returns-in-Idle
-unfolding lanes_after
-returns-in-Idle c = rw c.in-Idle.is
-
-pub returns-in-Counted : goal.returns-in-Counted
-unfolding lanes_after
-returns-in-Counted c = rw c.in-Counted.is
-
-pub returns-in-Read : goal.returns-in-Read
-unfolding lanes_after
-returns-in-Read c = rw c.in-Read.is c.in_lane.ensures
-
-pub returns-in-Repeat : goal.returns-in-Repeat
-unfolding lanes_after
-returns-in-Repeat c = rw c.in-Repeat.is
+pub returns-in_default : goal.returns-in_default
+unfolding lanes_after in_lane
+returns-in_default c = rw c.in-Read.is (sym (set_out _ _ _ (search rules)))

@@ -19,6 +19,6 @@ returns-then-left c =
     rw c.if-left.true (wrote_more 29 (lit≤ tt)
     (wrote_filled _ _ _ (left-strung _) refl c.put_filled.ensures))
 
-pub returns : goal.returns
+pub returns-else-left : goal.returns-else-left
 unfolding front_text
-returns c = rw c.if-left.false (wrote_front _ _ c.put_front.ensures)
+returns-else-left c = rw c.if-left.false (wrote_front _ _ c.put_front.ensures)

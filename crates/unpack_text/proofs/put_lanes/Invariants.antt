@@ -1,5 +1,5 @@
 -- The lines of the lanes passed stand one after another, and each has at most 109 octets.
-use Prim.Native.Nat.{ℕ, ◌-◌, ◌*◌, ◌≤◌}
+use Prim.Native.Nat.{ℕ, ◌*◌}
 use mathlib.Core.Path.{◌≡◌}
 use lib.ListN.{length, get_or}
 use Rattle.unpack_text.specs.Totals.{no_lane_tally}
@@ -7,8 +7,5 @@ use Rattle.unpack_text.specs.Lines.{Wrote, firsts, lane_line}
 use Rattle.unpack_text.proofs.put_lanes.Given as goal
 
 abbrev pub invariant-loop-i : goal.invariant-loop-i
-invariant-loop-i l = (l.i ≤ l.lanes) × (length l.area ≡ length l.initial.area) × Wrote (109 * l.i) (firsts (λ (j : ℕ). lane_line j
-    (get_or l.ts j no_lane_tally)) l.i) l.initial.area l.from l.area l.at
-
-abbrev pub decreases-loop-i : goal.decreases-loop-i
-decreases-loop-i l = l.lanes - l.i
+invariant-loop-i l = (length l.area ≡ length l.initial.area) × Wrote (109 * l.i) (firsts (λ (j : ℕ). lane_line j
+    (get_or l.fn.ts j no_lane_tally)) l.i) l.initial.area l.from l.area l.at
