@@ -37,9 +37,6 @@ pub record Left (ys area : List ℕ) (at : ℕ) (xs area₀ : List ℕ) (from : 
   pub room : at + length ys ≤ length area
   pub same : length area ≡ length area₀
 
-pub left-all : {xs area : List ℕ} {from : ℕ} → from + length xs ≤ length area → Left xs area from xs area from
-left-all h = record { octets = refl; ends = refl; room = h; same = refl }
-
 module _ {area : List ℕ} {at : ℕ} {xs area₀ : List ℕ} {from : ℕ} where
   pub left-put : {ds ys area' : List ℕ} {at' : ℕ} → Left (ds ++ ys) area at xs area₀ from → Put ds area at area' at' → Left ys area' at' xs area₀ from
   left-put {ds} {ys} l p =

@@ -1,4 +1,8 @@
 // What the listing prints: numbers, words, the title and the line of an answer, put into a lent area.
+//
+// An area and the octet from which on stay two parameters: so docs/CONTRACTS.md promises it of the public functions, and a struct of both would be
+// taken apart at each call of one. Nor is the text written by `write!`: these functions cannot fail, and of it std promises octets only where it
+// answers Ok, but not that it does.
 #![tactic(auto)]
 
 ghost use Rattle.std.specs.Prelude.{◌≡◌, [], ◌∷◌, ◌++◌, ◌+◌, ◌≤◌, length};

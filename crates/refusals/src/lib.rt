@@ -1,5 +1,6 @@
 // Refused frames in unpack's totals: how many there were of each number, document 01's words for it, the commonest one, and what the first of them
 // says of itself; and with them the text of all totals.
+// An area and the octet from which on stay two parameters, for the reason that listing_text gives.
 #![tactic(auto)]
 
 ghost use Rattle.std.specs.Prelude.{◌≡◌, ◌+◌, ◌≤◌, ◌<◌, length};

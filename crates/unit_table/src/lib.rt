@@ -1,4 +1,5 @@
 // The table of units that unpack writes where it is asked for: a line for each unit, of its record, its octets, and where the frame's units come from.
+// An area and the octet from which on stay two parameters, for the reason that listing_text gives.
 #![tactic(auto)]
 
 ghost use Rattle.std.specs.Prelude.{◌≡◌, ◌+◌, ◌*◌, ◌≤◌, ◌<◌, length, get_or, drop};

@@ -13,10 +13,8 @@ use mathlib.Core.Path.{◌≡◌, refl, sym, ap, ◌∙◌}
 use mathlib.Core.List.{List}
 use lib.ListN.{length, get_or, get_or-eq_default}
 use native.Mathlib.Numerals.{add-one}
-use Rattle.rules.specs.declared.Lane.{Lane}
-use Rattle.rules.specs.declared.Setting.{Setting}
 use Rattle.rules.specs.declared.Slot.{Slot}
-use Rattle.rules.specs.Settings.{no_lane, no_slot, lane}
+use Rattle.rules.specs.Settings.{no_slot}
 use Rattle.unpack_text.specs.Totals.{add, held_in}
 
 held-most : (slots : List Slot) (n : ℕ) → held_in slots n ≤ 18446744073709551615
@@ -45,8 +43,3 @@ held-fold slots (suc n) = by (n <? length slots) refl (held-fold slots n)
         let l : length slots ≤ n = ltb-false n (length slots) e in
         rw (get_or-eq_default slots no_slot l, take_all (suc n) slots (omega arith))
         (ap (fold h 0) (sym (take_all n slots l)) ∙ k ∙ add-none (held_in slots n) (held-most slots n))
-
--- ---- past the slots
-
-pub lane-out : (s : Setting) (l : ℕ) → length s.lanes ≤ l → 0 ≡ (lane s l).channel
-lane-out s l h = sym (ap (λ (x : Lane). x.channel) (get_or-eq_default s.lanes no_lane h))

@@ -1,9 +1,9 @@
 -- Texts of bounded length, put one after another.
-use Prim.Native.Nat.{ℕ, ◌+◌, ◌*◌, ◌≤◌}
-use mathlib.Core.Path.{◌≡◌, sym, subst}
+use Prim.Native.Nat.{ℕ, zero, suc, ◌+◌, ◌*◌, ◌≤◌, ◌<◌}
+use mathlib.Core.Path.{◌≡◌, refl, sym, ap, ap₂, subst}
 use mathlib.Core.Bool.{true}
 use mathlib.Core.List.{List, ◌++◌}
-use lib.ListN.{length, length-append}
+use lib.ListN.{length, take, get_or, length-append}
 use native.Mathlib.Numerals.{add-one}
 use native.Mathlib.Omega.{arith}
 use Rattle.rules.specs.declared.Class.{Class}
@@ -12,7 +12,13 @@ use Rattle.rules.specs.Listing.{decimal}
 use Rattle.listing_text.specs.Puts.{Put, filled, front}
 use Rattle.listing_text.proofs.Laws.{put-none, put_then, put-length, length-decimal, length_front}
 use Rattle.listing_text.proofs.Patterns.{marked, strung, plains, put-strung, strung-most}
-use Rattle.unpack_text.specs.Lines.{Wrote, third, firsts}
+use Rattle.std.proofs.lemmas.List.{get_or-take, length-take-le}
+use Rattle.rules.specs.declared.Channel.{Channel}
+use Rattle.rules.specs.Settings.{no_channel}
+use Rattle.unpack_text.specs.declared.LaneTally.{LaneTally}
+use Rattle.unpack_text.specs.declared.ChannelTally.{ChannelTally}
+use Rattle.unpack_text.specs.Totals.{no_lane_tally, no_channel_tally}
+use Rattle.unpack_text.specs.Lines.{Wrote, third, firsts, lane_line, lane_lines, channel_line, channel_lines}
 
 -- ---- one
 
@@ -80,6 +86,24 @@ wrote_all line k {area = area} {from = from} {area' = area'} {end = end} w e few
 pub wrote_length : {n : ℕ} {xs area : List ℕ} {from : ℕ} {area' : List ℕ} {end : ℕ} → Wrote n xs area from area' end → from + n ≤ length area → length
     area' ≡ length area
 wrote_length w room = put-length w.put (omega (arith, w.most))
+
+-- ---- the first of some lines
+
+firsts-same : (f g : ℕ → List ℕ) (n : ℕ) → ((i : ℕ) → i < n → f i ≡ g i) → firsts f n ≡ firsts g n
+unfolding firsts
+firsts-same f g zero h = refl
+firsts-same f g (suc n) h = ap₂ (λ (xs ys : List ℕ). xs ++ ys) (firsts-same f g n (λ i k. h i (omega arith))) (h n (omega arith))
+
+pub lanes_first : (ts : List LaneTally) (n : ℕ) → n ≤ length ts → lane_lines (take n ts) (length (take n ts)) ≡ lane_lines ts n
+unfolding lane_lines
+lanes_first ts n k = rw (length-take-le n ts k) (firsts-same _ _ n (λ i h. ap (lane_line i) (get_or-take n ts i no_lane_tally h)))
+
+pub channels_first : (cs : List Channel) (n : ℕ) (ts : List ChannelTally) → n ≤ length cs
+    → channel_lines (take n cs) (length (take n cs)) ts ≡ channel_lines cs n ts
+unfolding channel_lines
+channels_first cs n ts k =
+    rw (length-take-le n cs k)
+    (firsts-same _ _ n (λ i h. ap (λ (c : Channel). channel_line c.vc c.service (get_or ts i no_channel_tally)) (get_or-take n cs i no_channel h)))
 
 -- ---- what is left for the text that comes next
 

@@ -1,4 +1,5 @@
 // What unpack says and counts: whose a frame is, the line of its answer, and the totals, as numbers and as text.
+// An area and the octet from which on stay two parameters, for the reason that listing_text gives.
 #![tactic(auto)]
 
 ghost use Rattle.std.specs.Prelude.{◌≡◌, ◌++◌, ◌+◌, ◌≤◌, length};
@@ -305,31 +306,25 @@ fn put_channel(area: &mut [u8], from: usize, vc: u8, service: u8, t: ChannelTall
     )
 }
 
-// Puts the lines of the first lanes' totals.
-fn put_lanes(area: &mut [u8], from: usize, lanes: usize, ts: [LaneTally; 8]) -> usize
-    requires { (lanes ≤ 8) × (from + 872 ≤ length area.old) }
-    ensures { Wrote 872 (lane_lines ts lanes) area.old from area.new result }
+// Puts the lines of lanes' totals. Lines of lanes and of channels are two loops: one for both would take how a line is put, and a longer contract.
+fn put_lanes(area: &mut [u8], from: usize, ts: &[LaneTally]) -> usize
+    requires { (length ts.now ≤ 8) × (from + 872 ≤ length area.old) }
+    ensures { Wrote 872 (lane_lines ts.now (length ts.now)) area.old from area.new result }
 {
     let mut at = from;
-    for (i, t) in ts[..lanes].iter().enumerate() {
+    for (i, t) in ts.iter().enumerate() {
         at = put_lane(area, at, i as u64, *t);
     }
     at
 }
 
-// Puts the lines of the first channels' totals.
-fn put_channels(
-    area: &mut [u8],
-    from: usize,
-    listed: usize,
-    channels: [Channel; 8],
-    ts: [ChannelTally; 8],
-) -> usize
-    requires { (listed ≤ 8) × (from + 920 ≤ length area.old) }
-    ensures { Wrote 920 (channel_lines channels listed ts) area.old from area.new result }
+// Puts the lines of channels' totals.
+fn put_channels(area: &mut [u8], from: usize, channels: &[Channel], ts: &[ChannelTally]) -> usize
+    requires { (length channels.now ≤ 8) × (length channels.now ≤ length ts.now) × (from + 920 ≤ length area.old) }
+    ensures { Wrote 920 (channel_lines channels.now (length channels.now) ts.now) area.old from area.new result }
 {
     let mut at = from;
-    for (c, t) in channels[..listed].iter().zip(&ts) {
+    for (c, t) in channels.iter().zip(ts) {
         at = put_channel(area, at, c.vc, c.service, *t);
     }
     at
@@ -340,8 +335,13 @@ pub fn put_places(area: &mut [u8], from: usize, r: Reader, t: Tally) -> usize
     requires { (r.setting.listed ≤ 8) × (r.setting.numbered ≤ 8) × (from + 1792 ≤ length area.old) }
     ensures { Wrote 1792 (places_text r t) area.old from area.new result }
 {
-    let at = put_lanes(area, from, r.setting.numbered, t.lanes);
-    put_channels(area, at, r.setting.listed, r.setting.channels, t.channels)
+    let at = put_lanes(area, from, &t.lanes[..r.setting.numbered]);
+    put_channels(
+        area,
+        at,
+        &r.setting.channels[..r.setting.listed],
+        &t.channels,
+    )
 }
 
 // Puts the line of all frames of a recording, after which a reader has this state.

@@ -1,11 +1,8 @@
 -- A mark takes the next number, any other octet is put as it is.
 use Rattle.std.proofs.Common.{rules, ◌∙◌}
-use Rattle.listing_text.proofs.Turns.{left-all, next-number, mark-room, mark-next, plain-room, plain-next, filled-end}
+use Rattle.listing_text.proofs.Turns.{next-number, mark-room, mark-next, plain-room, plain-next, filled-end}
 use Rattle.listing_text.proofs.put_filled.Goals as goal
 use Rattle.listing_text.proofs.put_filled.Goals.{then-x-eq35, else-x-eq35}
-
-pub loop-x-init : goal.loop-x-init
-loop-x-init c = rw c.iter-left.ensures.rest (left-all c.requires)
 
 pub put_decimal-at-requires : goal.put_decimal-at-requires
 put_decimal-at-requires c =

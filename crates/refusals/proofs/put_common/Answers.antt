@@ -5,12 +5,6 @@ use Rattle.refusals.specs.Words.{common_text}
 use Rattle.unpack_text.proofs.Writes.{wrote_text, wrote_then}
 use Rattle.refusals.proofs.put_common.Goals as goal
 
-pub offset_bounds-counts-n : goal.offset_bounds-counts-n
-offset_bounds-counts-n c = omega (arith, c.commonest_of-n.ensures.1)
-
-pub bounds-counts-n : goal.bounds-counts-n
-bounds-counts-n c = omega (arith, c.commonest_of-n.ensures.1)
-
 pub returns : goal.returns
 unfolding common_text text
 returns c =

@@ -10,18 +10,12 @@ use Rattle.refusals.proofs.put_refusals.Goals as goal
 pub loop-i-init : goal.loop-i-init
 loop-i-init c = (refl, wrote_none _ _ _)
 
-pub put_refused-at-requires : goal.put_refused-at-requires
-put_refused-at-requires c = let l = c.loop-i.invariant.1 in omega (arith, l.most, l.put.ends)
-
 pub loop-i-preserved : goal.loop-i-preserved
 loop-i-preserved c =
     let l = c.loop-i in
     let e : get_or (take 12 (drop 1 c.args.counts)) l.i 0 ≡ get_or c.args.counts (l.i + 1) 0 =
     get_or-take 12 (drop 1 c.args.counts) l.i 0 (omega arith) ∙ get_or-drop 1 c.args.counts l.i 0 ∙ rw (add_comm 1 l.i) in
     (search rules, wrote_next _ l.i (187 * (l.i + 1)) {m = 187} l.invariant.1 (rw (← e) c.put_refused-at.ensures) (omega arith) (omega arith))
-
-pub shape_of-area : goal.shape_of-area
-shape_of-area c = c.loop-i.invariant.0
 
 pub returns : goal.returns
 unfolding refused_lines

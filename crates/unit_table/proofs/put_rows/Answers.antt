@@ -8,20 +8,11 @@ use Rattle.unit_table.proofs.put_rows.Goals as goal
 pub loop-i-init : goal.loop-i-init
 loop-i-init c = (refl, wrote_none _ _ _)
 
-pub row_of-requires : goal.row_of-requires
-row_of-requires c = omega (arith, c.requires.0)
-
-pub put_row-at-requires : goal.put_row-at-requires
-put_row-at-requires c = let l = c.loop-i.invariant.1 in omega (arith, l.most, l.put.ends, c.requires.0, c.requires.1)
-
 pub loop-i-preserved : goal.loop-i-preserved
 loop-i-preserved c =
     let l = c.loop-i in
     let w = wrote_row c.row_of.ensures c.put_row-at.ensures in
     (search rules, wrote_next _ l.i (174 * (l.i + 1)) l.invariant.1 w (omega (arith, c.requires.0, c.requires.1)) (omega arith))
-
-pub shape_of-area : goal.shape_of-area
-shape_of-area c = c.loop-i.invariant.0
 
 pub returns : goal.returns
 unfolding rows_text

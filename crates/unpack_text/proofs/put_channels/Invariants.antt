@@ -9,4 +9,5 @@ use Rattle.unpack_text.proofs.put_channels.Given as goal
 
 abbrev pub invariant-loop-c : goal.invariant-loop-c
 invariant-loop-c l = (length l.area ≡ length l.initial.area) × Wrote (115 * length l.yielded) (firsts (λ (j : ℕ). channel_line
-    (get_or l.fn.channels j no_channel).vc (get_or l.fn.channels j no_channel).service (get_or l.fn.ts j no_channel_tally)) (length l.yielded)) l.initial.area l.from l.area l.at
+    (get_or l.channels j no_channel).vc (get_or l.channels j no_channel).service (get_or l.ts j no_channel_tally)) (length l.yielded))
+    l.initial.area l.from l.area l.at

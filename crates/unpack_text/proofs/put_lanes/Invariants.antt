@@ -8,4 +8,4 @@ use Rattle.unpack_text.proofs.put_lanes.Given as goal
 
 abbrev pub invariant-loop-i : goal.invariant-loop-i
 invariant-loop-i l = (length l.area ≡ length l.initial.area) × Wrote (109 * l.i) (firsts (λ (j : ℕ). lane_line j
-    (get_or l.fn.ts j no_lane_tally)) l.i) l.initial.area l.from l.area l.at
+    (get_or l.ts j no_lane_tally)) l.i) l.initial.area l.from l.area l.at

@@ -4,15 +4,10 @@ use Rattle.rules.specs.Listing.{text}
 use Rattle.listing_text.proofs.Turns.{filled_fits}
 use Rattle.listing_text.proofs.Patterns.{marked, plain, plains}
 use mathlib.Core.List.{append_assoc}
-use native.Mathlib.Omega.{arith}
 use Rattle.unpack_text.specs.Lines.{frame_line}
 use Rattle.unpack_text.proofs.Writes.{wrote_filled, wrote-three, room_after}
 use Rattle.unpack_text.proofs.Filled.{counts_strung}
 use Rattle.unpack_text.proofs.put_line.Goals as goal
-
-pub put_third-at-requires : goal.put_third-at-requires
-put_third-at-requires c =
-    room_after 20 c.put_front-at.ensures (omega (arith, c.requires))
 
 pub put_filled-requires : goal.put_filled-requires
 put_filled-requires c =
