@@ -4,9 +4,8 @@
 
 ghost use Rattle.std.specs.Prelude.{◌≡◌, ◌++◌, ◌+◌, ◌≤◌, length};
 ghost use Rattle.rules.specs.Settings.{lane};
-ghost use Rattle.rules.specs.Frames.{vc};
 ghost use Rattle.rules.specs.Listing.{decimal};
-ghost use Rattle.unpack_text.specs.Totals.{add, classed, summed, lane_after, channel_after, in_lane, in_channel, lanes_after, channels_after, tallied, passed_over, no_tally, held_in};
+ghost use Rattle.unpack_text.specs.Totals.{add, classed, summed, in_channel, lanes_after, channels_after, tallied, passed_over, no_tally, held_in};
 ghost use Rattle.unpack_text.specs.Lines.{Wrote, third, front_text, frame_line, lane_line, channel_line, title, lane_lines, channel_lines, places_text, last_line};
 
 use rules::{Answer, Channel, Class, Reader, Setting, Slot, Verdict};
