@@ -19,7 +19,7 @@ use Rattle.rules.specs.Tests.{◌≤?◌, ◌=?◌, all}
 use Rattle.rules.specs.Areas.{joined, batch_size}
 use Rattle.rules.specs.Packets.{measure, whole, packets_up_to, packets}
 use Rattle.rules.specs.Writing.{none_above, batch_ok, start_from}
-use Rattle.batches.specs.Starts.{stand, Passes, Passed, if_any, Stands, Keeps}
+use Rattle.batches.specs.Starts.{stand, Passes, Stands, Keeps}
 use Rattle.rules.proofs.Tests.{same}
 use Rattle.rules.proofs.Measures.{measure-cases, measure-none, packet-long}
 
@@ -179,13 +179,12 @@ module _ {longest : ℕ} {b : List ℕ} {from to i : ℕ} (p : Passing longest b
 
 -- ---- two passes one after the other are one over the whole batch
 
-module _ (longest : ℕ) (b : List ℕ) (from to i : ℕ) (p : Passes longest b 0 to i) (near : from ≤ length b → to ≡ from) where
-  pub stands_by : (q : Option ℕ) → Passed longest b i (length b) q → Stands longest b from (if_any i q)
-  stands_by (Some k) w = (p.stands ∙ w.stands ∙ stand-end longest b k w.reached, start)
-    where
-      start : from ≤ length b → start_from (packets b) from ≡ i
-      start h = let n : from ≡ to - 0 = omega (arith, near h) in ap (start_from (packets b)) n ∙ sym (zero-add _) ∙ p.starts
-  stands_by None w = p.stands ∙ w
+pub stand_by : (longest : ℕ) (b : List ℕ) (from to i j : ℕ) → Passes longest b 0 to i → Passes longest b i (length b) j → (from ≤ length b → to ≡ from)
+    → Stands longest b from (Some i)
+stand_by longest b from to i j p q near = (p.stands ∙ q.stands ∙ stand-end longest b j q.reached, start)
+  where
+    start : from ≤ length b → start_from (packets b) from ≡ i
+    start h = let n : from ≡ to - 0 = omega (arith, near h) in ap (start_from (packets b)) n ∙ sym (zero-add _) ∙ p.starts
 
 -- ---- a batch and its packets
 

@@ -25,11 +25,6 @@ abbrev pub Passed : ℕ → List ℕ → ℕ → ℕ → Option ℕ → Type 0
 Passed longest b from to (Some i) = Passes longest b from to i
 Passed longest b from to None = stand longest (drop from b) ≡ false
 
--- Octet i, where there is a place.
-abbrev pub if_any : ℕ → Option ℕ → Option ℕ
-if_any i (Some k) = Some i
-if_any i None = None
-
 -- The octet at which the first packet from octet `from` on starts; of an access unit nothing is said.
 abbrev pub StartsAt : Kind → List ℕ → ℕ → ℕ → Type 0
 StartsAt Packets b from i = from ≤ length b → start_from (packets b) from ≡ i

@@ -70,6 +70,7 @@ fn add_first(area: &mut [u8], octets: &[u8])
 }
 
 // Ends a fold: the octets behind the long register, and added to them what it adds to them.
+#[tactic(auto, unfolding(crate::specs::Folds::closed))]
 fn close(u: usize, long: &mut [u8], octets: &[u8])
     requires { (u ≤ 16) × (length octets.now ≤ length long.old) }
     ensures { long.new ≡ plus octets.now (closed u long.old) }
@@ -164,6 +165,7 @@ fn check_long(table: &[u16; 256], octets: &[u8]) -> u16
 }
 
 // The check by a table. Fewer than 128 octets go by it alone; from there on the fold takes fewer instructions (docs/FIGURES.md).
+#[tactic(auto, using(std::proofs::lemmas::Bool::Decides::nat_tests), unfolding(crate::specs::Folds::check_by))]
 fn check_with(table: &[u16; 256], octets: &[u8]) -> u16
     ensures { result ≡ check_by table.now octets.now }
 {

@@ -129,6 +129,7 @@ fn head_number(h: Head) -> u64
 }
 
 // The data field's header, three octets, as a number; line for line what `data_of` reads.
+#[tactic(auto, unfolding(rules::specs::Octets::packed, rules::specs::Octets::widths, crate::specs::Heads::data_fields))]
 fn data_number(d: Data) -> u64
     requires { d.pointer < 65536 }
     ensures { result ≡ packed (data_fields d) }
@@ -161,6 +162,7 @@ pub fn header_of(s: Setting, c: Channel, l: Lane) -> u64
 }
 
 // The data field's header as a number.
+#[tactic(auto, unfolding(crate::specs::Heads::data_fields))]
 pub fn data_header_of(rule: u8, upid: u8, pointer: usize) -> u64
     requires { pointer < 65536 }
     ensures { result ≡ packed (fields_of data_widths (rule ∷ upid ∷ pointer ∷ [])) }

@@ -12,26 +12,12 @@ use Rattle.rules.specs.declared.Next.TheVariants.{Give, Skip, Keep, Lose}
 use Rattle.rules.specs.declared.Info.{Info}
 use Rattle.rules.specs.Packets.{measure}
 use Rattle.rules.specs.Reading.{unit_of, Made, nothing, holds, drops, hands, idles, both, sized_next, next_of, front, walk_up_to, walk}
-use Rattle.rules.proofs.Tests.{split}
 use Rattle.rules.proofs.Measures.{measure-fill}
 use Rattle.rules.proofs.Lanes.{next-cases, walk-front}
 use Rattle.lanes.specs.declared.units.Tally.{Tally}
 use Rattle.lanes.specs.Hands.{Room, Handed, Begun}
 use Rattle.lanes.specs.Ends.{Run}
 use Rattle.lanes.proofs.Hands.{hands-both, idles-none, idles-idles, idles-both, room-first, begun-none, begun_is, begun-on, begun-room}
-
--- ---- a run of E0 octets
-
-pub run_none : {z : List ℕ} {from : ℕ} → from ≤ length z → Run z from from
-run_none h = record { begins = omega arith; inside = h; each = λ i a b. absurd (omega arith) }
-
-pub run_on : {z : List ℕ} {from to : ℕ} → Run z from to → to < length z → get_or z to 0 ≡ 0xE0 → Run z from (to + 1)
-run_on {z} {from} {to} r h e =
-    record {
-      begins = omega (arith, r.begins);
-      inside = omega arith;
-      each = λ i a b. split to i (λ k. let q : to ≡ i = omega arith in rw q at e) (λ k. r.each i a k);
-    }
 
 -- The rest of a zone, as it is lent.
 pub rest-lent : (z : List ℕ) (at : ℕ) → take (length z - at) (drop at z) ≡ drop at z

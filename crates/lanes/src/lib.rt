@@ -13,7 +13,7 @@ pub mod units;
 mod walks;
 
 use rules::{Fate, Kind, Measure, Slot};
-use units::{Stand, Tally, Terms};
+use units::{EMPTY, Stand, Tally, Terms};
 
 // Measures the packet that begins with the first of two parts that follow each other. No header has more than eight octets, so the first eight say all.
 fn measure_of(first: &[u8], second: &[u8]) -> Measure
@@ -23,7 +23,7 @@ fn measure_of(first: &[u8], second: &[u8]) -> Measure
     if 8 <= h {
         return packets::measure_at(first);
     }
-    let more = octets::least(second.len(), 8 - h);
+    let more = second.len().min(8 - h);
     let end = h + more;
     let mut front = [0u8; 8];
     octets::lay(&mut front, 0, first);
@@ -69,8 +69,8 @@ fn packet_opening(
                 size: p,
                 fill: 0,
                 dropped: 0,
-                slot: slot,
-                fate: fate,
+                slot,
+                fate,
                 stops: false,
             }
         }
@@ -80,8 +80,8 @@ fn packet_opening(
                 size: zone.len(),
                 fill: 0,
                 dropped: 0,
-                slot: slot,
-                fate: fate,
+                slot,
+                fate,
                 stops: true,
             }
         }
@@ -90,6 +90,7 @@ fn packet_opening(
 
 // The opening by `size` octets of an access unit, which begin it or follow what is held, and `fill` after its last. Where they begin it, what is held is
 // dropped, and its span with it.
+#[tactic(auto, unfolding(crate::specs::Steps::portion_opening))]
 fn portion_opening(
     longest: usize,
     finished: bool,
@@ -102,25 +103,23 @@ fn portion_opening(
 {
     let h = slot.held as usize;
     if begins {
-        let fate = fates::unit_fate(longest, finished, size);
-        let no = Slot { held: 0, span: 0 };
-        return Opening {
-            size: size,
-            fill: fill,
+        Opening {
+            size,
+            fill,
             dropped: h,
-            slot: no,
-            fate: fate,
+            slot: EMPTY,
+            fate: fates::unit_fate(longest, finished, size),
             stops: true,
-        };
-    }
-    let fate = fates::follow_fate(longest, finished, h, size);
-    Opening {
-        size: size,
-        fill: fill,
-        dropped: 0,
-        slot: slot,
-        fate: fate,
-        stops: true,
+        }
+    } else {
+        Opening {
+            size,
+            fill,
+            dropped: 0,
+            slot,
+            fate: fates::follow_fate(longest, finished, h, size),
+            stops: true,
+        }
     }
 }
 
@@ -145,6 +144,7 @@ fn access_opening(
 }
 
 // A lane's opening, by its kind.
+#[tactic(auto, unfolding(rules::specs::Reading::lane_step))]
 fn opening_of(
     terms: Terms,
     slot: Slot,
@@ -156,9 +156,8 @@ fn opening_of(
     requires { Kept slot held.now × Inside (length zone.now) place }
     ensures { Opens terms.longest (lane_step terms.kind terms.longest rule (record { octets = held.now; span = slot.span }) place zone.now) result held.now zone.now }
 {
-    let kind = terms.kind;
     let longest = terms.longest;
-    match kind {
+    match terms.kind {
         Kind::Packets => packet_opening(longest, place, slot, held, zone),
         Kind::Access => access_opening(longest, place, rule == 0b001, slot, zone.len()),
     }
@@ -181,25 +180,22 @@ pub fn lane_step(
 {
     let h = slot.held as usize;
     let o = opening_of(terms, slot, place, rule, &part[..h], zone);
-    let t = Tally {
+    let tally = Tally {
         count: 0,
         octets: 0,
         idle: 0,
         fill: o.fill,
         dropped: o.dropped,
     };
-    let kept = o.slot;
     let s = Stand {
-        tally: t,
-        slot: kept,
+        tally,
+        slot: o.slot,
     };
-    let info = terms.info;
-    let fate = o.fate;
     let e = o.size;
-    let led = units::settle(info, s, fate, part, &zone[..e], units, records);
+    let led = units::settle(terms.info, s, o.fate, part, &zone[..e], units, records);
     if o.stops {
-        return led;
+        led
+    } else {
+        walks::walk_step(terms, led.tally, zone, e, part, units, records)
     }
-    let t = led.tally;
-    walks::walk_step(terms, t, zone, e, part, units, records)
 }

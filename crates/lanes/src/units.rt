@@ -17,6 +17,9 @@ pub struct Tally {
     pub dropped: usize,
 }
 
+// What a lane keeps that holds nothing.
+pub(crate) const EMPTY: Slot = Slot { held: 0, span: 0 };
+
 // How a lane stands in its step: the tally so far, and what it keeps.
 #[derive(Clone, Copy)]
 pub struct Stand {
@@ -33,13 +36,11 @@ pub struct Terms {
 }
 
 // By how many frames a unit's span grows with these octets of one frame: by one, or by none where there are none.
+#[tactic(auto, unfolding(rules::specs::Reading::carries))]
 fn carried(octets: &[u8]) -> usize
     ensures { result ≡ carries octets.now }
 {
-    if 0 < octets.len() {
-        return 1;
-    }
-    0
+    if octets.is_empty() { 0 } else { 1 }
 }
 
 // Lays the record of a unit of `size` octets from octet `start` on, which `span` frames carry, into `area` from octet `from` on.
@@ -86,9 +87,7 @@ pub fn hand_out(
     Tally {
         count: t.count + 1,
         octets: end,
-        idle: t.idle,
-        fill: t.fill,
-        dropped: t.dropped,
+        ..t
     }
 }
 
@@ -105,36 +104,24 @@ pub fn settle(
     requires { Ready s units.old records.old part.old next.now (become fate (unit_from (held_in s.slot part.old) next.now)) }
     ensures { Went info s.tally units.old records.old part.old (become fate (unit_from (held_in s.slot part.old) next.now)) result units.new records.new part.new }
 {
-    let slot = s.slot;
-    let no = Slot { held: 0, span: 0 };
+    let Stand { mut tally, slot } = s;
     let h = slot.held as usize;
     let n = h + next.len();
-    let mut t = s.tally;
+    let mut kept = EMPTY;
     match fate {
         Fate::Hand => {
             let span = slot.span as usize;
-            t = hand_out(info, t, span, &part[..h], next, units, records);
-            return Stand { tally: t, slot: no };
+            tally = hand_out(info, tally, span, &part[..h], next, units, records);
         }
-        Fate::Blank => {
-            t.idle = t.idle + n;
-            return Stand { tally: t, slot: no };
-        }
+        Fate::Blank => tally.idle += n,
         Fate::Hold => {
             octets::lay(part, h, next);
-            let more = carried(next);
-            let kept = Slot {
+            kept = Slot {
                 held: n as u16,
-                span: slot.span + more as u16,
-            };
-            return Stand {
-                tally: t,
-                slot: kept,
+                span: slot.span + carried(next) as u16,
             };
         }
-        Fate::Drop => {
-            t.dropped = t.dropped + n;
-            return Stand { tally: t, slot: no };
-        }
+        Fate::Drop => tally.dropped += n,
     }
+    Stand { tally, slot: kept }
 }

@@ -6,7 +6,7 @@ ghost use Rattle.rules.specs.Reading.{next_of, walk};
 ghost use Rattle.lanes.specs.Hands.{Room, Went};
 ghost use Rattle.lanes.specs.Ends.{Run, Left};
 
-use crate::units::{Stand, Tally, Terms};
+use crate::units::{EMPTY, Stand, Tally, Terms};
 use crate::{fates, units};
 use rules::{Measure, Next, Slot};
 
@@ -25,7 +25,9 @@ pub struct Walked {
     pub tally: Tally,
 }
 
-// What becomes of the packet at the front of these octets.
+// What becomes of the packet at the front of these octets. A rule of the project: the measure is taken apart by `let else` here and in the batch check
+// (docs/DECISIONS.md, 20a).
+#[tactic(auto, unfolding(rules::specs::Reading::next_of))]
 fn next_at(longest: usize, octets: &[u8]) -> Next
     ensures { result ≡ next_of longest (measure octets.now) (length octets.now) }
 {
@@ -49,17 +51,13 @@ fn run_end(zone: &[u8], from: usize) -> usize
     requires { from ≤ length zone.now }
     ensures { Run zone.now from result }
 {
-    let mut i = from;
-    while i < zone.len() {
-        if zone[i] != 0xE0 {
-            return i;
-        }
-        i += 1;
+    match zone[from..].iter().position(|x| *x != 0xE0) {
+        Some(n) => from + n,
+        None => zone.len(),
     }
-    i
 }
 
-// From octet `from` on, reads one packet after another.
+// From octet `from` on, reads one packet after another. A rule of the project: the walk is left by `break` with how it ended.
 fn walk_on(
     terms: Terms,
     t0: Tally,
@@ -71,34 +69,28 @@ fn walk_on(
     requires { (from ≤ length zone.now) × Room t0 units.old records.old (walk terms.longest (drop from zone.now)) }
     ensures { Left terms.info t0 units.old records.old zone.now (walk terms.longest (drop from zone.now)) result units.new records.new }
 {
-    let info = terms.info;
     let mut at = from;
-    let mut t = t0;
+    let mut tally = t0;
     let end = loop {
         if zone.len() <= at {
             break Walk::Finished;
         }
-        let next = next_at(terms.longest, &zone[at..]);
-        match next {
+        match next_at(terms.longest, &zone[at..]) {
             Next::Give(n) => {
                 let e = at + n;
-                t = units::hand_out(info, t, 0, &zone[..0], &zone[at..e], units, records);
+                tally = units::hand_out(terms.info, tally, 0, &[], &zone[at..e], units, records);
                 at = e;
             }
             Next::Skip(n) => {
                 let e = run_end(zone, at + n);
-                t.idle = t.idle + (e - at);
+                tally.idle += e - at;
                 at = e;
             }
-            Next::Keep => {
-                break Walk::Held(at);
-            }
-            Next::Lose => {
-                break Walk::Dropped(at);
-            }
+            Next::Keep => break Walk::Held(at),
+            Next::Lose => break Walk::Dropped(at),
         }
     };
-    Walked { end: end, tally: t }
+    Walked { end, tally }
 }
 
 // The packets from the pointer on: a tail that the zone's end cuts goes to the lane's part of the held area, and this frame is the first to carry it.
@@ -115,29 +107,18 @@ pub fn walk_step(
     ensures { Went terms.info t units.old records.old part.old (walk terms.longest (drop from zone.now)) result units.new records.new part.new }
 {
     let n = zone.len();
-    let no = Slot { held: 0, span: 0 };
-    let w = walk_on(terms, t, zone, from, units, records);
-    let end = w.end;
-    let mut s = w.tally;
+    let Walked { end, mut tally } = walk_on(terms, t, zone, from, units, records);
+    let mut kept = EMPTY;
     match end {
-        Walk::Finished => {
-            return Stand { tally: s, slot: no };
-        }
+        Walk::Finished => {}
         Walk::Held(at) => {
-            let rest = n - at;
             octets::lay(part, 0, &zone[at..]);
-            let kept = Slot {
-                held: rest as u16,
+            kept = Slot {
+                held: (n - at) as u16,
                 span: 1,
             };
-            return Stand {
-                tally: s,
-                slot: kept,
-            };
         }
-        Walk::Dropped(at) => {
-            s.dropped = s.dropped + (n - at);
-            return Stand { tally: s, slot: no };
-        }
+        Walk::Dropped(at) => tally.dropped += n - at,
     }
+    Stand { tally, slot: kept }
 }

@@ -2,30 +2,19 @@
 use mathlib.Core.Path.{◌≡◌, refl, sym, ap, ap₂, ◌∙◌}
 use Prim.Native.Nat.{ℕ, zero, suc, ◌+◌, ◌-◌, ◌*◌, ◌/◌, ◌%◌, ◌^◌, ◌≤◌, ◌<◌, min}
 use native.Mathlib.Nat.{zero-lt-suc, zero-add, le_of_eq, add-sub_of_le, le_antisymm, div-one, div-div-eq-div-mul, pow-succ', pow-suc, pow-le-pow_right, mul-mod_right, mod-eq_of_lt}
-use native.Mathlib.Numerals.{add-one}
 use native.Mathlib.Omega.{arith}
 use mathlib.Core.List.{List, [], ◌∷◌, ◌++◌, append_assoc, append-nil}
-use lib.ListN.{length, get_or, take, drop, set, length-append, length-drop, length-take, drop_of_length-le}
-use lib.Seq.{paste, paste-suc, length-take-le, take_all, take-suc, take-length, drop-drop, set_at}
+use lib.ListN.{length, get_or, take, drop, set, length-drop, length-take, drop_of_length-le}
+use lib.Seq.{length-take-le, take_all, take-suc, take-length, drop-drop, set_at}
 use lib.Pow.{pow-add}
 use borrow.Rule.Slice.PartMut.{put_mid}
 use Rattle.std.specs.List.{fold}
 use Rattle.std.proofs.lemmas.List.{take_min}
 use Rattle.rules.specs.Octets.{be, num}
 use Rattle.rules.specs.Areas.{laid}
-use Rattle.rules.proofs.Octets.{length-be, Octets, octets_each, num-below}
+use Rattle.rules.proofs.Octets.{Octets, octets_each, num-below}
 
--- ---- copy: the first i octets are the source's
-
-pub copied : (d s : List ℕ) (i : ℕ) → i ≤ length s → paste d 0 s i ≡ laid d 0 (take i s)
-unfolding laid
-copied d s i h = rw (length-take-le i s h)
-
-pub copy_turn : (d s dst : List ℕ) (i : ℕ) → i < length d → i < length s → dst ≡ paste d 0 s i → set dst i (get_or s i 0) ≡ paste d 0 s (i + 1)
-copy_turn d s dst i h k e =
-    ap (λ (l : List ℕ). set l i (get_or s i 0)) e
-    ∙ ap (λ (n : ℕ). set (paste d 0 s i) n (get_or s i 0)) (sym (zero-add i))
-    ∙ paste-suc d 0 s i 0 (rw zero-add h) k ∙ ap (paste d 0 s) (sym (add-one i))
+-- ---- copy
 
 -- As many octets as both lists have, of which the destination then has the source's.
 pub copied_front : (d s new : List ℕ) (n : ℕ) → n ≡ min (length d) (length s) → new ≡ take n s → new ++ drop n d ≡ laid d 0 (take (length d) s)
@@ -103,13 +92,6 @@ pub spell_all : (d : List ℕ) (x : ℕ) (dst : List ℕ) (v i : ℕ) → i ≤ 
 unfolding be
 spell_all d x dst v zero h w = w.here ∙ sym w.whole
 spell_all d x dst v (suc i) h w = absurd (omega arith)
-
-pub spelled-long : (d : List ℕ) (x : ℕ) (dst : List ℕ) (v i : ℕ) → Spelled d x dst v i → length dst ≡ length d
-spelled-long d x dst v i w =
-    let a : length dst ≡ length (take i d) + length w.done = ap length w.here ∙ length-append (take i d) w.done in
-    let b : length (take i d) ≡ i = length-take-le i d w.below in
-    let e : length (be (length d) x) ≡ length (be i v) + length w.done = ap length w.whole ∙ length-append (be i v) w.done in
-    omega (arith, length-be (length d) x, length-be i v)
 
 -- ---- modulus
 

@@ -1,12 +1,13 @@
 // What a packet is, by its octets: the measure, and nothing else. Each function is total, and gives what one definition of the rules gives.
-#![tactic(auto)]
+#![tactic(auto, using(std::proofs::lemmas::Bool::Decides::nat_tests), unfolding(rules::specs::Packets::sized, rules::specs::Packets::space_packet, rules::specs::Packets::totalled, rules::specs::Packets::alone, rules::specs::Packets::headed, rules::specs::Packets::measured))]
 
 ghost use Rattle.std.specs.Prelude.{◌≡◌, length};
 ghost use Rattle.rules.specs.Packets.{space_header, sized, space_packet, length_of_length, header_size, totalled, alone, encapsulated, headed, measured, measure};
 
 use rules::{Family, Measure};
 
-// The printed table of an encapsulation packet's headers, by length-of-length: how many octets a header has.
+// The printed table of an encapsulation packet's headers, by length-of-length: how many octets a header has. A rule of the project: it and the next stand as
+// printed, side by side (docs/DECISIONS.md, 20b).
 const HEADERS: [usize; 4] = [1, 2, 4, 8];
 
 // In how many of them, the last ones, the total length stands.
@@ -18,20 +19,20 @@ fn sized_of(a: u8, b: u8, d: u8, e: u8) -> Measure
 {
     let size = 7 + (d as usize * 256 + e as usize);
     if (a as usize * 256 + b as usize) % 2048 == 2047 {
-        return Measure::Idle(size);
+        Measure::Idle(size)
+    } else {
+        Measure::Packet(Family::Space, size)
     }
-    Measure::Packet(Family::Space, size)
 }
 
 // Measures a Space Packet that begins with the first of these octets.
 fn space_at(octets: &[u8]) -> Measure
     ensures { result ≡ headed space_header (length octets.now) (space_packet octets.now) }
 {
-    let n = octets.len();
-    if n < 6 {
-        return Measure::Lacks(6 - n);
-    }
-    sized_of(octets[0], octets[1], octets[4], octets[5])
+    let [a, b, _, _, d, e, ..] = octets else {
+        return Measure::Lacks(6 - octets.len());
+    };
+    sized_of(*a, *b, *d, *e)
 }
 
 // An encapsulation packet with a length, by its protocol, its header and the total.
@@ -39,12 +40,12 @@ fn totalled_of(p: u8, h: usize, total: usize) -> Measure
     ensures { result ≡ totalled p h total }
 {
     if total < h {
-        return Measure::Unreadable;
+        Measure::Unreadable
+    } else if p == 0b000 {
+        Measure::Idle(total)
+    } else {
+        Measure::Packet(Family::Encapsulation, total)
     }
-    if p == 0b000 {
-        return Measure::Idle(total);
-    }
-    Measure::Packet(Family::Encapsulation, total)
 }
 
 // An encapsulation packet whose header is one octet, by its protocol.
@@ -52,9 +53,10 @@ fn alone_of(p: u8) -> Measure
     ensures { result ≡ alone p }
 {
     if p == 0b000 {
-        return Measure::Idle(1);
+        Measure::Idle(1)
+    } else {
+        Measure::Unreadable
     }
-    Measure::Unreadable
 }
 
 // Measures an encapsulation packet with this first octet, which is the first of these octets.
@@ -81,27 +83,19 @@ fn encapsulated_at(a: u8, octets: &[u8]) -> Measure
 fn measured_of(a: u8, octets: &[u8]) -> Measure
     ensures { result ≡ measured a octets.now }
 {
-    let family = a / 32;
-    if family == 0b000 {
-        return space_at(octets);
+    match a / 32 {
+        0b000 => space_at(octets),
+        0b111 => encapsulated_at(a, octets),
+        _ => Measure::Unreadable,
     }
-    if family == 0b111 {
-        return encapsulated_at(a, octets);
-    }
-    Measure::Unreadable
 }
 
 // Measures the packet that begins with the first of these octets: its kind and size, or how many octets its header still lacks.
 pub fn measure_at(octets: &[u8]) -> Measure
     ensures { result ≡ measure octets.now }
 {
-    if octets.len() == 0 {
-        return Measure::Lacks(1);
+    match octets {
+        [] => Measure::Lacks(1),
+        [a, ..] => measured_of(*a, octets),
     }
-    let a = octets[0];
-    // Nearly always it is a Space Packet: where that is asked first, the compiler puts the answer where it is used.
-    if a / 32 == 0b000 {
-        return space_at(octets);
-    }
-    measured_of(a, octets)
 }

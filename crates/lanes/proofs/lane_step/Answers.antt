@@ -35,7 +35,7 @@ walk_step-requires c = (
   walks-room _ (lent_ready c.args.rule c.requires) c.opening_of-o.ensures c.settle-led.ensures c.if-o.false,
 )
 
-pub returns : goal.returns
-returns c =
+pub returns-else-o : goal.returns-else-o
+returns-else-o c =
     stepped (walks-went _ (lent_ready c.args.rule c.requires) c.opening_of-o.ensures c.settle-led.ensures c.if-o.false
     c.walk_step.ensures)

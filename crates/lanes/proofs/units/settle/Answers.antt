@@ -11,14 +11,14 @@ pub slice_bounds-hand_out-end-in-Hand : goal.slice_bounds-hand_out-end-in-Hand
 slice_bounds-hand_out-end-in-Hand c =
     sym (held-length c.requires)
 
-pub hand_out-t-requires : goal.hand_out-t-requires
-hand_out-t-requires c =
+pub hand_out-tally-requires : goal.hand_out-tally-requires
+hand_out-tally-requires c =
     let ready = c.requires in
     (rw (held-length ready) ready.within, rw c.in-Hand.is at ready.room)
 
 pub returns-in-Hand : goal.returns-in-Hand
 returns-in-Hand c =
-    rw c.in-Hand.is (part_stays refl c.hand_out-t.ensures)
+    rw c.in-Hand.is (part_stays refl c.hand_out-tally.ensures)
 
 pub returns-in-Blank : goal.returns-in-Blank
 returns-in-Blank c =
@@ -47,7 +47,7 @@ returns-in-Hold c =
     (record {
       handed = only_counted refl refl refl (omega arith) (omega arith) (omega arith);
       part = c.lay.ensures ∙ follow-laid ready;
-      slot = rw (follow-length ready, c.carried-more.ensures);
+      slot = rw (follow-length ready, c.carried.ensures);
     })
 
 pub returns-in-Drop : goal.returns-in-Drop

@@ -7,7 +7,7 @@ use Rattle.lanes.proofs.Walking.{Walking}
 use Rattle.lanes.proofs.walks.walk_on.Given as goal
 
 abbrev pub invariant-loop-at : goal.invariant-loop-at
-invariant-loop-at l = Walking l.terms.longest l.zone l.from l.terms.info l.initial.t l.initial.units l.initial.records l.at l.t l.units l.records
+invariant-loop-at l = Walking l.terms.longest l.zone l.from l.terms.info l.initial.tally l.initial.units l.initial.records l.at l.tally l.units l.records
 
 abbrev pub decreases-loop-at : goal.decreases-loop-at
 decreases-loop-at l = length l.zone - l.at
