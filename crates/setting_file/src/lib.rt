@@ -124,7 +124,8 @@ fn say_finding(system: &System, program: &[u8], path: &[u8], octets: &[u8], f: F
     }
 }
 
-// Reads until the area is full or the file ends; how many octets it has then, if no read failed.
+// Reads until the area is full or the file ends; how many octets it has then, if no read failed. Each read says how far it came, so no range
+// or iterator goes over the area.
 fn fill(system: &System, from: &Source, area: &mut [u8]) -> Option<usize>
     ensures { IfSome result (λ n. n ≤ length area.new) }
 {

@@ -87,7 +87,8 @@ impl From<Says> for Finding {
     }
 }
 
-// Octets that end something: a line feed, a `#`, a blank, what is no blank, a carriage return.
+// Octets that end something: a line feed, a `#`, a blank, what is no blank, a carriage return. `until_stop` takes one, and no closure in its
+// place: that would ask of callers that it may be called.
 #[derive(Clone, Copy)]
 pub enum Stop {
     Feed,
@@ -145,7 +146,8 @@ pub enum Ask {
 }
 
 // What is heard of a line: its numbers by their fields, how many words fit, and what the line says, or what was wanted in the place of the
-// first word that does not fit.
+// first word that does not fit. That the numbers have bounds is asked where it is needed (`Places.Bounded`): a ghost field would go into each
+// definition of the specs that makes one, as `Table.noted`, which takes any number.
 #[derive(Clone, Copy)]
 pub struct Heard {
     pub numbers: [usize; 12],
@@ -163,7 +165,8 @@ pub struct Trace<'a> {
     pub best: Heard,
 }
 
-// What the lines said so far: each single fact, and a setting with the channels and lanes, in which nothing else is said.
+// What the lines said so far: each single fact, and a setting with the channels and lanes, in which nothing else is said. That the lists have
+// room is asked (`Places.Room`): a ghost field would go into each definition of the specs that makes one, as `Facts.with_channel`, which adds to any list.
 #[derive(Clone, Copy)]
 pub struct Draft {
     pub length: Option<usize>,
