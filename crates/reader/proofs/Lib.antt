@@ -1,3 +1,4 @@
 pub mod Laid
 pub mod Verdicts
 pub mod Passing
+pub mod Firsts

@@ -1,11 +1,11 @@
 -- A frame's parts laid one after another.
 use mathlib.Core.Path.{◌≡◌, sym, ap, ap₂, ◌∙◌}
-use Prim.Native.Nat.{ℕ, ◌+◌, ◌-◌, ◌*◌, ◌≤◌, ◌<◌}
+use Prim.Native.Nat.{ℕ, ◌+◌, ◌-◌, ◌*◌, ◌≤◌}
 use native.Mathlib.Omega.{arith}
 use mathlib.Core.Bool.{Bool, cond}
 use mathlib.Core.List.{List, [], ◌∷◌, ◌++◌, append_assoc}
-use lib.ListN.{length, take, drop, replicate, length-append, length-drop}
-use lib.Seq.{take_at, take_all, length-take-le}
+use lib.ListN.{length, take, drop, replicate, length-append}
+use lib.Seq.{take_at, length-take-le}
 use Rattle.rules.specs.declared.Kind.{Kind}
 use Rattle.rules.specs.declared.Channel.{Channel}
 use Rattle.rules.specs.declared.Lane.{Lane}
@@ -14,7 +14,6 @@ use Rattle.rules.specs.Octets.{be, field, packed, check_of}
 use Rattle.rules.specs.Areas.{laid}
 use Rattle.rules.specs.Frames.{header, primary, data_header, body, checked}
 use Rattle.rules.specs.Writing.{fill, zone_of, rule_of, pointer_of}
-use Rattle.rules.proofs.Tests.{split}
 use Rattle.rules.proofs.Octets.{length-be}
 use Rattle.rules.proofs.Areas.{laid-front, laid-laid, laid_next}
 use Rattle.rules.proofs.Written.{length-zone_of}
@@ -51,15 +50,6 @@ end-laid area from ocf room =
     ∙ laid-laid area from ocf room (be 2 (check_of (take from area ++ ocf)))
 
 -- ---- rule, UPID, pointer and zone
-
--- A piece ends z octets on, or with the batch.
-pub piece_is : (b : List ℕ) (z a e : ℕ) → a ≤ e → e ≤ length b → e ≤ a + z → (e < a + z → e ≡ length b) → take (e - a) (drop a b) ≡ take z (drop a b)
-piece_is b z a e p q r s =
-    split (a + z) e (λ h. let k : e - a ≡ z = omega arith in ap (λ (n : ℕ). take n (drop a b)) k)
-    (λ h.
-    let k : e ≡ length b = s h in
-    let n : length (drop a b) ≡ e - a = length-drop a b ∙ omega arith in
-    take_all (e - a) (drop a b) (omega arith) ∙ sym (take_all z (drop a b) (omega arith)))
 
 pub data_laid : (area : List ℕ) (from r u p n : ℕ) (k : Kind) (z : ℕ) (b : List ℕ) (i x : ℕ) (piece : List ℕ) → from + 3 + z ≤ length area
     → n ≡ packed (field 3 r ∷ field 5 u ∷ field 16 p ∷ []) → piece ≡ take z (drop (i * z) b) → x ≡ fill k

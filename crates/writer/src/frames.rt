@@ -7,7 +7,7 @@ ghost use Rattle.rules.specs.Writing.{zone_of, rule_of, pointer_of};
 ghost use Rattle.batches.specs.Starts.{StartsAt};
 ghost use Rattle.writer.specs.Fits.{upcoming_frame, FrameFits};
 
-use rules::{Channel, Kind, Lane, Setting};
+use rules::{Channel, Lane, Setting};
 
 // What a write looks up for the frame that is upcoming: the channel's place, the lane, the channel, its zone, the channel's count, the lane's
 // next number.
@@ -22,14 +22,13 @@ pub struct Upcoming {
 }
 
 // Lays the primary header and the insert zone at the area's front.
-fn put_front(area: &mut [u8], s: Setting, c: Channel, l: Lane, k: u64, insert: &[u8])
-    requires { (1 ≤ s.length) × (s.length ≤ 65536) × (c.octets ≤ 7) × (7 + c.octets + length insert.now ≤ length area.old) }
-    ensures { area.new ≡ laid area.old 0 (primary s c l k ++ insert.now) }
+fn put_front(area: &mut [u8], s: Setting, x: Upcoming, insert: &[u8])
+    requires { (1 ≤ s.length) × (s.length ≤ 65536) × (x.channel.octets ≤ 7) × (7 + x.channel.octets + length insert.now ≤ length area.old) }
+    ensures { area.new ≡ laid area.old 0 (primary s x.channel x.lane x.count ++ insert.now) }
 {
-    let h = header::header_of(s, c, l);
-    octets::lay_number(area, 0, 7, h);
-    let n = c.octets as usize;
-    octets::lay_number(area, 7, n, k);
+    octets::lay_number(area, 0, 7, header::header_of(s, x.channel, x.lane));
+    let n = x.channel.octets as usize;
+    octets::lay_number(area, 7, n, x.count);
     octets::lay(area, 7 + n, insert);
 }
 
@@ -38,44 +37,28 @@ fn put_zone(area: &mut [u8], from: usize, piece: &[u8], z: usize, x: u8)
     requires { (length piece.now ≤ z) × (from + z ≤ length area.old) }
     ensures { area.new ≡ laid area.old from (piece.now ++ replicate (z - length piece.now) x) }
 {
-    octets::lay(area, from, piece);
     let n = piece.len();
+    octets::lay(area, from, piece);
     octets::lay_fill(area, from + n, z - n, x);
 }
 
-// Where a piece of at most z octets that begins at octet `from` ends, in a batch of n.
-fn piece_end(from: usize, z: usize, n: usize) -> usize
-    requires { from ≤ n }
-    ensures { (from ≤ result) × (result ≤ n) × (result ≤ from + z) × (result < from + z → result ≡ n) }
+// Lays rule, UPID, pointer and zone of the upcoming frame, told where the first packet from its zone on starts.
+fn put_data(area: &mut [u8], from: usize, x: Upcoming, batch: &[u8], start: usize)
+    requires { (x.number * x.zone < length batch.now) × (x.zone ≤ 4096) × (from + 3 + x.zone ≤ length area.old) × StartsAt x.lane.kind batch.now (x.number * x.zone) start }
+    ensures { area.new ≡ laid area.old from (data_header (rule_of x.lane.kind x.number) x.lane.upid (pointer_of x.lane.kind x.zone batch.now x.number) ++ zone_of x.lane.kind x.zone batch.now x.number) }
 {
-    if n - from < z {
-        return n;
-    }
-    from + z
-}
-
-// Lays rule, UPID, pointer and zone of frame i of a batch, told where the first packet from its zone on starts.
-fn put_data(
-    area: &mut [u8],
-    from: usize,
-    kind: Kind,
-    upid: u8,
-    z: usize,
-    batch: &[u8],
-    i: usize,
-    start: usize,
-)
-    requires { (i * z < length batch.now) × (z ≤ 4096) × (from + 3 + z ≤ length area.old) × StartsAt kind batch.now (i * z) start }
-    ensures { area.new ≡ laid area.old from (data_header (rule_of kind i) upid (pointer_of kind z batch.now i) ++ zone_of kind z batch.now i) }
-{
-    let rule = batches::rule_of(kind, i);
-    let pointer = batches::pointer_of(kind, z, batch, i, start);
-    let h = header::data_header_of(rule, upid, pointer);
-    octets::lay_number(area, from, 3, h);
-    let a = i * z;
-    let e = piece_end(a, z, batch.len());
-    let x = batches::fill_of(kind);
-    put_zone(area, from + 3, &batch[a..e], z, x);
+    let kind = x.lane.kind;
+    let rule = batches::rule_of(kind, x.number);
+    let pointer = batches::pointer_of(kind, x.zone, batch, x.number, start);
+    octets::lay_number(
+        area,
+        from,
+        3,
+        header::data_header_of(rule, x.lane.upid, pointer),
+    );
+    let rest = &batch[x.number * x.zone..];
+    let piece = &rest[..x.zone.min(rest.len())];
+    put_zone(area, from + 3, piece, x.zone, batches::fill_of(kind));
 }
 
 // Lays the OCF and, where there is one, the check over all octets before it.
@@ -104,12 +87,8 @@ pub fn put_frame(
     requires { FrameFits s x batch.now insert.now ocf.now area.old × StartsAt x.lane.kind batch.now (x.number * x.zone) start }
     ensures { area.new ≡ laid area.old 0 (upcoming_frame s x batch.now insert.now ocf.now) }
 {
-    let a = x.lane;
-    let c = x.channel;
-    let z = x.zone;
-    put_front(area, s, c, a, x.count, insert);
-    let from = 7 + c.octets as usize + insert.len();
-    let kind = a.kind;
-    put_data(area, from, kind, a.upid, z, batch, x.number, start);
-    put_end(area, from + 3 + z, ocf, s.check);
+    put_front(area, s, x, insert);
+    let from = 7 + x.channel.octets as usize + insert.len();
+    put_data(area, from, x, batch, start);
+    put_end(area, from + 3 + x.zone, ocf, s.check);
 }

@@ -1,23 +1,17 @@
-use mathlib.Core.Path.{sym, ◌∙◌}
-use borrow.Author.Count.{below_none, below_more}
+-- `reader::choices::unlisted` meets its contract: the first of the range that is looked for is the first number that is.
+use Rattle.std.proofs.Common.{refl, ◌∙◌, ℕ, false, ◌&&◌, get_or, rules}
+use Rattle.std.proofs.lemmas.Iterator.{YieldsList-from_range}
+use Rattle.std.proofs.lemmas.Iterator.Search.{position_from_yields_List}
+use Rattle.rules.specs.Tests.{none}
+use Rattle.rules.specs.Refusals.{channel_at}
 use Rattle.rules.specs.Passes.{unlisted}
-use Rattle.setting.proofs.Loops.{finds, misses}
+use Rattle.reader.proofs.Firsts.{first_in}
 use Rattle.reader.proofs.choices.unlisted.Goals as goal
-
-pub loop-v-init : goal.loop-v-init
-loop-v-init c = below_none _
-
-pub is_stray-stray-requires : goal.is_stray-stray-requires
-is_stray-stray-requires c = c.requires
-
-pub returns-then-stray : goal.returns-then-stray
-unfolding unlisted
-returns-then-stray c =
-    finds _ _ _ c.loop-v-test.true (sym c.is_stray-stray.ensures ∙ c.if-stray.true) c.loop-v.invariant
-
-pub loop-v-preserved : goal.loop-v-preserved
-loop-v-preserved c = below_more _ _ c.loop-v.invariant (sym c.is_stray-stray.ensures ∙ c.if-stray.false)
 
 pub returns : goal.returns
 unfolding unlisted
-returns c = misses _ _ _ c.loop-v-test.false c.loop-v.invariant
+returns c =
+    let a = c.args in
+    let p = λ (v : ℕ). get_or a.without v false && (none (channel_at a.s v 0) && none (channel_at a.s v 1)) in
+    position_from_yields_List p _ _ _ c.position.ensures.ran (YieldsList-from_range 0 63 63 refl refl) (λ x t q d. (search rules, search rules))
+    ∙ first_in p 63

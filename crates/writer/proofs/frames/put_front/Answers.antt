@@ -12,8 +12,8 @@ pub returns : goal.returns
 returns c =
     let a = c.args in
     c.lay.ensures
-    ∙ ap (λ (x : List ℕ). laid x (7 + a.c.octets) a.insert.now)
-    (c.lay_number-2.ensures ∙ ap (λ (x : List ℕ). laid x 7 (be a.c.octets a.k))
+    ∙ ap (λ (y : List ℕ). laid y (7 + a.x.channel.octets) a.insert.now)
+    (c.lay_number-2.ensures ∙ ap (λ (y : List ℕ). laid y 7 (be a.x.channel.octets a.x.count))
     (c.lay_number.ensures
-    ∙ ap (λ (n : ℕ). laid a.area.now 0 (be 7 n)) c.header_of-h.ensures))
-    ∙ front-laid a.area.now a.s a.c a.l a.k a.insert.now (search rules)
+    ∙ ap (λ (n : ℕ). laid a.area.now 0 (be 7 n)) c.header_of.ensures))
+    ∙ front-laid a.area.now a.s a.x.channel a.x.lane a.x.count a.insert.now (search rules)
