@@ -20,20 +20,16 @@ fn upcoming_of(w: Writer, l: usize) -> Upcoming
     ensures { result ≡ upcoming_of w l }
 {
     let s = w.setting;
-    let lanes = s.lanes;
-    let lane = lanes[l];
+    let lane = s.lanes[l];
     let place = lane.channel as usize;
-    let channels = s.channels;
-    let channel = channels[place];
-    let counts = w.counts;
-    let next = w.next;
+    let channel = s.channels[place];
     Upcoming {
         place,
         lane,
         channel,
         zone: setting::zone_of(s, channel),
-        count: counts[place],
-        number: next[l],
+        count: w.counts[place],
+        number: w.next[l],
     }
 }
 

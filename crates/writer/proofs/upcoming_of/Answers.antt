@@ -4,35 +4,35 @@ use Rattle.writer.specs.Lookups.{upcoming_of}
 use Rattle.writer.proofs.Lookups.{slots}
 use Rattle.writer.proofs.upcoming_of.Goals as goal
 
-pub offset_bounds-lanes-l : goal.offset_bounds-lanes-l
-offset_bounds-lanes-l c = let q = slots _ _ c.requires.0 c.requires.1 in omega (arith, q.eight)
+pub offset_bounds-s-l : goal.offset_bounds-s-l
+offset_bounds-s-l c = let q = slots _ _ c.requires.0 c.requires.1 in omega (arith, q.eight)
 
-pub bounds-lanes-l : goal.bounds-lanes-l
-bounds-lanes-l c = (slots _ _ c.requires.0 c.requires.1).eight
+pub bounds-s-l : goal.bounds-s-l
+bounds-s-l c = (slots _ _ c.requires.0 c.requires.1).eight
 
-pub offset_bounds-channels-place : goal.offset_bounds-channels-place
-offset_bounds-channels-place c = let q = slots _ _ c.requires.0 c.requires.1 in omega (arith, q.place)
+pub offset_bounds-s-place : goal.offset_bounds-s-place
+offset_bounds-s-place c = let q = slots _ _ c.requires.0 c.requires.1 in omega (arith, q.place)
 
-pub bounds-channels-place : goal.bounds-channels-place
-bounds-channels-place c = (slots _ _ c.requires.0 c.requires.1).place
+pub bounds-s-place : goal.bounds-s-place
+bounds-s-place c = (slots _ _ c.requires.0 c.requires.1).place
 
-pub offset_bounds-counts-place : goal.offset_bounds-counts-place
-offset_bounds-counts-place c =
+pub offset_bounds-w-place : goal.offset_bounds-w-place
+offset_bounds-w-place c =
     let p = c.requires in
     let q = slots _ _ p.0 p.1 in omega (arith, q.place)
 
-pub bounds-counts-place : goal.bounds-counts-place
-bounds-counts-place c =
+pub bounds-w-place : goal.bounds-w-place
+bounds-w-place c =
     let p = c.requires in
     (slots _ _ p.0 p.1).place
 
-pub offset_bounds-next-l : goal.offset_bounds-next-l
-offset_bounds-next-l c =
+pub offset_bounds-w-l : goal.offset_bounds-w-l
+offset_bounds-w-l c =
     let p = c.requires in
     let q = slots _ _ p.0 p.1 in omega (arith, q.eight)
 
-pub bounds-next-l : goal.bounds-next-l
-bounds-next-l c =
+pub bounds-w-l : goal.bounds-w-l
+bounds-w-l c =
     let p = c.requires in
     (slots _ _ p.0 p.1).eight
 
