@@ -1,5 +1,5 @@
 -- From frame to frame.
-use Prim.Native.Nat.{ℕ, ◌+◌, ◌*◌, ◌≤◌, ◌<◌}
+use Prim.Native.Nat.{ℕ, ◌+◌, ◌*◌, ◌≤◌}
 use mathlib.Core.Path.{◌≡◌, refl, sym, ap, ap₂, subst, ◌∙◌}
 use mathlib.Core.Bool.{Bool, true, false, cond, false≢true}
 use mathlib.Core.List.{List, [], ◌∷◌, ◌++◌}
@@ -8,7 +8,6 @@ use native.Mathlib.Omega.{arith}
 use borrow.Author.Tests.{ne_eqb}
 use Rattle.rules.specs.declared.Answer.{Answer}
 use Rattle.rules.specs.declared.Listener.{Listener}
-use Rattle.rules.specs.declared.Reader.{Reader}
 use Rattle.rules.specs.declared.Setting.{Setting}
 use Rattle.rules.specs.declared.Verdict.{Verdict}
 use Rattle.rules.specs.Settings.{setting_ok, reader_ok}
@@ -23,13 +22,15 @@ use Rattle.unit_table.specs.declared.Origin.{Origin}
 use Rattle.unit_table.specs.Rows.{origin_of}
 use Rattle.unpack_text.specs.declared.Tally.{Tally}
 use Rattle.unpack_text.specs.Lines.{Wrote, frame_line}
-use Rattle.unpack.specs.declared.each_frame.Came.{Came}
-use Rattle.unpack.specs.declared.each_frame.Went.{Went}
+use Rattle.unpack.specs.declared.each_frame.Areas.{Areas}
 use Rattle.unpack.specs.declared.each_frame.Step.{Step}
 use Rattle.unpack.specs.declared.each_frame.Turn.{Turn}
 use Rattle.unpack_text.proofs.Cuts.{wrote_front}
 use Rattle.unpack.specs.Stages.{Stage, got, ruled, leaves, told, totals_after, advanced, through, begun, Reached}
-use Rattle.unpack.specs.Stages.{step_of, AreasFit, Gave, Handed, Handled, Turned, Finished, taken, taken_turn, halted_turn, first_turn}
+use Rattle.unpack.specs.Stages.{step_of, stage_of, Went, AreasFit, Gave, Handed, Handled, Turned, Finished, taken, taken_turn, halted_turn, first_turn}
+use Rattle.std.proofs.Common.{Option, not}
+use Rattle.std.specs.Option.{unwrap_or}
+use Rattle.rules.specs.Tests.{◌=?◌}
 use Rattle.rules.specs.Areas.{held_size, record_size, records_size, units_size}
 
 -- ---- stages
@@ -43,22 +44,15 @@ advanced_valid : (g : Stage) (f : List ℕ) → reader_ok g.reader ≡ true → 
 unfolding advanced got
 advanced_valid g f ok = pass_valid g.without g.reader f g.held g.units g.records ok
 
--- The stage of a turn before which nothing was read.
-abbrev first : List Bool → Turn → Stage
-first w u =
-    record {
-      without = w;
-      reader = u.state;
-      held = replicate held_size 0;
-      units = replicate units_size 0;
-      records = replicate records_size 0;
-      totals = u.totals;
-    }
+-- The areas before anything was read.
+abbrev pub fresh : Areas
+fresh = record { held = replicate held_size 0; units = replicate units_size 0; records = replicate records_size 0 }
 
-pub begins : (w : List Bool) (s : Setting) (u : Turn) → setting_ok s ≡ true → u ≡ first_turn s → (u.count ≡ 0) × Reached (first w u) u.count (first w u)
-unfolding first_turn through
+pub begins : (w : List Bool) (s : Setting) (u : Turn) → setting_ok s ≡ true → u ≡ first_turn s
+    → (u.count ≡ 0) × Reached (stage_of w u fresh) u.count (stage_of w u fresh)
+unfolding stage_of first_turn through
 begins w s u ok e =
-    subst (λ (x : Turn). (x.count ≡ 0) × Reached (first w x) x.count (first w x)) (sym e) (
+    subst (λ (x : Turn). (x.count ≡ 0) × Reached (stage_of w x fresh) x.count (stage_of w x fresh)) (sym e) (
       refl,
       record {
         frames = [];
@@ -70,16 +64,15 @@ begins w s u ok e =
     )
 
 -- Where the frames end, the areas may go.
-pub finished : (w : List Bool) (s : Setting) (u : Turn) {k : ℕ} {r : Reader} {h us cs : List ℕ} {t : Totals} → u ≡ first_turn s
-    → Reached (first w u) k (record { without = w; reader = r; held = h; units = us; records = cs; totals = t }) → Finished w s k r t
-unfolding first_turn begun
-finished w s u {k} {r} {h} {us} {cs} {t} e p =
+pub finished : (w : List Bool) (s : Setting) (u u' : Turn) (m : Areas) → u ≡ first_turn s → Reached (stage_of w u fresh) u'.count (stage_of w u' m)
+    → Finished w s u'.count u'.state u'.totals
+unfolding stage_of first_turn begun
+finished w s u u' m e p =
     record {
-      held = h;
-      units = us;
-      records = cs;
-      reached =
-          subst (λ (x : Turn). Reached (first w x) k (record { without = w; reader = r; held = h; units = us; records = cs; totals = t })) e p;
+      held = m.held;
+      units = m.units;
+      records = m.records;
+      reached = subst (λ (x : Turn). Reached (stage_of w x fresh) u'.count (stage_of w u' m)) e p;
     }
 
 -- After one more.
@@ -93,16 +86,17 @@ goes {g₀} {k} {g} f p e =
     }
 
 -- After a turn, and that one after which there may be more took a frame.
-pub turned_on : {g₀ : Stage} {u : Turn} {c : Came} {g : Stage} {area : List ℕ} {u' : Turn} {g' : Stage} → Reached g₀ u.count g → Turned u c g area u' g'
-    → Reached g₀ u'.count g' × (u'.more ≡ true → u.count < u'.count)
+pub turned_on : {g₀ : Stage} {u : Turn} {c : Option ℕ} {g : Stage} {area : List ℕ} {u' : Turn} {g' : Stage} → Reached g₀ u.count g → Turned u c g area u' g'
+    → Reached g₀ u'.count g' × (u'.more ≡ true → u'.count ≡ u.count + 1)
 unfolding taken_turn halted_turn
 turned_on {g₀} {u} {c} {g} {area} {u'} {g'} p t = by (taken c) t.stage t.turn
   where
-    by : (b : Bool) → g' ≡ cond b (advanced g (take c.octets area)) g → u' ≡ cond b (taken_turn u c g'.reader g'.totals u'.went) (halted_turn u c)
-        → Reached g₀ u'.count g' × (u'.more ≡ true → u.count < u'.count)
+    by : (b : Bool) → g' ≡ cond b (advanced g (take (unwrap_or c 0) area)) g
+        → u' ≡ cond b (taken_turn u (unwrap_or c 0) g'.reader g'.totals u'.went) (halted_turn u c)
+        → Reached g₀ u'.count g' × (u'.more ≡ true → u'.count ≡ u.count + 1)
     by true e q =
         let n : u'.count ≡ u.count + 1 = ap (λ (x : Turn). x.count) q in
-        (subst (λ (k : ℕ). Reached g₀ k g') (sym n) (goes (take c.octets area) p e), λ _. omega arith)
+        (subst (λ (k : ℕ). Reached g₀ k g') (sym n) (goes (take (unwrap_or c 0) area) p e), λ _. n)
     by false e q =
         let n : u'.count ≡ u.count = ap (λ (x : Turn). x.count) q in
         let m : u'.more ≡ false = ap (λ (x : Turn). x.more) q in
@@ -110,31 +104,23 @@ turned_on {g₀} {u} {c} {g} {area} {u'} {g'} p t = by (taken c) t.stage t.turn
 
 -- ---- one turn
 
-pub taken_failed : (c : Came) → c.failed ≡ true → taken c ≡ false
-unfolding taken
-taken_failed c h = rw h
+module _ (w : List Bool) (u : Turn) where
+  pub halts : (c : Option ℕ) (n : ℕ) (m : Areas) (area : List ℕ) {u' : Turn} → n ≡ unwrap_or c 0 → n ≡ 0 → u' ≡ halted_turn u c
+      → Turned u c (stage_of w u m) area u' (stage_of w u' m)
+  unfolding halted_turn stage_of taken
+  halts c n m area o z e =
+      let k : taken c ≡ false = ap (λ (x : ℕ). not (x =? 0)) (sym o ∙ z) in
+      record { stage = rw k (ap (λ (x : Turn). stage_of w x m) e); turn = rw k e }
 
-pub taken_none : (c : Came) → c.failed ≡ false → c.octets ≡ 0 → taken c ≡ false
-unfolding taken
-taken_none c h z = rw (h, z)
-
-pub taken-some : (c : Came) → c.failed ≡ false → (c.octets ≡ 0 → ⊥) → taken c ≡ true
-unfolding taken
-taken-some c h z = rw (h, ne_eqb c.octets 0 z)
-
-module _ (w : List Bool) (u : Turn) (c : Came) where
-  pub halts : (h us cs area : List ℕ) {u' : Turn} → taken c ≡ false → u' ≡ halted_turn u c
-      → Turned u c (record { without = w; reader = u.state; held = h; units = us; records = cs; totals = u.totals }) area u'
-      (record { without = w; reader = u'.state; held = h; units = us; records = cs; totals = u'.totals })
-  unfolding halted_turn
-  halts h us cs area k e =
+  pub takes : (c : Option ℕ) (n : ℕ) (g : Stage) (area : List ℕ) {u' : Turn} {g' : Stage} → n ≡ unwrap_or c 0 → (n ≡ 0 → ⊥)
+      → Handled u n g (take n area) u' g' → Turned u c g area u' g'
+  unfolding taken
+  takes c n g area {u'} {g'} o h t =
+      let k : taken c ≡ true = ap (λ (x : ℕ). not (x =? 0)) (sym o) ∙ ap not (ne_eqb n 0 h) in
       record {
-        stage = rw k (ap (λ (x : Turn). record { without = w; reader = x.state; held = h; units = us; records = cs; totals = x.totals }) e);
-        turn = rw k e;
+        stage = rw k (subst (λ (x : ℕ). g' ≡ advanced g (take x area)) o t.stage);
+        turn = rw k (subst (λ (x : ℕ). u' ≡ taken_turn u x g'.reader g'.totals u'.went) o t.turn);
       }
-
-  pub takes : (g : Stage) (area : List ℕ) {u' : Turn} {g' : Stage} → taken c ≡ true → Handled u c g (take c.octets area) u' g' → Turned u c g area u' g'
-  takes g area h t = record { stage = rw h t.stage; turn = rw h t.turn }
 
 -- ---- one frame
 
@@ -147,12 +133,15 @@ origin_frame s t k (Verdict.Read l) = refl
 origin_frame s t k (Verdict.Repeat c) = refl
 
 -- A frame is passed.
-module _ (b : List Bool) (u : Turn) (f h us cs : List ℕ) (w : Passed) (h' us' cs' : List ℕ) (p : Step)
-    (o : PassGives b u.state f h us cs w h' us' cs') (q : p ≡ step_of u.count u.state u.totals w f) where
+module _ (b : List Bool) (u : Turn) (f : List ℕ) (m m' : Areas) (w : Passed) (p : Step)
+    (o : PassGives b u.state f m.held m.units m.records w m'.held m'.units m'.records) (q : p ≡ step_of u.count u.state u.totals w f) where
   abbrev before : Stage
-  before = record { without = b; reader = u.state; held = h; units = us; records = cs; totals = u.totals }
+  before = record { without = b; reader = u.state; held = m.held; units = m.units; records = m.records; totals = u.totals }
 
-  answer-is : w.taken.answer ≡ (pass b u.state f h us cs).taken.answer
+  abbrev passed : Got
+  passed = pass b u.state f m.held m.units m.records
+
+  answer-is : w.taken.answer ≡ passed.taken.answer
   answer-is = ap (λ (x : Got). x.taken.answer) o.got
 
   verdict-is : whose w.looked ≡ ruled before f
@@ -170,23 +159,24 @@ module _ (b : List Bool) (u : Turn) (f h us cs : List ℕ) (w : Passed) (h' us' 
       ap (λ (x : Bool). totals_after x u.state.setting u.totals (whose w.looked) w.taken.answer f) left_is
       ∙ ap₂ (λ (v : Verdict) (a : Answer). totals_after (leaves before f) u.state.setting u.totals v a f) verdict-is answer-is
 
-  stage_is : record { without = b; reader = p.state; held = h'; units = us'; records = cs'; totals = p.totals } ≡ advanced before f
+  stage_is : record { without = b; reader = p.state; held = m'.held; units = m'.units; records = m'.records; totals = p.totals } ≡ advanced before f
   unfolding step_of advanced got
   stage_is =
-      ap (λ (x : Step). record { without = b; reader = x.state; held = h'; units = us'; records = cs'; totals = x.totals }) q
+      ap (λ (x : Step). record { without = b; reader = x.state; held = m'.held; units = m'.units; records = m'.records; totals = x.totals }) q
       ∙ ap₂
       (λ (x : Got) (t : Totals).
       record { without = b; reader = x.taken.state; held = x.held_area; units = x.unit_area; records = x.record_area; totals = t })
       o.got totals-are
 
   -- What it gave fits the areas.
-  pub gives : AreasFit u.count us cs → length us' ≡ length us → length cs' ≡ length cs → Gave p.origin p.left p.verdict p.answer us' cs'
+  pub gives : AreasFit u.count m.units m.records → length m'.units ≡ length m.units → length m'.records ≡ length m.records
+      → Gave p.origin p.left p.verdict p.answer m'.units m'.records
   unfolding step_of told got
-  gives fit l m =
+  gives fit l k =
       let r = u.state.setting in
       let t = u.totals.tally in
-      let s : Small (pass b u.state f h us cs).taken.answer = pass_fits b u.state f h us cs in
-      let a : p.answer ≡ (pass b u.state f h us cs).taken.answer = ap (λ (x : Step). x.answer) q ∙ answer-is in
+      let s : Small passed.taken.answer = pass_fits b u.state f m.held m.units m.records in
+      let a : p.answer ≡ passed.taken.answer = ap (λ (x : Step). x.answer) q ∙ answer-is in
       record {
         stage = before;
         frame = f;
@@ -205,13 +195,12 @@ module _ (b : List Bool) (u : Turn) (f h us cs : List ℕ) (w : Passed) (h' us' 
         );
       }
 
-  pub handles : (c : Came) (went : Went) (u' : Turn) → u' ≡ taken_turn u c p.state p.totals went
-      → Handled u c before f u' (record { without = b; reader = u'.state; held = h'; units = us'; records = cs'; totals = u'.totals })
-  unfolding taken_turn
-  handles c went u' v =
+  pub handles : (n : ℕ) (went : Went) (u' : Turn) → u' ≡ taken_turn u n p.state p.totals went → Handled u n (stage_of b u m) f u' (stage_of b u' m')
+  unfolding taken_turn stage_of
+  handles n went u' v =
       record {
-        stage = ap (λ (x : Turn). record { without = b; reader = x.state; held = h'; units = us'; records = cs'; totals = x.totals }) v ∙ stage_is;
-        turn = subst (λ (x : Turn). x ≡ taken_turn u c x.state x.totals x.went) (sym v) refl;
+        stage = ap (λ (x : Turn). stage_of b x m') v ∙ stage_is;
+        turn = subst (λ (x : Turn). x ≡ taken_turn u n x.state x.totals x.went) (sym v) refl;
       }
 
 -- What is cut out of the areas, as they were left, is what is handed out.

@@ -1,5 +1,6 @@
 -- What unpack carries from frame to frame.
-use Rattle.std.specs.Prelude.{ℕ, ◌+◌, ◌*◌, ◌≤◌, ◌<◌, ◌≡◌, Bool, true, false, cond, not, List, [], ◌∷◌, length, take, replicate}
+use Rattle.std.specs.Prelude.{ℕ, ◌+◌, ◌*◌, ◌≤◌, ◌<◌, ◌≡◌, Bool, true, false, cond, not, List, [], ◌∷◌, length, take, replicate, Option, Some, None, Result, Ok, Err, is_ok}
+use Rattle.std.specs.Option.{unwrap_or}
 use Rattle.rules.specs.declared.Answer.{Answer}
 use Rattle.rules.specs.declared.Passed.{Passed}
 use Rattle.rules.specs.declared.Reader.{Reader}
@@ -14,9 +15,9 @@ use Rattle.refusals.specs.declared.Totals.{Totals}
 use Rattle.refusals.specs.Counts.{totalled, passed_over, no_totals}
 use Rattle.unit_table.specs.declared.Origin.{Origin}
 use Rattle.unit_table.specs.Rows.{origin_of}
-use Rattle.unpack.specs.declared.each_frame.Came.{Came}
-use Rattle.unpack.specs.declared.each_frame.Went.{Went}
-use Rattle.unpack.specs.declared.each_frame.Went.TheVariants.{Well, NotRead, NotPrinted, NotWritten}
+use Rattle.unpack.specs.declared.each_frame.Areas.{Areas}
+use Rattle.unpack.specs.declared.each_frame.Failure.{Failure}
+use Rattle.unpack.specs.declared.each_frame.Failure.TheVariants.{NotRead}
 use Rattle.unpack.specs.declared.each_frame.Step.{Step}
 use Rattle.unpack.specs.declared.each_frame.Turn.{Turn}
 use Rattle.rules.specs.Areas.{held_size, record_size, records_size, units_size}
@@ -105,12 +106,12 @@ pub record AreasFit (k : ℕ) (u c : List ℕ) : Type 0 where
 -- ---- what is handed to the system, and what it answers
 
 -- A lane's units go to its output. Other frames have none.
-unfoldable pub output_of : Verdict → ℕ
-output_of (Verdict.Refused n) = 10
-output_of Verdict.Idle = 10
-output_of (Verdict.Counted c) = 10
-output_of (Verdict.Read l) = l
-output_of (Verdict.Repeat c) = 10
+unfoldable pub output_of : Verdict → Option ℕ
+output_of (Verdict.Refused n) = None
+output_of Verdict.Idle = None
+output_of (Verdict.Counted c) = None
+output_of (Verdict.Read l) = Some l
+output_of (Verdict.Repeat c) = None
 
 -- The unit and record areas as the rules' pass of a frame, with this verdict and answer, left out or not, leaves them, with room for what it gave; and
 -- where its units come from.
@@ -137,49 +138,55 @@ pub record Handed (o : Origin) (v : Verdict) (a : Answer) (l u c : List ℕ) : T
   pub units : u ≡ take a.octets (advanced stage frame).units
   pub records : c ≡ take (record_size * a.units) (advanced stage frame).records
 
-unfoldable pub well_gone : Went → Bool
-well_gone Well = true
-well_gone NotRead = false
-well_gone NotPrinted = false
-well_gone (NotWritten i) = false
+-- How a turn went with the system.
+abbrev pub Went : Type 0
+Went = Result (Unit {0}) Failure
 
--- There may be more after a whole frame, if all went well; and lines go to a table that there is.
+-- There may be more after a whole frame, if all went well.
 unfoldable pub goes_on : Bool → Went → Bool
-goes_on whole w = cond whole (well_gone w) false
+goes_on whole w = cond whole (is_ok w) false
 
 -- ---- turns
 
--- "Reads the recording's frames, F octets each, to its end (a last frame that is short is a frame too ...)": what came is a frame.
-unfoldable pub taken : Came → Bool
-taken c = cond c.failed false (not (c.octets =? 0))
+-- Which virtual channels are left out, with what a turn and the areas are.
+unfoldable pub stage_of : List Bool → Turn → Areas → Stage
+stage_of w u m = record { without = w; reader = u.state; held = m.held; units = m.units; records = m.records; totals = u.totals }
 
--- A turn in which a frame came: one frame more.
-unfoldable pub taken_turn : Turn → Came → Reader → Totals → Went → Turn
-taken_turn u c r t w =
-    record { state = r; totals = t; count = u.count + 1; came = c; went = w; more = goes_on (c.octets =? u.state.setting.length) w }
+-- Areas of the same lengths.
+abbrev pub SameSizes : Areas → Areas → Type 0
+SameSizes m m' = (length m'.units ≡ length m.units) × (length m'.records ≡ length m.records)
+
+-- "Reads the recording's frames, F octets each, to its end (a last frame that is short is a frame too ...)": what came is a frame.
+unfoldable pub taken : Option ℕ → Bool
+taken c = not (unwrap_or c 0 =? 0)
+
+-- A turn in which a frame of so many octets came: one frame more.
+unfoldable pub taken_turn : Turn → ℕ → Reader → Totals → Went → Turn
+taken_turn u n r t w =
+    record { state = r; totals = t; count = u.count + 1; came = Some n; went = w; more = goes_on (n =? u.state.setting.length) w }
 
 -- "A recording that cannot be read is told apart from its end."
-unfoldable pub ending_of : Bool → Went
-ending_of failed = cond failed NotRead Well
+unfoldable pub ending_of : Option ℕ → Went
+ending_of None = Err NotRead
+ending_of (Some n) = Ok tt
 
 -- A turn in which none came: nothing changes.
-unfoldable pub halted_turn : Turn → Came → Turn
-halted_turn u c = record { state = u.state; totals = u.totals; count = u.count; came = c; went = ending_of c.failed; more = false }
+unfoldable pub halted_turn : Turn → Option ℕ → Turn
+halted_turn u c = record { state = u.state; totals = u.totals; count = u.count; came = c; went = ending_of c; more = false }
 
--- A turn with this frame, up to how the writes went.
-pub record Handled (u : Turn) (c : Came) (g : Stage) (f : List ℕ) (u' : Turn) (g' : Stage) : Type 0 where
+-- A turn with this frame of so many octets, up to how the writes went.
+pub record Handled (u : Turn) (n : ℕ) (g : Stage) (f : List ℕ) (u' : Turn) (g' : Stage) : Type 0 where
   pub stage : g' ≡ advanced g f
-  pub turn : u' ≡ taken_turn u c g'.reader g'.totals u'.went
+  pub turn : u' ≡ taken_turn u n g'.reader g'.totals u'.went
 
 -- A turn in which this came into the frame area, up to how the writes went: the frame is what came.
-pub record Turned (u : Turn) (c : Came) (g : Stage) (area : List ℕ) (u' : Turn) (g' : Stage) : Type 0 where
-  pub stage : g' ≡ cond (taken c) (advanced g (take c.octets area)) g
-  pub turn : u' ≡ cond (taken c) (taken_turn u c g'.reader g'.totals u'.went) (halted_turn u c)
+pub record Turned (u : Turn) (c : Option ℕ) (g : Stage) (area : List ℕ) (u' : Turn) (g' : Stage) : Type 0 where
+  pub stage : g' ≡ cond (taken c) (advanced g (take (unwrap_or c 0) area)) g
+  pub turn : u' ≡ cond (taken c) (taken_turn u (unwrap_or c 0) g'.reader g'.totals u'.went) (halted_turn u c)
 
 -- Before the first.
 unfoldable pub first_turn : Setting → Turn
-first_turn s =
-    record { state = (set_up_reader s).state; totals = no_totals; count = 0; came = record { octets = 0; failed = false }; went = Well; more = true }
+first_turn s = record { state = (set_up_reader s).state; totals = no_totals; count = 0; came = Some 0; went = Ok tt; more = true }
 
 -- State and totals after k frames from the beginning, with areas that are no longer lent.
 pub record Finished (w : List Bool) (s : Setting) (k : ℕ) (r : Reader) (t : Totals) : Type 0 where

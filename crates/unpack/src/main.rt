@@ -3,7 +3,7 @@
 // the system.
 #![tactic(auto)]
 
-ghost use Rattle.std.specs.Prelude.{◌≡◌, true, IfSome};
+ghost use Rattle.std.specs.Prelude.{◌≡◌, true, IfOk};
 ghost use Rattle.io.specs.Counts.{IsPrefixLen};
 ghost use Rattle.rules.specs.Settings.{setting_ok, reader_ok};
 ghost use Rattle.refusals.specs.Words.{common_text, first_text};
@@ -11,47 +11,36 @@ ghost use Rattle.setting_file.specs.Files.{judged};
 
 mod each_frame;
 
-use each_frame::{Sinks, Went};
+use each_frame::{Failure, Out, Sinks, Turn};
 use files::Known;
 use intake::{Source, System};
 use outputs::{Kept, Plan};
 use refusals::{First, Refusals, Totals};
-use rules::{Reader, Setting};
+use rules::Setting;
 use setting_file::Loaded;
 use std::fs::File;
 use std::random::RandomSource;
 use words::unpack_start::{BadPrefix, Little};
 use words::{Asked, Program, Start};
 
-// What a run has: the plan of its outputs, where its octets go, what no output may replace, as the system knows it, and which virtual channels are left
-// out.
+// Something failed or is refused, and it is said by then.
 #[derive(Clone, Copy)]
-struct Job {
+struct Said;
+
+// A run: a setting that the rules take, the recording with its name, what names of outputs begin with, the plan of the outputs, where its octets go, what
+// no output may replace, as the system knows it, and which virtual channels are left out.
+#[derive(Clone, Copy)]
+struct Run<'a> {
+    system: &'a System,
+    setting: Setting,
+    from: &'a Source,
+    recording: &'a [u8],
+    prefix: &'a [u8],
     plan: Plan,
     sinks: Sinks,
     kept: Kept,
     without: [bool; 63],
-}
-
-// Whether all went well to the end, and how many frames there were.
-#[derive(Clone, Copy)]
-struct Outcome {
-    count: u64,
-    whole: bool,
-}
-
-// Once all outputs are written: they are put on the device, what has their names is looked at once more, and they get them.
-fn settle(system: &System, files: &mut [Option<File>; 10], job: Job, prefix: &[u8]) -> bool {
-    let p = job.plan;
-    let kept = outputs::keep_all(system, p, files, prefix);
-    if kept {
-        let f = job.kept;
-        let may = outputs::may_take_all(system, p, prefix, f);
-        if may {
-            return outputs::give_names(system, p, prefix);
-        }
-    }
-    false
+    ghost valid: { setting_ok setting ≡ true },
 }
 
 // ---- what is said
@@ -69,16 +58,6 @@ fn say_failed(system: &System, of: &[u8]) {
 // Says that all is done, with so many frames.
 fn say_done(count: u64) {
     console::say_count(b"unpack", b"done: ", count, b" frames");
-}
-
-// Says what failed in a turn, if anything did.
-fn say_went(system: &System, went: Went, recording: &[u8], p: Plan, prefix: &[u8]) {
-    match went {
-        Went::Well => {}
-        Went::NotRead => say_failed(system, recording),
-        Went::NotPrinted => say_failed(system, b"standard output"),
-        Went::NotWritten(i) => outputs::say_part(system, p, prefix, i),
-    }
 }
 
 // ---- when little was read
@@ -99,9 +78,8 @@ fn hand_first(recording: &[u8], p: First, own: u16, text: &[u8])
 
 // Puts which refusal is the commonest, and says it.
 fn say_common(recording: &[u8], r: Refusals) {
-    let counts = r.counts;
     let mut area = [0u8; 197];
-    let end = refusals::put_common(&mut area, 0, counts);
+    let end = refusals::put_common(&mut area, 0, r.counts);
     hand_common(recording, r, &area[..end]);
 }
 
@@ -114,9 +92,7 @@ fn say_first(recording: &[u8], p: First, own: u16) {
 
 // Says that frames begin with sync markers, where the first refused one does.
 fn say_marker(recording: &[u8], p: First) {
-    let front = p.front;
-    let marked = refusals::is_marked(front);
-    if marked {
+    if refusals::is_marked(p.front) {
         say(
             recording,
             b"that frame begins with 1A CF FC 1D, a sync marker; markers are to be taken out first",
@@ -153,247 +129,117 @@ fn say_little(recording: &[u8], t: Totals, own: u16) {
     let few = words::unpack_start::little_of(unpack_text::add(k.read, k.left), k.refused);
     if let Some(few) = few {
         say_few(few, recording);
-        let r = t.refusals;
-        say_refused(recording, r, own);
+        say_refused(recording, t.refusals, own);
     }
 }
 
 // ---- the program
 
-// Once every frame is taken: prints the totals, and settles the outputs.
-fn finish(
-    system: &System,
-    r: Reader,
-    t: Totals,
-    files: &mut [Option<File>; 10],
-    job: Job,
-    prefix: &[u8],
-) -> bool
-    requires { reader_ok r ≡ true }
-{
-    let printed = each_frame::print_totals(system, r, t);
-    if printed {
-        return settle(system, files, job, prefix);
+impl Run<'_> {
+    // Says what failed in a turn.
+    fn say_failure(&self, what: Failure) -> Said {
+        match what {
+            Failure::NotRead => say_failed(self.system, self.recording),
+            Failure::NotPrinted => say_failed(self.system, b"standard output"),
+            Failure::NotWritten(i) => outputs::say_part(self.system, self.plan, self.prefix, i),
+        }
+        Said
     }
-    false
-}
 
-// The same, and says that little was read, where it is so.
-fn conclude(
-    system: &System,
-    r: Reader,
-    t: Totals,
-    recording: &[u8],
-    files: &mut [Option<File>; 10],
-    job: Job,
-    prefix: &[u8],
-) -> bool
-    requires { reader_ok r ≡ true }
-{
-    let whole = finish(system, r, t, files, job, prefix);
-    if whole {
-        say_little(recording, t, r.setting.craft);
+    // Once all outputs are written: they are put on the device, what has their names is looked at once more, and they get them.
+    fn settle(&self, files: &mut [Option<File>; 10]) -> bool {
+        outputs::keep_all(self.system, self.plan, files, self.prefix)
+            && outputs::may_take_all(self.system, self.plan, self.prefix, self.kept)
+            && outputs::give_names(self.system, self.plan, self.prefix)
     }
-    whole
-}
 
-// Takes all frames, and concludes where all went well.
-fn take_and_conclude(
-    system: &System,
-    s: Setting,
-    from: &Source,
-    recording: &[u8],
-    files: &mut [Option<File>; 10],
-    job: Job,
-    prefix: &[u8],
-) -> Outcome
-    requires { setting_ok s ≡ true }
-{
-    let o = job.sinks;
-    let without = job.without;
-    let u = each_frame::take_all(system, without, s, from, files, o);
-    let went = u.went;
-    let good = each_frame::well(went);
-    if good {
-        let r = u.state;
-        let t = u.totals;
-        let whole = conclude(system, r, t, recording, files, job, prefix);
-        return Outcome {
-            count: u.count,
-            whole: whole,
+    // Prints the title, starts the table of units, and takes all frames.
+    fn take_all(&self, files: &[Option<File>; 10]) -> Result<Turn, Said>
+        ensures { IfOk result (λ u. reader_ok u.state ≡ true) }
+    {
+        let out = Out {
+            system: self.system,
+            files,
+            sinks: self.sinks,
         };
+        if !each_frame::print_title(self.system, self.sinks.quiet) {
+            return Err(Said);
+        }
+        if let Err(what) = out.start_table() {
+            return Err(self.say_failure(what));
+        }
+        let turn = each_frame::take_all(&out, self.without, self.setting, self.from);
+        if let Err(what) = turn.went {
+            return Err(self.say_failure(what));
+        }
+        Ok(turn)
     }
-    let p = job.plan;
-    say_went(system, went, recording, p, prefix);
-    Outcome {
-        count: u.count,
-        whole: false,
-    }
-}
 
-// Starts the table of units, if there is one; whether that went well.
-fn start_table(
-    system: &System,
-    recording: &[u8],
-    files: &[Option<File>; 10],
-    job: Job,
-    prefix: &[u8],
-) -> bool {
-    let o = job.sinks;
-    let p = job.plan;
-    let went = each_frame::start_table(system, files, o);
-    say_went(system, went, recording, p, prefix);
-    each_frame::well(went)
-}
-
-// Prints the title, and starts the table of units; whether that went well.
-fn start_all(
-    system: &System,
-    recording: &[u8],
-    files: &[Option<File>; 10],
-    job: Job,
-    prefix: &[u8],
-) -> bool {
-    let titled = each_frame::print_title(system, job.sinks.quiet);
-    if titled {
-        return start_table(system, recording, files, job, prefix);
+    // Unpacks into outputs that are open, prints the totals, settles the outputs, and says that little was read, where it is so; how many frames there were.
+    fn unpack_all(&self, files: &mut [Option<File>; 10]) -> Result<u64, Said> {
+        let turn = self.take_all(files)?;
+        if !each_frame::print_totals(self.system, turn.state, turn.totals) || !self.settle(files) {
+            return Err(Said);
+        }
+        say_little(self.recording, turn.totals, turn.state.setting.craft);
+        Ok(turn.count)
     }
-    false
-}
 
-// Unpacks into outputs that are open.
-fn unpack_all(
-    system: &System,
-    s: Setting,
-    from: &Source,
-    recording: &[u8],
-    files: &mut [Option<File>; 10],
-    job: Job,
-    prefix: &[u8],
-) -> Outcome
-    requires { setting_ok s ≡ true }
-{
-    let started = start_all(system, recording, files, job, prefix);
-    if started {
-        return take_and_conclude(system, s, from, recording, files, job, prefix);
-    }
-    Outcome {
-        count: 0,
-        whole: false,
-    }
-}
-
-// Unpacks into outputs that are open, and says that it is done; or removes them.
-fn work(
-    system: &System,
-    s: Setting,
-    from: &Source,
-    recording: &[u8],
-    files: &mut [Option<File>; 10],
-    job: Job,
-    prefix: &[u8],
-)
-    requires { setting_ok s ≡ true }
-{
-    let e = unpack_all(system, s, from, recording, files, job, prefix);
-    if e.whole {
-        say_done(e.count);
-    } else {
-        outputs::remove_all(system, job.plan, prefix);
+    // Unpacks into outputs that are open, and says that it is done; or removes them.
+    fn work(&self, files: &mut [Option<File>; 10]) {
+        match self.unpack_all(files) {
+            Ok(count) => say_done(count),
+            Err(Said) => outputs::remove_all(self.system, self.plan, self.prefix),
+        }
     }
 }
 
 // How many frames of this length are a hundredth of so many octets; 0 where these do not stay.
 fn hundredth_of(plain: bool, size: u64, length: usize) -> u64 {
-    if plain {
-        if length != 0 {
-            return size / length as u64 / 100;
-        }
+    if plain && length != 0 {
+        size / length as u64 / 100
+    } else {
+        0
     }
-    0
 }
 
 // Where octets go, and how far a recording goes: one that is no regular file says nothing of it.
 fn sinks_of(s: Setting, recording: Option<Known>, q: Asked) -> Sinks {
-    let hundredth = match recording {
-        Some(k) => hundredth_of(files::regular(k), k.size, s.length),
-        None => 0,
-    };
     Sinks {
-        hundredth,
+        hundredth: recording.map_or(0, |k| hundredth_of(files::regular(k), k.size, s.length)),
         quiet: q.first,
         table: q.second,
     }
 }
 
-// Makes the outputs and unpacks.
-fn with_plan(
-    system: &System,
-    s: Setting,
-    from: &Source,
-    recording: &[u8],
-    p: Plan,
-    f: Kept,
-    q: Asked,
-    prefix: &[u8],
-)
-    requires { setting_ok s ≡ true }
-{
-    if let Some(mut files) = outputs::make_all(system, p, prefix) {
-        let without = q.without;
-        let job = Job {
-            plan: p,
-            sinks: sinks_of(s, f.recording, q),
-            kept: f,
-            without,
-        };
-        work(system, s, from, recording, &mut files, job, prefix);
-    }
-}
-
-// Draws the number of a run, for the names of its unfinished files, and goes on, where no output would replace what it may not.
-fn with_name(
-    system: &System,
-    s: Setting,
-    from: &Source,
-    recording: &[u8],
-    f: Kept,
-    q: Asked,
-    prefix: &[u8],
-)
-    requires { setting_ok s ≡ true }
-{
+// A number for the names of a run's unfinished files.
+fn draw(system: &System) -> Result<u64, Said> {
     let mut drawn = [0u8; 8];
-    if let Err(e) = system.rt.fill_bytes(&mut drawn) {
-        intake::keep_failure(system, e);
-        say_failed(system, b"a number for the unfinished files");
-        return;
-    }
-    let number = octets::number(&drawn);
-    let p = Plan {
-        number: number,
-        lanes: s.numbered,
-        table: q.second,
-    };
-    let may = outputs::may_take_all(system, p, prefix, f);
-    if may {
-        with_plan(system, s, from, recording, p, f, q, prefix);
+    match system.rt.fill_bytes(&mut drawn) {
+        Ok(()) => Ok(octets::number(&drawn)),
+        Err(e) => {
+            intake::keep_failure(system, e);
+            say_failed(system, b"a number for the unfinished files");
+            Err(Said)
+        }
     }
 }
 
-// Takes word i of the command line, which is for this: how many octets it has. What the system had against it is said.
-fn take_word(system: &System, i: usize, area: &mut [u8], what: &[u8]) -> Option<usize>
-    ensures { IfSome result (λ n. IsPrefixLen n area.new) }
+// Takes word i of the command line, which is for this: how many octets it has.
+fn take_word(system: &System, i: usize, area: &mut [u8], what: &[u8]) -> Result<usize, Said>
+    ensures { IfOk result (λ n. IsPrefixLen n area.new) }
 {
-    let n = console::arg(system, i, area);
-    if n.is_none() {
-        say_failed(system, what);
+    match console::arg(system, i, area) {
+        Some(n) => Ok(n),
+        None => {
+            say_failed(system, what);
+            Err(Said)
+        }
     }
-    n
 }
 
 // Says what is wrong with a prefix.
-fn say_prefix(what: BadPrefix, prefix: &[u8]) {
+fn say_prefix(what: BadPrefix, prefix: &[u8]) -> Said {
     match what {
         BadPrefix::Empty => say(
             b"PREFIX",
@@ -404,57 +250,68 @@ fn say_prefix(what: BadPrefix, prefix: &[u8]) {
             b"is a folder; expected what names of files begin with",
         ),
     }
+    Said
 }
 
-// Whether names can begin with this prefix. Says why where they cannot.
-fn good_prefix(system: &System, prefix: &[u8]) -> bool {
-    let k = files::of_name(system, prefix);
-    match words::unpack_start::prefix_of(prefix, k) {
-        Ok(()) => true,
-        Err(what) => {
-            say_prefix(what, prefix);
-            false
-        }
-    }
-}
-
-// Takes the prefix from the command line, and goes on.
-fn with_prefix(system: &System, s: Setting, q: Asked, from: &Source, recording: &[u8], f: Kept)
+// Takes the prefix from the command line, makes the outputs, where they would replace nothing that they may not, and unpacks.
+fn with_recording(
+    system: &System,
+    s: Setting,
+    q: Asked,
+    from: &Source,
+    recording: &[u8],
+    f: Kept,
+) -> Result<(), Said>
     requires { setting_ok s ≡ true }
 {
     let mut prefix = io::buffer();
-    let Some(n) = take_word(system, q.places[2], &mut prefix, b"PREFIX") else {
-        return;
-    };
-    if good_prefix(system, &prefix[..n]) {
-        with_name(system, s, from, recording, f, q, &prefix[..n]);
+    let n = take_word(system, q.places[2], &mut prefix, b"PREFIX")?;
+    let prefix = &prefix[..n];
+    if let Err(what) = words::unpack_start::prefix_of(prefix, files::of_name(system, prefix)) {
+        return Err(say_prefix(what, prefix));
     }
+    let plan = Plan {
+        number: draw(system)?,
+        lanes: s.numbered,
+        table: q.second,
+    };
+    if !outputs::may_take_all(system, plan, prefix, f) {
+        return Err(Said);
+    }
+    let Some(mut files) = outputs::make_all(system, plan, prefix) else {
+        return Err(Said);
+    };
+    let run = Run {
+        system,
+        setting: s,
+        from,
+        recording,
+        prefix,
+        plan,
+        sinks: sinks_of(s, f.recording, q),
+        kept: f,
+        without: q.without,
+    };
+    run.work(&mut files);
+    Ok(())
 }
 
 // What no output may replace: this setting and recording, standard output and standard error.
 fn kept_of(system: &System, a: Option<Known>, b: Option<Known>) -> Kept {
-    let o = files::of_descriptor(system, 1);
-    let e = files::of_descriptor(system, 2);
     Kept {
         setting: a,
         recording: b,
-        printed: o,
-        said: e,
+        printed: files::of_descriptor(system, 1),
+        said: files::of_descriptor(system, 2),
     }
 }
 
 // Whether neither standard output nor standard error is an input. Of standard error nothing is said: there is no place to say it.
 fn outside(f: Kept) -> bool {
-    let a = f.setting;
-    let b = f.recording;
-    let e = f.said;
-    let mixed = files::is_spoiled(e, a, b);
-    if mixed {
+    if files::is_spoiled(f.said, f.setting, f.recording) {
         return false;
     }
-    let o = f.printed;
-    let same = files::is_spoiled(o, a, b);
-    if same {
+    if files::is_spoiled(f.printed, f.setting, f.recording) {
         say(b"standard output", b"is the setting or the recording");
         return false;
     }
@@ -462,55 +319,45 @@ fn outside(f: Kept) -> bool {
 }
 
 // Looks at the recording, and goes on.
-fn with_recording(
+fn with_source(
     system: &System,
     s: Setting,
     q: Asked,
     from: &Source,
     recording: &[u8],
     a: Option<Known>,
-)
+) -> Result<(), Said>
     requires { setting_ok s ≡ true }
 {
     let b = files::of_source(system, from);
-    let twice = files::same(a, b);
-    if twice {
+    if files::same(a, b) {
         say(recording, b"is the setting; expected a recording");
-        return;
+        return Err(Said);
     }
     let f = kept_of(system, a, b);
-    let good = outside(f);
-    if good {
-        with_prefix(system, s, q, from, recording, f);
+    if !outside(f) {
+        return Err(Said);
     }
+    with_recording(system, s, q, from, recording, f)
 }
 
-// Opens the recording, and goes on.
-fn with_path(system: &System, s: Setting, q: Asked, path: &[u8], a: Option<Known>)
-    requires { setting_ok s ≡ true }
-{
-    let dash = words::is_dash(path);
-    if dash {
-        let input = Source::Input(system.rt.stdin());
-        with_recording(system, s, q, &input, b"standard input", a);
-        return;
-    }
-    let mut file = intake::open_read(system, path);
-    if !intake::is_open(&file) {
-        say_failed(system, path);
-        return;
-    }
-    with_recording(system, s, q, &mut file, path, a);
-}
-
-// Takes the recording from the command line, and goes on.
-fn with_setting(system: &System, s: Setting, q: Asked, a: Option<Known>)
+// Takes the recording from the command line, opens it, and goes on.
+fn with_setting(system: &System, s: Setting, q: Asked, a: Option<Known>) -> Result<(), Said>
     requires { setting_ok s ≡ true }
 {
     let mut path = io::buffer();
-    if let Some(n) = take_word(system, q.places[1], &mut path, b"RECORDING") {
-        with_path(system, s, q, &path[..n], a);
+    let n = take_word(system, q.places[1], &mut path, b"RECORDING")?;
+    let path = &path[..n];
+    if words::is_dash(path) {
+        let input = Source::Input(system.rt.stdin());
+        return with_source(system, s, q, &input, b"standard input", a);
     }
+    let file = intake::open_read(system, path);
+    if !intake::is_open(&file) {
+        say_failed(system, path);
+        return Err(Said);
+    }
+    with_source(system, s, q, &file, path, a)
 }
 
 // Whether standard output and standard error are open. A file that is opened would take the number of one that is closed.
@@ -529,8 +376,7 @@ fn open_ends(system: &System) -> bool {
 fn load_from(system: &System, path: &[u8], area: &mut [u8]) -> Loaded
     ensures { result.judged ≡ judged result.filled area.new }
 {
-    let dash = words::is_dash(path);
-    if dash {
+    if words::is_dash(path) {
         let input = Source::Input(system.rt.stdin());
         return setting_file::load_open(system, b"unpack", b"standard input", &input, area);
     }
@@ -541,8 +387,7 @@ fn load_from(system: &System, path: &[u8], area: &mut [u8]) -> Loaded
 fn all_listed(s: Setting, without: [bool; 63]) -> bool
     requires { setting_ok s ≡ true }
 {
-    let p = reader::choices::unlisted(without, s);
-    match p {
+    match reader::choices::unlisted(without, s) {
         None => true,
         Some(v) => {
             console::say_count(
@@ -556,28 +401,19 @@ fn all_listed(s: Setting, without: [bool; 63]) -> bool
     }
 }
 
-// Goes on with a setting that lists what is to be left out.
-fn with_choice(system: &System, s: Setting, q: Asked, a: Option<Known>)
-    requires { setting_ok s ≡ true }
-{
-    let without = q.without;
-    let listed = all_listed(s, without);
-    if listed {
-        with_setting(system, s, q, a);
-    }
-}
-
-// Reads the setting, and goes on.
-fn with_words(system: &System, q: Asked) {
+// Reads the setting, and goes on with one that lists what is to be left out.
+fn with_words(system: &System, q: Asked) -> Result<(), Said> {
     let mut path = io::buffer();
-    let Some(n) = take_word(system, q.places[0], &mut path, b"SETTING") else {
-        return;
-    };
+    let n = take_word(system, q.places[0], &mut path, b"SETTING")?;
     let mut area = [0u8; 65537];
     let l = load_from(system, &path[..n], &mut area);
-    if let Ok(s) = l.judged {
-        with_choice(system, s, q, l.file);
+    let Ok(s) = l.judged else {
+        return Err(Said);
+    };
+    if !all_listed(s, q.without) {
+        return Err(Said);
     }
+    with_setting(system, s, q, l.file)
 }
 
 // ---- the command line
@@ -610,40 +446,34 @@ fn say_printed(printed: bool) {
 // Does what the words ask for, or says why it cannot.
 fn begin(system: &System, start: Start, q: Asked) {
     match start {
-        Start::Help => {
-            let printed = print_help(system);
-            say_printed(printed);
-        }
-        Start::Version => {
-            let printed = each_frame::print(system, b"unpack 0.6 (Khachmuren, CCSDS 732.1-B-3)\n");
-            say_printed(printed);
-        }
+        Start::Help => say_printed(print_help(system)),
+        Start::Version => say_printed(each_frame::print(
+            system,
+            b"unpack 0.6 (Khachmuren, CCSDS 732.1-B-3)\n",
+        )),
         Start::Unknown(i) => say_unknown(system, i),
         Start::Usage => say(
             b"usage",
             b"unpack [--totals] [--units] [--without=V] .. SETTING RECORDING PREFIX",
         ),
-        Start::Work => with_words(system, q),
+        Start::Work => {
+            let _ = with_words(system, q);
+        }
     }
 }
 
 // Does what n words ask for, where nothing is said into a file that one of them names.
 fn begin_with(system: &System, n: usize) {
     let q = console::read_words(system, Program::Unpack, n);
-    let prefix = words::unpack_start::prefix_at(q);
-    let may = console::may_say(system, false, n, prefix);
-    if may {
-        let start = words::unpack_start::start_of(q);
-        begin(system, start, q);
+    if console::may_say(system, false, n, words::unpack_start::prefix_at(q)) {
+        begin(system, words::unpack_start::start_of(q), q);
     }
 }
 
 // Unpacks what the command line names, or says why it cannot.
 fn main(rt: HostRuntime) {
     let system = &intake::system_of(rt);
-    let open = open_ends(system);
-    if open {
-        let n = console::arg_count(system);
-        begin_with(system, n);
+    if open_ends(system) {
+        begin_with(system, console::arg_count(system));
     }
 }

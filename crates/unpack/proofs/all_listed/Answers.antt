@@ -2,5 +2,5 @@
 use Rattle.rules.proofs.Valid.{good}
 use Rattle.unpack.proofs.all_listed.Goals as goal
 
-pub unlisted-p-requires : goal.unlisted-p-requires
-unlisted-p-requires c = (good _ c.requires).listed
+pub unlisted-requires : goal.unlisted-requires
+unlisted-requires c = (good _ c.requires).listed

@@ -5,4 +5,4 @@ use Rattle.unpack.proofs.each_frame.first_turn.Goals as goal
 
 pub returns : goal.returns
 unfolding first_turn
-returns c = rw (reader-starts-is _ _ c.set_up-l.ensures, c.no_totals-totals.ensures)
+returns c = rw (reader-starts-is _ _ c.set_up.ensures, c.no_totals.ensures)

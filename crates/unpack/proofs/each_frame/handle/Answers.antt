@@ -6,14 +6,14 @@ pub give_out-went-requires : goal.give_out-went-requires
 give_out-went-requires c =
     let a = c.args in
     let w = c.pass-w in
-    gives a.without a.u a.frame.now a.held.now a.units.now a.records.now w.result _ _ _ _
+    gives a.without a.u a.frame.now a.areas.now (record { held = w.new.held; units = w.new.units; records = w.new.records }) w.result _
     w.ensures c.take_frame-p.ensures
-    c.requires.1 c.pass-w.auto.units c.pass-w.auto.records
+    c.requires.1 w.auto.units w.auto.records
 
-pub returns : goal.returns
-returns c =
+pub returns-clause-handled : goal.returns-clause-handled
+returns-clause-handled c =
     let a = c.args in
     let w = c.pass-w in
-    handles a.without a.u a.frame.now a.held.now a.units.now a.records.now w.result _ _ _ _
+    handles a.without a.u a.frame.now a.areas.now (record { held = w.new.held; units = w.new.units; records = w.new.records }) w.result _
     w.ensures c.take_frame-p.ensures
-    _ _ _ c.turn_after-v.ensures
+    a.n _ _ c.turn_after-v.ensures

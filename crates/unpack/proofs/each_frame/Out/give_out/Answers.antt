@@ -4,7 +4,7 @@ use lib.Seq.{length-take-le}
 use Rattle.unpack.proofs.Carried.{handed}
 use Rattle.unpack_text.proofs.Cuts.{wrote-cut}
 use borrow.Author.Rules.{rules}
-use Rattle.unpack.proofs.each_frame.give_out.Goals as goal
+use Rattle.unpack.proofs.each_frame.Out.give_out.Goals as goal
 
 pub slice_bounds-put_out-end : goal.slice_bounds-put_out-end
 slice_bounds-put_out-end c = wrote-cut c.put_line-end.ensures (search rules)

@@ -2,7 +2,7 @@
 use Prim.Native.Nat.{ℕ}
 use lib.ListN.{length-replicate}
 use native.Mathlib.Omega.{arith}
-use Rattle.unpack.proofs.each_frame.put_table.Goals as goal
+use Rattle.unpack.proofs.each_frame.Out.put_table.Goals as goal
 
 pub put_lines-requires-2 : goal.put_lines-requires-2
 put_lines-requires-2 c =
