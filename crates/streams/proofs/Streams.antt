@@ -1,25 +1,21 @@
 -- Windows and what they hold, and the next batch by its cases.
-use Prim.Native.Nat.{ℕ, ◌+◌, ◌-◌, ◌≤◌, min}
-use native.Mathlib.Nat.{min-eq_left, min-eq_right}
+use Prim.Native.Nat.{ℕ, ◌+◌, ◌-◌, ◌≤◌}
 use native.Mathlib.Omega.{arith}
 use mathlib.Core.Path.{◌≡◌, sym, ap, ap₂, subst, ◌∙◌}
 use mathlib.Core.List.{List, ◌++◌}
 use lib.ListN.{length, take, drop, length-drop}
-use lib.Seq.{take_all, take-append-le, length-take-le}
+use lib.Seq.{take-append-le, length-take-le}
 use Rattle.rules.specs.Areas.{laid}
-use Rattle.rules.proofs.Tests.{split}
 use Rattle.rules.proofs.Areas.{length-laid, laid-front}
-use lib.Seq.{take-take}
 use Rattle.std.specs.Prelude.{Option, Some, None, Ok, Err}
 use Rattle.std.specs.Option.{UnwrapsOrElse}
 use Rattle.std.specs.Result.{result_err, result_unwrap_or}
 use Rattle.intake.specs.declared.Window.{Window}
-use Rattle.intake.specs.Windows.{Refilled}
 use Rattle.streams.specs.declared.Fault.{Fault}
 use Rattle.streams.specs.declared.Stream.{Stream}
 use Rattle.streams.specs.declared.Batch.{Batch}
 use Rattle.streams.specs.declared.Begun.{Begun}
-use Rattle.streams.specs.Streams.{Next, moved, Kept, next_of, no_batch, batch_of, with_batch, BegunOf, Began}
+use Rattle.streams.specs.Streams.{Next, moved, next_of, no_batch, batch_of, with_batch, BegunOf, Began}
 
 -- What is behind a batch stands at the front once it is moved there.
 pub shifted : (area : List ℕ) (have n : ℕ) → have ≤ length area
@@ -33,24 +29,6 @@ shifted area have n h =
     ap (λ (i : ℕ). take i (laid xs 0 (drop n xs) ++ drop have area)) k
     ∙ take-append-le (length (drop n xs)) (laid xs 0 (drop n xs)) (drop have area) (omega (arith, length-laid xs 0 (drop n xs) r))
     ∙ laid-front xs (drop n xs)
-
-pub take-least : (n : ℕ) (xs : List ℕ) {r : ℕ} → r ≡ min n (length xs) → take r xs ≡ take n xs
-take-least n xs {r} e =
-    split n (length xs)
-    (λ h. ap (λ (i : ℕ). take i xs) (e ∙ min-eq_left h))
-    (λ h. ap (λ (i : ℕ). take i xs) (e ∙ min-eq_right (omega arith)) ∙ take_all (length xs) xs (omega arith) ∙ sym (take_all n xs (omega arith)))
-
--- What the window held is as it was where a part of the area was filled up.
-pub fill-kept : {area ys : List ℕ} {end : ℕ} {w w' : Window} → end ≤ length area → w.have ≤ end → Refilled w (take end area) w' ys
-    → length ys ≡ length (take end area)
-    → Kept w area w' (ys ++ drop end area)
-fill-kept {area} {ys} {end} {w} {w'} h k r l =
-    let m : length (take end area) ≡ end = length-take-le end area h in
-    record {
-      more = r.more;
-      at = r.at;
-      kept = take-append-le w.have ys (drop end area) (omega arith) ∙ r.kept ∙ take-take w.have end area k;
-    }
 
 -- ---- the next batch
 

@@ -1,6 +1,6 @@
 -- A list of lengths: "decimal numbers with blanks or line feeds between them".
-use Rattle.std.specs.Prelude.{ℕ, ◌+◌, ◌-◌, ◌*◌, min, Bool, true, false, cond, Option, Some, None, Result, Ok, Err, List, [], ◌∷◌, length, get_or, take, drop}
-use Rattle.std.specs.List.{prefix_len}
+use Rattle.std.specs.Prelude.{ℕ, ◌+◌, ◌-◌, ◌*◌, min, Bool, true, false, cond, Option, Some, None, Result, Ok, Err, List, length, get_or, take, drop}
+use Rattle.std.specs.List.{prefix_len, fold}
 use Rattle.rules.specs.Tests.{◌=?◌, ◌<?◌, ◌≤?◌}
 use Rattle.streams.specs.declared.lengths.NoNumber.{NoNumber}
 use Rattle.streams.specs.declared.lengths.Listed.{Listed}
@@ -12,10 +12,13 @@ is_blank x = cond (x =? 32) true (cond (x =? 10) true (cond (x =? 13) true (x =?
 unfoldable pub is_digit : ℕ → Bool
 is_digit x = cond (x <? 48) false (x ≤? 57)
 
--- The number that digits are after those that came to v. What is above 10,000 stays there: no unit is that long.
+-- The number that digits come to with one more. What is above 10,000 stays there: no unit is that long.
+abbrev pub with_digit : ℕ → ℕ → ℕ
+with_digit v x = min (v * 10 + (x - 48)) 10000
+
+-- The number that digits are after those that came to v.
 unfoldable pub value_from : ℕ → List ℕ → ℕ
-value_from v [] = v
-value_from v (x ∷ xs) = value_from (min (v * 10 + (x - 48)) 10000) xs
+value_from v xs = fold with_digit v xs
 
 -- A number ends before these octets.
 unfoldable pub ends_at : List ℕ → Bool

@@ -59,6 +59,7 @@ pub fn wrong_at(s: &[u8], longest: usize) -> Option<Wrong>
 }
 
 // Moves the octets from octet `from` on to the front; those behind them stay.
+#[tactic(auto, unfolding(rules::specs::Areas::laid))]
 pub fn shift(area: &mut [u8], from: usize)
     ensures { area.new ≡ laid area.old 0 (drop from area.old) }
 {

@@ -1,7 +1,7 @@
 // A list of lengths: decimal numbers with blanks or line feeds between them. What its next number is, of the octets at its front.
 ghost use Rattle.std.specs.Prelude.{◌≡◌, ◌+◌, ◌≤◌, length};
 ghost use Rattle.std.specs.List.{prefix_len};
-ghost use Rattle.streams.specs.Lengths.{is_blank, is_digit, value_from, ends_at, word_of, next_of};
+ghost use Rattle.streams.specs.Lengths.{is_blank, is_digit, with_digit, value_from, ends_at, word_of, next_of};
 
 // What stands next is no number.
 #[derive(Clone, Copy)]
@@ -31,7 +31,7 @@ fn is_digit(x: u8) -> bool
     matches!(x, b'0'..=b'9')
 }
 
-// How many octets at the front are blanks or line feeds.
+// How many octets at the front are blanks or line feeds. A chain of its own, as the digits' is: both in `next_of` are more than its proof takes.
 fn blanks_of(s: &[u8]) -> usize
     ensures { (result ≡ prefix_len is_blank s.now) × (result ≤ length s.now) }
 {
@@ -45,15 +45,21 @@ fn digits_of(s: &[u8]) -> usize
     s.iter().take_while(|x| is_digit(**x)).count()
 }
 
-// The number that these digits are, or 10,000 where it is more: no unit is that long.
+// The number that digits come to with one more, or 10,000 where it is more: no unit is that long.
+fn with_digit(v: usize, x: u8) -> usize
+    ensures { result ≡ with_digit v x }
+{
+    let tens = v.saturating_mul(10);
+    let digit = usize::from(x.saturating_sub(b'0'));
+    tens.saturating_add(digit).min(10000)
+}
+
+// The number that these digits are.
+#[tactic(auto, unfolding(crate::specs::Lengths::value_from))]
 fn value_of(s: &[u8]) -> usize
     ensures { result ≡ value_from 0 s.now }
 {
-    let mut v: usize = 0;
-    for x in s {
-        v = (v * 10 + usize::from(x.saturating_sub(b'0'))).min(10000);
-    }
-    v
+    s.iter().fold(0, |v, x| with_digit(v, *x))
 }
 
 // Whether a number ends before these octets: there are none, or the first is a blank or a line feed.
@@ -65,7 +71,7 @@ fn ends_at(s: &[u8]) -> bool
 }
 
 // What stands next after so many blanks, with so many digits.
-#[tactic(auto, using(crate::proofs::Fronts::rest), unfolding(crate::specs::Lengths::word_of))]
+#[tactic(auto, unfolding(crate::specs::Lengths::word_of))]
 fn word_of(s: &[u8], b: usize, d: usize) -> Result<Option<usize>, NoNumber>
     requires { b + d ≤ length s.now }
     ensures { result ≡ word_of b d s.now }
@@ -83,7 +89,7 @@ fn word_of(s: &[u8], b: usize, d: usize) -> Result<Option<usize>, NoNumber>
 }
 
 // What stands next in a list that goes on with these octets, to its end or beyond the 256th.
-#[tactic(auto, using(crate::proofs::Fronts::rest), unfolding(crate::specs::Lengths::next_of))]
+#[tactic(auto, unfolding(crate::specs::Lengths::next_of))]
 pub fn next_of(s: &[u8]) -> Listed
     ensures value { result ≡ next_of s.now }
     ensures used_in_bounds { result.used ≤ length s.now }

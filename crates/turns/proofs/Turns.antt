@@ -23,7 +23,7 @@ use Rattle.turns.specs.declared.Step.{Step}
 use Rattle.turns.specs.declared.Move.{Move}
 use Rattle.turns.specs.declared.Source.{Source}
 use Rattle.turns.specs.Courses.{sent_fault, one_more, area_before, course_of, sent_on, SentNext, FrameOf, CourseOn, goes_on, counted, ended}
-use Rattle.turns.specs.Turns.{worked, Over, On, Worked, Turned, begun, none, ReadOn, ReadTurn, Taken, own, TakenAt}
+use Rattle.turns.specs.Turns.{worked, Over, On, Worked, Turned, begun, none, Taken, own, TakenAt}
 
 -- ---- frames
 
@@ -115,18 +115,6 @@ unfolding laid
 own-laid area ys from n l =
     sym (append_assoc (take from area) ys (drop n (drop from area)))
     ∙ ap (λ (zs : List ℕ). take from area ++ ys ++ zs) (drop-drop n from area ∙ ap (λ (i : ℕ). drop (from + i) area) (sym l))
-
--- A turn with as many OCF octets as the lane's channel has.
-pub read_by : (writing : Bool) (c : Course) (x : Source) (insert ocf area list : List ℕ) {s : Stream} {a l : List ℕ} (n : ℕ) {r : Step} {area' list' : List ℕ}
-    → ReadOn x.stream area list s a l → take n ocf ≡ take x.ocf ocf → Turned writing c s insert (take n ocf) a l r area' list'
-    → ReadTurn writing c x insert ocf area list r area' list'
-read_by writing c x insert ocf area list {s} {a} {l} n {r} {area'} {list'} d e t = record {
-  stream = s;
-  between = a;
-  listed = l;
-  read = d;
-  turned = subst (λ (o : List ℕ). Turned writing c s insert o a l r area' list') e t;
-}
 
 -- The turn of file k, of which n octets and m of its list were lent.
 pub taken_at : (k : ℕ) (writing : Bool) (c : Course) (x : Source) (insert ocf areas lists : List ℕ) (n m : ℕ) {r : Move} {area list : List ℕ} → n ≡ 65536

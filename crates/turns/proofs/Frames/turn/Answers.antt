@@ -1,11 +1,6 @@
 -- `turns::Frames::turn` meets its contract: with the batch at hand, with the next one, or with none.
-use mathlib.Core.Path.{refl}
-use Rattle.turns.specs.Turns.{on}
 use Rattle.turns.proofs.Turns.{turned-begun, turned_none}
 use Rattle.turns.proofs.Frames.turn.Goals as goal
-
-pub returns-then-s-ne0 : goal.returns-then-s-ne0
-returns-then-s-ne0 c = on c.if-s-ne0.true refl c.work.ensures
 
 pub returns-then-stream-eq0 : goal.returns-then-stream-eq0
 returns-then-stream-eq0 c = turned_none _ _ _ _ _ _ _ c.within-have.result c.if-s-ne0.false c.within-have.ensures.area_value
