@@ -218,28 +218,47 @@ fn open_file(system: &System, path: &[u8]) -> Option<intake::Source> {
     }
 }
 
-// Opens the file that word i names after its first `from` octets, and keeps its name.
-fn open_word(system: &System, i: usize, from: usize, name: &mut [u8; 4096]) -> Option<Opened> {
+// What a function makes of word i, of no octets where there is no such word.
+fn at_word<R, F: FnOnce(&[u8]) -> R>(system: &System, i: usize, f: F) -> R
+    requires { F.IsAlwaysCallable f }
+{
     let mut word = io::buffer();
     let n = console::arg(system, i, &mut word).unwrap_or(0);
-    let at = from.min(n);
-    octets::copy(name, &word[at..n]);
-    let file = open_file(system, &word[at..n])?;
-    Some(Opened { file, name: n - at })
+    f(&word[..n])
+}
+
+// What a word names after its first `from` octets.
+fn behind(word: &[u8], from: usize) -> &[u8] {
+    &word[from.min(word.len())..]
+}
+
+// Opens the file of this name, and keeps the name.
+fn open_named(system: &System, path: &[u8], name: &mut [u8; 4096]) -> Option<Opened> {
+    octets::copy(name, path);
+    let file = open_file(system, path)?;
+    Some(Opened {
+        file,
+        name: path.len(),
+    })
+}
+
+// Opens the file that word i names after its first `from` octets, and keeps its name.
+fn open_word(system: &System, i: usize, from: usize, name: &mut [u8; 4096]) -> Option<Opened> {
+    at_word(
+        system,
+        i,
+        |word| open_named(system, behind(word, from), name),
+    )
 }
 
 // Whether word i is an option.
 fn is_option_at(system: &System, i: usize) -> bool {
-    let mut word = io::buffer();
-    let n = console::arg(system, i, &mut word).unwrap_or(0);
-    words::is_option(&word[..n])
+    at_word(system, i, |word| words::is_option(word))
 }
 
 // Whether word i, if there is one, names a list of lengths.
 fn is_list_at(system: &System, i: usize) -> bool {
-    let mut word = io::buffer();
-    let n = console::arg(system, i, &mut word).unwrap_or(0);
-    words::begins(&word[..n], b"lengths=")
+    at_word(system, i, |word| words::begins(word, b"lengths="))
 }
 
 // The first of n words from word i on that is no option; n where there is none.
@@ -335,7 +354,8 @@ struct Pass<'a> {
     ocf: &'a [u8],
 }
 
-// The files of a round, and how many there are: eight places, since no memory is asked for, of which those with no file hold one of zeros.
+// The files of a round, and how many there are. Eight places, for no memory is asked for, and no Options: where there is no file, one of zeros that is at
+// its end has the turn (`Rounds.file_of`), and so a round of no files has a last turn too.
 #[derive(Clone, Copy)]
 struct Files {
     sources: [Source; 8],
@@ -549,9 +569,11 @@ impl Pass<'_> {
 
     // What word i names.
     fn named_at(&self, i: usize, numbered: usize) -> Named {
-        let mut word = io::buffer();
-        let n = console::arg(self.system, i, &mut word).unwrap_or(0);
-        words::pack_start::name_of(&word[..n], numbered)
+        at_word(
+            self.system,
+            i,
+            |word| words::pack_start::name_of(word, numbered),
+        )
     }
 
     // Goes on with word i: where it names a lane's file, that waits, or has a round of its own where the files take no turns.
@@ -660,7 +682,7 @@ fn plan_all(system: &System, from: usize, n: usize, s: Setting, once: bool) -> P
     let mut plan = words::pack_start::no_plan();
     for i in from..n {
         plan = plan_next(system, plan, i, s, once);
-        if !words::pack_start::is_fine(plan.bad) {
+        if plan.bad.is_some() {
             break;
         }
     }
@@ -707,115 +729,122 @@ fn load_octets(system: &System, i: Option<usize>, from: usize, n: usize, area: &
     let Some(i) = i else {
         return true;
     };
-    let mut word = io::buffer();
-    let end = console::arg(system, i, &mut word).unwrap_or(0);
-    let at = from.min(end);
-    load_file(system, &word[at..end], n, area)
+    at_word(
+        system,
+        i,
+        |word| load_file(system, behind(word, from), n, area),
+    )
 }
 
 // ---- the program
-
-// Looks through all files, and where all are good, writes their frames. Of the insert octets the setting's are taken.
-fn pack_files(system: &System, s: Setting, q: Asked, n: usize, insert: &[u8], ocf: &[u8]) {
-    let i = streams::within(s.insert, insert);
-    let from = after(q.places[0], n);
-    let look = Pass {
-        system,
-        words: n,
-        writing: None,
-        insert: &insert[..i],
-        ocf,
-    };
-    let looked = look.run(s, from);
-    if looked.fault.is_some() {
-        return;
-    }
-    let write = Pass {
-        writing: Some(Writing {
-            together: q.first,
-            hundredth: looked.octets / 100,
-            live: console::progress::is_live(system),
-        }),
-        ..look
-    };
-    let written = write.run(s, from);
-    if written.fault.is_none() {
-        say_done(written.frames);
-    }
-}
 
 // The word after word i of n.
 fn after(i: usize, n: usize) -> usize {
     if i < n { i + 1 } else { n }
 }
 
-// Packs by this setting and plan, with n words.
-fn pack_planned(system: &System, s: Setting, q: Asked, n: usize, p: Plan) {
-    let mut insert = [0u8; 64];
-    let mut ocf = [0u8; 4];
-    if load_octets(system, p.insert, 7, s.insert, &mut insert)
-        && load_octets(system, p.ocf, 4, 4, &mut ocf)
-    {
-        pack_files(system, s, q, n, &insert, &ocf);
-    }
+// What is asked for, by so many words.
+#[derive(Clone, Copy)]
+struct Command<'a> {
+    system: &'a System,
+    asked: Asked,
+    words: usize,
 }
 
-// Packs by this setting, with n words.
-fn pack_all(system: &System, s: Setting, q: Asked, n: usize) {
-    let from = after(q.places[0], n);
-    let p = plan_all(system, from, n, s, q.first);
-    if !words::pack_start::is_fine(p.bad) {
-        return;
+impl Command<'_> {
+    // Looks through all files, and where all are good, writes their frames. Of the insert octets the setting's are taken.
+    fn pack_files(&self, s: Setting, insert: &[u8], ocf: &[u8]) {
+        let i = streams::within(s.insert, insert);
+        let from = after(self.asked.places[0], self.words);
+        let look = Pass {
+            system: self.system,
+            words: self.words,
+            writing: None,
+            insert: &insert[..i],
+            ocf,
+        };
+        let looked = look.run(s, from);
+        if looked.fault.is_some() {
+            return;
+        }
+        let write = Pass {
+            writing: Some(Writing {
+                together: self.asked.first,
+                hundredth: looked.octets / 100,
+                live: console::progress::is_live(self.system),
+            }),
+            ..look
+        };
+        let written = write.run(s, from);
+        if written.fault.is_none() {
+            say_done(written.frames);
+        }
     }
-    if p.lanes {
-        pack_planned(system, s, q, n, p);
-    } else {
-        say_usage();
-    }
-}
 
-// Packs by the setting that was loaded, if it is one.
-fn with_setting(system: &System, l: Loaded, q: Asked, n: usize) {
-    if let Ok(s) = l.judged {
-        pack_all(system, s, q, n);
+    // Packs by this setting and plan.
+    fn pack_planned(&self, s: Setting, p: Plan) {
+        let mut insert = [0u8; 64];
+        let mut ocf = [0u8; 4];
+        if load_octets(self.system, p.insert, 7, s.insert, &mut insert)
+            && load_octets(self.system, p.ocf, 4, 4, &mut ocf)
+        {
+            self.pack_files(s, &insert, &ocf);
+        }
     }
-}
 
-// Packs by the setting in standard input.
-fn pack_input(system: &System, q: Asked, n: usize) {
-    let name = b"standard input";
-    if allowed(system, name, files::of_descriptor(system, 0), false) {
-        let mut area = [0u8; 65537];
-        let input = intake::Source::Input(system.rt.stdin());
-        let l = setting_file::load_open(system, b"pack", name, &input, &mut area);
-        with_setting(system, l, q, n);
+    // Packs by this setting.
+    fn pack_all(&self, s: Setting) {
+        let from = after(self.asked.places[0], self.words);
+        let p = plan_all(self.system, from, self.words, s, self.asked.first);
+        if p.bad.is_some() {
+            return;
+        }
+        if p.lanes {
+            self.pack_planned(s, p);
+        } else {
+            say_usage();
+        }
     }
-}
 
-// Packs by the setting in the file of this name.
-fn pack_by(system: &System, path: &[u8], q: Asked, n: usize) {
-    if allowed(system, path, files::of_name(system, path), false) {
-        let mut area = [0u8; 65537];
-        let l = setting_file::load(system, b"pack", path, &mut area);
-        with_setting(system, l, q, n);
+    // Packs by the setting that was loaded, if it is one.
+    fn with_setting(&self, l: Loaded) {
+        if let Ok(s) = l.judged {
+            self.pack_all(s);
+        }
     }
-}
 
-// Packs by the setting of this name, or by the one in standard input.
-fn with_name(system: &System, path: &[u8], q: Asked, n: usize) {
-    if words::is_dash(path) {
-        pack_input(system, q, n);
-    } else {
-        pack_by(system, path, q, n);
+    // Packs by the setting in standard input.
+    fn pack_input(&self) {
+        let system = self.system;
+        let name = b"standard input";
+        if allowed(system, name, files::of_descriptor(system, 0), false) {
+            let mut area = [0u8; 65537];
+            let input = intake::Source::Input(system.rt.stdin());
+            self.with_setting(setting_file::load_open(system, b"pack", name, &input, &mut area));
+        }
     }
-}
 
-// Takes the setting from the command line, and goes on.
-fn with_words(system: &System, q: Asked, n: usize) {
-    let mut path = io::buffer();
-    match console::arg(system, q.places[0], &mut path) {
-        Some(k) => with_name(system, &path[..k], q, n),
-        None => say_failed(system, b"SETTING"),
+    // Packs by the setting in the file of this name.
+    fn pack_by(&self, path: &[u8]) {
+        let system = self.system;
+        if allowed(system, path, files::of_name(system, path), false) {
+            let mut area = [0u8; 65537];
+            self.with_setting(setting_file::load(system, b"pack", path, &mut area));
+        }
+    }
+
+    // Takes the setting from the command line, a file's or the one in standard input, and goes on.
+    fn with_words(&self) {
+        let mut word = io::buffer();
+        let Some(n) = console::arg(self.system, self.asked.places[0], &mut word) else {
+            return say_failed(self.system, b"SETTING");
+        };
+        let path = &word[..n];
+        if words::is_dash(path) {
+            self.pack_input();
+        } else {
+            self.pack_by(path);
+        }
     }
 }
 
@@ -823,12 +852,12 @@ fn with_words(system: &System, q: Asked, n: usize) {
 
 // Says that a word is no option.
 fn say_unknown(system: &System, i: usize) {
-    let mut word = io::buffer();
-    let n = console::arg(system, i, &mut word).unwrap_or(0);
-    say(
-        &word[..n],
-        b"is no option; expected --interleave, --help or --version",
-    );
+    at_word(system, i, |word| {
+        say(
+            word,
+            b"is no option; expected --interleave, --help or --version",
+        )
+    });
 }
 
 // Prints what was asked for, in the place of frames.
@@ -848,14 +877,14 @@ fn print_help(system: &System) {
     );
 }
 
-// Does what n words ask for, or says why it cannot.
-fn begin(system: &System, start: Start, q: Asked, n: usize) {
+// Does what these words ask for, or says why it cannot.
+fn begin(start: Start, c: Command) {
     match start {
-        Start::Help => print_help(system),
-        Start::Version => print_text(system, b"pack 0.3 (Khachmuren, CCSDS 732.1-B-3)\n"),
-        Start::Unknown(i) => say_unknown(system, i),
+        Start::Help => print_help(c.system),
+        Start::Version => print_text(c.system, b"pack 0.3 (Khachmuren, CCSDS 732.1-B-3)\n"),
+        Start::Unknown(i) => say_unknown(c.system, i),
         Start::Usage => say_usage(),
-        Start::Work => with_words(system, q, n),
+        Start::Work => c.with_words(),
     }
 }
 
@@ -864,7 +893,12 @@ fn main(rt: HostRuntime) {
     let system = intake::system_of(rt);
     let n = console::arg_count(&system);
     if console::may_say(&system, true, n, None) {
-        let q = console::read_words(&system, Program::Pack, n);
-        begin(&system, words::pack_start::start_of(q), q, n);
+        let asked = console::read_words(&system, Program::Pack, n);
+        let command = Command {
+            system: &system,
+            asked,
+            words: n,
+        };
+        begin(words::pack_start::start_of(asked), command);
     }
 }
