@@ -39,21 +39,15 @@ fn say_done(frames: u64) {
 }
 
 // Says how many octets a file should have.
-fn say_expected(path: &[u8], n: u64) {
+fn say_expected(system: &System, path: &[u8], n: usize) {
     console::say_front(b"pack", path);
-    io::write_all(2, b": expected exactly ");
-    io::print_decimal(2, n);
-    io::write_all(2, b" octets\n");
+    let _ = eprintln!(system.rt; ": expected exactly {n} octets");
 }
 
 // Says that a packet is too long.
-fn say_long(path: &[u8], at: u64, n: u64) {
+fn say_long(system: &System, path: &[u8], at: u64, n: usize) {
     console::say_front(b"pack", path);
-    io::write_all(2, b": octet ");
-    io::print_decimal(2, at);
-    io::write_all(2, b": a packet of ");
-    io::print_decimal(2, n);
-    io::write_all(2, b" octets, above the lane's longest\n");
+    let _ = eprintln!(system.rt; ": octet {at}: a packet of {n} octets, above the lane's longest");
 }
 
 // Says something of an octet of a file.
@@ -62,7 +56,7 @@ fn say_octet(path: &[u8], at: u64, what: &[u8]) {
 }
 
 // Says what is wrong with the packet at octet `at` of a file.
-fn say_wrong(path: &[u8], at: u64, w: Wrong) {
+fn say_wrong(system: &System, path: &[u8], at: u64, w: Wrong) {
     match w {
         Wrong::NoPacket => say_octet(
             path,
@@ -70,17 +64,15 @@ fn say_wrong(path: &[u8], at: u64, w: Wrong) {
             b"neither a Space Packet nor an encapsulation packet",
         ),
         Wrong::Idle => say_octet(path, at, b"an idle packet"),
-        Wrong::Long(n) => say_long(path, at, n as u64),
+        Wrong::Long(n) => say_long(system, path, at, n),
         Wrong::Cut => say_octet(path, at, b"a packet that the file's end cuts"),
     }
 }
 
 // Says that the writer refused a batch.
-fn say_refused(path: &[u8], n: u8) {
+fn say_refused(system: &System, path: &[u8], n: u8) {
     console::say_front(b"pack", path);
-    io::write_all(2, b": a batch was refused ");
-    io::print_decimal(2, n as u64);
-    io::write_all(2, b"\n");
+    let _ = eprintln!(system.rt; ": a batch was refused {n}");
 }
 
 // Says what went wrong with a file of this name, or with its list of that name.
@@ -88,7 +80,7 @@ fn say_fault(system: &System, path: &[u8], list: &[u8], fault: Fault) {
     match fault {
         Fault::NotRead => say_failed(system, path),
         Fault::NotListed => say_failed(system, list),
-        Fault::Packet(at, wrong) => say_wrong(path, at, wrong),
+        Fault::Packet(at, wrong) => say_wrong(system, path, at, wrong),
         Fault::NoUnit => say_octet(path, 0, b"expected a unit of at least 1 octet"),
         Fault::LongUnit => say_octet(path, 0, b"a unit above the lane's longest"),
         Fault::CutUnit(at) => say_octet(path, at, b"a unit that the file's end cuts"),
@@ -98,7 +90,7 @@ fn say_fault(system: &System, path: &[u8], list: &[u8], fault: Fault) {
             at,
             b"expected a length of 1 up to the lane's longest",
         ),
-        Fault::Refused(n) => say_refused(path, n),
+        Fault::Refused(n) => say_refused(system, path, n),
         Fault::NotSent => say_failed(system, b"standard output"),
     }
 }
@@ -705,7 +697,7 @@ fn load_open(
         return false;
     }
     if w.have != n {
-        say_expected(path, n as u64);
+        say_expected(system, path, n);
         return false;
     }
     octets::copy(area, &space[..n]);

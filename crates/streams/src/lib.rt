@@ -28,11 +28,12 @@ pub enum Fault {
     CutUnit(u64),
     Left(u64),
     NoLength(u64),
+    // A number, and no `rules::Refusal`: `is_sound` and `turns::end_with` take any.
     Refused(u8),
     NotSent,
 }
 
-// Whether nothing went wrong.
+// Whether nothing went wrong. It is the library's `is_none`, by the name that docs/CONTRACTS.md promises.
 pub fn is_sound(fault: Option<Fault>) -> bool
     ensures { result ≡ sound fault }
 {
