@@ -116,7 +116,7 @@ pub fn no_totals() -> Totals
     }
 }
 
-// The number with the most frames, the lowest of several; 0 where none was refused.
+// The number with the most frames, the lowest of several; 0 where none was refused, of which `put_common` promises a text too, so no Option.
 fn commonest_of(counts: [u64; 13]) -> usize
     ensures { (result ≡ commonest counts 13) × (result < 13) }
 {

@@ -252,7 +252,7 @@ fn put_front(area: &mut [u8], from: usize, k: u64, left: bool, class: Class) -> 
     }
 }
 
-// Puts the line of frame k, which was left out or not.
+// Puts the line of frame k, which was left out or not. That is no Option of the answer: of a frame that was left out all but the class is told too.
 pub fn put_line(area: &mut [u8], from: usize, k: u64, left: bool, v: Verdict, a: Answer) -> usize
     requires { from + 176 ≤ length area.old }
     ensures { Wrote 176 (frame_line k left v a) area.old from area.new result }

@@ -12,7 +12,8 @@ loop-c-init c = (refl, wrote_none _ _ _)
 
 pub loop-c-preserved : goal.loop-c-preserved
 loop-c-preserved c =
-    let t = zip_turn c.args.channels.now c.args.ts.now _ _ _ c.next.new.self c.next.result (search rules) (search rules) c.loop-c.yielded_by _ c.in-Some.is c.next.ensures.steps in
+    let t = zip_turn c.args.channels.now c.args.ts.now _ _ _ c.next.new.self c.next.result (search rules) (search rules)
+    c.loop-c.yielded_by _ c.in-Some.is c.next.ensures.steps in
     let l = c.loop-c in
     let i : ℕ = length l.yielded in
     rw (length-append l.yielded (_ ∷ [])) (
@@ -24,5 +25,6 @@ loop-c-preserved c =
 pub returns : goal.returns
 unfolding channel_lines
 returns c =
-    let e = zip_end c.args.channels.now c.args.ts.now _ _ _ c.next.new.self c.next.result (search rules) (search rules) c.loop-c.yielded_by c.in-None.is c.next.ensures.steps in
+    let e = zip_end c.args.channels.now c.args.ts.now _ _ _ c.next.new.self c.next.result (search rules) (search rules)
+    c.loop-c.yielded_by c.in-None.is c.next.ensures.steps in
     wrote_all _ 920 c.loop-c.invariant.1 (omega (arith, e, c.requires.1)) (omega (arith, e, c.requires.0))
