@@ -1,8 +1,7 @@
 -- A frame's count: what is missing, what lanes drop, and the state after it.
 use mathlib.Core.Path.{◌≡◌, refl, sym, ap, ap₂, ◌∙◌}
 use Prim.Native.Nat.{ℕ, zero, suc, ◌+◌, ◌*◌, ◌%◌, ◌^◌, ◌≤◌, ◌<◌}
-use native.Mathlib.Nat.{zero-lt-suc, pow-le-pow_right, mod-eq_of_lt, add-zero, zero-add, add_assoc}
-use borrow.Author.Tests.{eq-eqb, ne_eqb}
+use native.Mathlib.Nat.{zero-lt-suc, pow-le-pow_right, mod-eq_of_lt, add-zero, add_assoc}
 use native.Mathlib.Numerals.{add-one}
 use native.Mathlib.Omega.{arith}
 use mathlib.Core.Bool.{Bool, true, false, cond}
@@ -94,59 +93,14 @@ module _ (p : Lane → Bool) (ls : List Lane) where
   unfolding lost
   lost-all hs i n h w = sym (w ∙ ap (λ (x : List Lane). n + lost p x (drop i hs)) (drop_of_length-le ls h) ∙ add-zero n)
 
--- ---- the two loops over a setting's lanes
-
 -- Whether a lane is channel c's.
 abbrev pub its : ℕ → Lane → Bool
 its c l = l.channel =? c
 
 -- The lanes below i drop n octets.
-pub record Losing (m : ℕ) (ls : List Lane) (c : ℕ) (hs : List Slot) (n i : ℕ) : Type 0 where
-  pub whole : lost (its c) (take m ls) hs ≡ n + lost (its c) (drop i (take m ls)) (drop i hs)
-  pub small : n ≤ part_size * i
-
-pub losing_none : (m : ℕ) (ls : List Lane) (c : ℕ) (hs : List Slot) → Losing m ls c hs 0 0
-losing_none m ls c hs = record { whole = sym (zero-add _); small = omega arith }
-
-module _ (s : Setting) (c : ℕ) (few : s.numbered ≤ 8) (slots : length s.lanes ≡ 8) where
-  below : (i : ℕ) → i < s.numbered → i < length (lanes_of s)
-  below i h = let e = lanes_long s few slots in omega arith
-
-  yes : (i : ℕ) → i < s.numbered → (lane s i).channel ≡ c → its c (get_or (lanes_of s) i no_lane) ≡ true
-  yes i h e = rw (lane-at s i h) (eq-eqb _ _ e)
-
-  no : (i : ℕ) → i < s.numbered → ((lane s i).channel ≡ c → ⊥) → its c (get_or (lanes_of s) i no_lane) ≡ false
-  no i h e = rw (lane-at s i h) (ne_eqb _ _ e)
-
-  pub drops : (hs t t' : List Slot) (i : ℕ) → length hs ≡ 8 → i < s.numbered → (lane s i).channel ≡ c → t' ≡ set t i no_slot
-      → Emptying (its c) (lanes_of s) hs t i → Emptying (its c) (lanes_of s) hs t' (i + 1)
-  drops hs t t' i k h e et w = let j = w.long in rw et (emptying-drops (its c) (lanes_of s) hs t i (below i h) (omega arith) (yes i h e) w)
-
-  pub keeps : (hs t t' : List Slot) (i : ℕ) → length hs ≡ 8 → i < s.numbered → ((lane s i).channel ≡ c → ⊥) → t' ≡ t
-      → Emptying (its c) (lanes_of s) hs t i → Emptying (its c) (lanes_of s) hs t' (i + 1)
-  keeps hs t t' i k h e et w = let j = w.long in rw et (emptying-keeps (its c) (lanes_of s) hs t i (below i h) (omega arith) (no i h e) w)
-
-  pub loses : (hs : List Slot) (n n' i : ℕ) → length hs ≡ 8 → i < s.numbered → (get_or hs i no_slot).held ≤ 8192 → (lane s i).channel ≡ c
-      → n' ≡ n + (get_or hs i no_slot).held → Losing s.numbered s.lanes c hs n i → Losing s.numbered s.lanes c hs n' (i + 1)
-  loses hs n n' i k h b e en w =
-      record { whole = lost-one (its c) (lanes_of s) hs i n (below i h) (omega arith) w.whole ∙ rw (yes i h e, en); small = let j = w.small in omega arith }
-
-  pub spares : (hs : List Slot) (n n' i : ℕ) → length hs ≡ 8 → i < s.numbered → ((lane s i).channel ≡ c → ⊥) → n' ≡ n
-      → Losing s.numbered s.lanes c hs n i → Losing s.numbered s.lanes c hs n' (i + 1)
-  spares hs n n' i k h e en w =
-      record {
-        whole = lost-one (its c) (lanes_of s) hs i n (below i h) (omega arith) w.whole ∙ rw (no i h e, en, add-zero n);
-        small = let j = w.small in omega arith;
-      }
-
-  over : (i : ℕ) → s.numbered ≤ i → length (lanes_of s) ≤ i
-  over i h = let e = lanes_long s few slots in omega arith
-
-  pub emptied-now : (hs t : List Slot) (i : ℕ) → s.numbered ≤ i → Emptying (its c) (lanes_of s) hs t i → t ≡ emptied (its c) (lanes_of s) hs
-  emptied-now hs t i h w = emptying-all (its c) (lanes_of s) hs t i (over i h) w
-
-  pub lost-now : (hs : List Slot) (n i : ℕ) → s.numbered ≤ i → Losing s.numbered s.lanes c hs n i → n ≡ lost (its c) (lanes_of s) hs
-  lost-now hs n i h w = lost-all (its c) (lanes_of s) hs i n (over i h) w.whole
+pub record Losing (ls : List Lane) (c : ℕ) (hs : List Slot) (n i : ℕ) : Type 0 where
+  pub whole : lost (its c) ls hs ≡ n + lost (its c) (drop i ls) (drop i hs)
+  pub small : n ≤ 65535 * i
 
 -- ---- a gap of a valid state
 

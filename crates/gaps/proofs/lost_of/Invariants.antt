@@ -1,10 +1,6 @@
 -- `gaps::lost_of` meets its contract: the loop keeps what the lanes below i have dropped.
-use Prim.Native.Nat.{◌-◌}
 use Rattle.gaps.proofs.Gaps.{Losing}
 use Rattle.gaps.proofs.lost_of.Given as goal
 
 abbrev pub invariant-loop-i : goal.invariant-loop-i
-invariant-loop-i l = Losing l.n l.lanes l.c l.slots l.lost l.i
-
-abbrev pub decreases-loop-i : goal.decreases-loop-i
-decreases-loop-i l = l.n - l.i
+invariant-loop-i l = Losing l.l-items l.c l.slots l.lost l.i
