@@ -131,7 +131,8 @@ fn commonest_of(counts: [u64; 13]) -> usize
 
 // ---- totals
 
-// Puts a refusal number, how many frames have it, and its words: of 0, and of one past 12, there are none.
+// Puts a refusal number, how many frames have it, and its words: of 0, and of one past 12, there are none. `Words.naming` speaks of every number, and
+// the words are one text, as `put_part` of docs/CONTRACTS.md takes them.
 fn put_naming(area: &mut [u8], from: usize, n: u64, m: u64) -> usize
     requires { from + 186 ≤ length area.old }
     ensures { Wrote 186 (naming n m) area.old from area.new result }
