@@ -5,12 +5,13 @@ use Prim.Native.Nat.{ℕ, zero, suc, ◌+◌, ◌-◌, ◌*◌, ◌%◌, ◌≤�
 use native.Mathlib.Nat.{add-zero, not-suc-le-zero, le_of_suc-le-suc, le_antisymm, le_refl}
 use native.Mathlib.Numerals.{add-one}
 use native.Mathlib.Omega.{arith}
-use lib.ListN.{length, get_or, take, drop, set, length-append, length-drop, length-take, drop_of_length-le}
+use lib.ListN.{length, get_or, take, drop, set, replicate, length-append, length-drop, length-take, drop_of_length-le}
 use lib.Seq.{drop-cons, drop-drop, drop-set-add, take-suc-set, take_all, take_at, drop_at, length-take-le, get_or-take, get_or-drop, paste}
 use lib.Bits.{bit_xor}
+use Rattle.std.proofs.lemmas.List.{take-replicate}
 use borrow.Author.Rules.{part_to_end}
 use borrow.Rule.Slice.PartMut.{put_mid}
-use Rattle.fecf.specs.Folds.{next, carried, plus, later, closed, shorter}
+use Rattle.fecf.specs.Folds.{next, carried, plus, later, closed, preset, shorter}
 use Rattle.fecf.proofs.Folds.{length-plus, drop-plus, length-closed}
 
 -- ---- the long register, carried on
@@ -180,3 +181,12 @@ shortened u n xs a b out m el eo =
     let long = carried u (take (16 * u) a) (take n xs) in
     let there : take (16 * u) (drop n b) ≡ long = placed (16 * u) (length (take n xs)) n b long (length-take-le n xs (omega arith)) el in
     made_shorter u n xs (take (16 * u) a) (take (16 * u) (drop n b)) out m there eo
+
+-- The front of an area of zeros whose first two octets are f.
+pub preset-front : (u n f : ℕ) → 0 < u → 16 * u ≤ n → take (16 * u) (set (set (replicate n 0) 0 f) 1 f) ≡ preset u f
+unfolding preset
+preset-front u zero f pos h = absurd (omega arith)
+preset-front u (suc zero) f pos h = absurd (omega arith)
+preset-front u (suc (suc n)) f pos h =
+    let two : 16 * u ≡ suc (suc (16 * u - 2)) = omega arith in
+    ap (λ (k : ℕ). take k (f ∷ f ∷ replicate n 0)) two ∙ ap (λ (l : List ℕ). f ∷ f ∷ l) (take-replicate (16 * u - 2) n 0 (omega arith))

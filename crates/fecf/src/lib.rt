@@ -4,6 +4,7 @@
 ghost use Rattle.std.specs.Prelude.{◌≡◌, ◌+◌, ◌-◌, ◌*◌, ◌%◌, ◌≤◌, ◌<◌, length, take, drop};
 ghost use Rattle.std.specs.Int.Bits.{bit_xor};
 ghost use Rattle.rules.specs.Octets.{check_of};
+ghost use Rattle.std.specs.Fn.{FnReturnsAt};
 ghost use Rattle.fecf.specs.Remainders.{step_by, from_by};
 ghost use Rattle.fecf.specs.Folds.{carried, plus, later, closed, preset, shorter, shortest, check_by};
 
@@ -117,14 +118,34 @@ fn shorten(u: usize, area: &mut [u8], octets: &[u8])
 
 // ---- the check
 
+// What `next` says of the last 16u octets that are left of at most N, from a register whose two octets are `first`.
+fn shortened<const N: usize, F: Fn(&[u8]) -> u16>(
+    u: usize,
+    first: u8,
+    octets: &[u8],
+    next: F,
+) -> u16
+where
+    F: Drop,
+    requires sizes { (0 < u) × (u ≤ 16) × (2 ≤ N) × (16 * u ≤ length octets.now) × (length octets.now ≤ N) × (N ≤ 256) }
+    requires callable { (x : _) → length x.now ≡ 16 * u → F.pre next x }
+    ensures { FnReturnsAt F.Fn next (shorter u (preset u first) octets.now) result }
+{
+    let mut area = [0u8; N];
+    area[0] = first;
+    area[1] = first;
+    shorten(u, &mut area, octets);
+    let n = octets.len() - 16 * u;
+    let area = &area[..];
+    next(&area[n..n + 16 * u])
+}
+
 // Over 64 octets, from a register of zeros: 32 are left for the table.
 fn check_64(table: &[u16; 256], octets: &[u8]) -> u16
     requires { length octets.now ≡ 64 }
     ensures { result ≡ from_by table.now 0 (shorter 2 (preset 2 0) octets.now) }
 {
-    let mut area = [0u8; 64];
-    shorten(2, &mut area, octets);
-    check_by(table, 0, &area[32..64])
+    shortened::<64, _>(2, 0, octets, |left| check_by(table, 0, left))
 }
 
 // Over 128 octets, from a register of zeros: 64 are left.
@@ -132,9 +153,7 @@ fn check_128(table: &[u16; 256], octets: &[u8]) -> u16
     requires { length octets.now ≡ 128 }
     ensures { result ≡ from_by table.now 0 (shorter 2 (preset 2 0) (shorter 4 (preset 4 0) octets.now)) }
 {
-    let mut area = [0u8; 128];
-    shorten(4, &mut area, octets);
-    check_64(table, &area[64..128])
+    shortened::<128, _>(4, 0, octets, |left| check_64(table, left))
 }
 
 // Over 128 to 256 octets, from a register whose two octets are `first`: 128 are left.
@@ -142,12 +161,7 @@ fn check_256(table: &[u16; 256], first: u8, octets: &[u8]) -> u16
     requires { (128 ≤ length octets.now) × (length octets.now ≤ 256) }
     ensures { result ≡ from_by table.now 0 (shortest first octets.now) }
 {
-    let mut area = [0u8; 256];
-    area[0] = first;
-    area[1] = first;
-    shorten(8, &mut area, octets);
-    let n = octets.len() - 128;
-    check_128(table, &area[n..n + 128])
+    shortened::<256, _>(8, first, octets, |left| check_128(table, left))
 }
 
 // Over 256 octets or more, from a register of ones: 256 are left.
