@@ -9,7 +9,7 @@ ghost use Rattle.batches.specs.Starts.{Passed, StartsAt, Stands, Keeps};
 use rules::{Kind, Measure};
 
 // Passes packets from octet `from` on, up to the first that starts at octet `to` or later: where that is. Nowhere, where one on the way is
-// not whole, is idle or is above the longest.
+// not whole, is idle or is above the longest. A packet's size says where the next one starts: the place is counted by no range or iterator.
 fn packets_to(longest: usize, batch: &[u8], from: usize, to: usize) -> Option<usize>
     requires { (from ≤ length batch.now) × (to ≤ length batch.now) }
     ensures { Passed longest batch.now from to result }

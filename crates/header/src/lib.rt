@@ -36,6 +36,9 @@ pub struct Data {
 
 // ---- fields of a number
 
+// How many bits there are, the first bit and the width stand as numbers in the line that reads or writes a field, as 000 prints them: as constants of a struct
+// with these two for methods, each field would have a third line that says the same.
+
 // The `width` bits from bit `from` on, of a number of `all` bits. Bit 0 is the first and highest.
 fn bits(n: u64, all: u32, from: u32, width: u32) -> u64
     requires { (from + width ≤ all) × (all < 64) }

@@ -57,7 +57,8 @@ fn lay_record(area: &mut [u8], from: usize, info: Info, start: usize, size: usiz
 }
 
 // Hands out a unit of two parts: its octets, its record, and the tally with it. `span` frames carry the first part, each an octet at least; this frame
-// carries the second.
+// carries the second. The areas stand beside one another here and in `settle`, as the read that lends them has them: a struct of two `&mut` would be made and
+// taken apart for each unit, and say nothing that the two do not.
 pub fn hand_out(
     info: Info,
     t: Tally,
