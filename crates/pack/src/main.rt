@@ -107,18 +107,13 @@ fn say_usage() {
 
 // Whether nothing stands against reading a file. Says what does.
 fn allowed(system: &System, path: &[u8], k: Option<Known>, twice: bool) -> bool {
-    let o = words::pack_start::against(k, files::of_descriptor(system, 1), twice);
-    match o {
-        None => true,
-        Some(Objection::NotRegular) => {
-            say(path, b"not a regular file, which is read twice");
-            false
-        }
-        Some(Objection::Output) => {
-            say(path, b"standard output is this file");
-            false
-        }
+    let objection = words::pack_start::against(k, files::of_descriptor(system, 1), twice);
+    match objection {
+        None => {}
+        Some(Objection::NotRegular) => say(path, b"not a regular file, which is read twice"),
+        Some(Objection::Output) => say(path, b"standard output is this file"),
     }
+    objection.is_none()
 }
 
 // ---- the setting's lanes
@@ -261,7 +256,7 @@ fn past_options(system: &System, i: usize, n: usize) -> usize {
 // The list of the file that a word before word i names: the next word, options aside, where it is one.
 fn list_of(system: &System, i: usize, n: usize) -> Option<usize> {
     let j = past_options(system, i, n);
-    if is_list_at(system, j) { Some(j) } else { None }
+    is_list_at(system, j).then_some(j)
 }
 
 // The source of lane l's file and of its list, if it has one, which are open and have names of so many octets.
@@ -397,16 +392,12 @@ fn after_move(p: Place, k: usize, m: Move) -> Place
 {
     let mut files = p.files;
     files.sources[k] = m.source;
-    let next = if has_next(m.course, files) {
-        Some(next_place(k, files.count))
-    } else {
-        None
-    };
+    let next = next_place(k, files.count);
     Place {
         course: m.course,
         files,
         last: k,
-        next,
+        next: has_next(m.course, files).then_some(next),
     }
 }
 
@@ -732,7 +723,7 @@ fn load_octets(system: &System, i: Option<usize>, from: usize, n: usize, area: &
 
 // The word after word i of n.
 fn after(i: usize, n: usize) -> usize {
-    if i < n { i + 1 } else { n }
+    i.saturating_add(1).min(n)
 }
 
 // What is asked for, by so many words.
