@@ -61,7 +61,8 @@ module _ (t : List ℕ) (at : ℕ) where
       past = ap (drop 1) (drop-drop size at t) ∙ drop-drop 1 (at + size) t
 
 -- One further, and none further.
-further : (xs ys : List (List ℕ)) (n k : ℕ) → k < n → ((j : ℕ) → get_or xs (suc j) [] ≡ get_or ys j []) → get_or xs (n - k) [] ≡ get_or ys (n - (k + 1)) []
+further : (xs ys : List (List ℕ)) (n k : ℕ) → k < n
+    → ((j : ℕ) → get_or xs (suc j) [] ≡ get_or ys j []) → get_or xs (n - k) [] ≡ get_or ys (n - (k + 1)) []
 further xs ys n k h e = let z : n - k ≡ suc (n - (k + 1)) = omega arith in ap (λ (j : ℕ). get_or xs j []) z ∙ e (n - (k + 1))
 
 here : (xs : List (List ℕ)) (n k : ℕ) → n ≤ k → get_or xs (n - k) [] ≡ get_or xs 0 []

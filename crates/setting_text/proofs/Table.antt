@@ -19,7 +19,7 @@ use Rattle.setting_text.specs.declared.Ask.{Ask}
 use Rattle.setting_text.specs.declared.Ask.TheVariants as ask
 use Rattle.setting_text.specs.declared.Heard.{Heard}
 use Rattle.setting_text.specs.declared.Trace.{Trace}
-use Rattle.setting_text.specs.Texts.{first, others, number_of}
+use Rattle.setting_text.specs.Texts.{first, number_of}
 use Rattle.setting_text.specs.Texts as texts
 use Rattle.setting_text.specs.Table.{index, Item, item, frame_lines, part_lines, channel_line, lane_head, packets_end, access_end, lane_lines, table, place, in_range, worth, fresh, put, noted_after, noted, Seen, turned, step, follow, through, heard}
 use Rattle.setting_text.specs.Places.{most, Bounded, Sound, seen}

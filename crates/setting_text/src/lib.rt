@@ -13,7 +13,7 @@ ghost use Rattle.setting_text.specs.declared.Ask.TheVariants as ask;
 ghost use Rattle.setting_text.specs.declared.Finding.TheVariants as finds;
 ghost use Rattle.setting_text.specs.declared.Says.TheVariants as say;
 ghost use Rattle.setting_text.specs.Texts.{blank, stops, words, number_of};
-ghost use Rattle.setting_text.specs.Table.{index, field_of, wanted, says, item, word, either, from, end, yes_or_no, direction_line, frame_lines, part_lines, channel_name, channel_line, lane_head, longest_end, packets_end, access_end, lane_lines, place, in_range, worth, fresh, put, counted, noted, step, follow, through, heard};
+ghost use Rattle.setting_text.specs.Table.{index, field_of, wanted, says, item, word, either, from, end, yes_or_no, direction_line, frame_lines, part_lines, channel_name, channel_line, lane_head, longest_end, packets_end, access_end, lane_lines, place, worth, fresh, put, counted, noted, step, follow, through, heard};
 ghost use Rattle.setting_text.specs.Places.{Until, Word, seen, moved, most, Bounded, Sound, Room, Gathering};
 ghost use Rattle.setting_text.specs.Facts.{nothing, refuse, forbid, is_told, with_fact, add_fact, with_channel, with_lane, ocf_unlike, add_channel, channel_of, add_lane, lane_of, add_lane_of, take_heard, take_line, completed, zoneless, judged, parsed};
 
