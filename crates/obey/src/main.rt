@@ -18,6 +18,16 @@ use rows::word_in;
 #[derive(Clone, Copy)]
 struct Said;
 
+// The areas on which requests work.
+#[derive(Drop)]
+struct Areas {
+    desk: [u8; 6440],
+    held: [u8; 65552],
+    units: [u8; 12304],
+    records: [u8; 49184],
+    ghost desk_long: { length desk ≡ 6440 },
+}
+
 // Says what the system had against standard input.
 fn not_read(system: &System) -> Said {
     console::say_failed(system, b"obey", b"standard input");
@@ -71,74 +81,56 @@ fn next(system: &System, input: &Source, q: &mut [u8]) -> Result<Option<usize>, 
     Ok(Some(to))
 }
 
-// Writes the answer to a request: the desk after a call, and the reader's areas after a read. Whether standard output took it all.
-fn tell(
-    system: &System,
-    asks: Asks,
-    desk: &[u8],
-    held: &[u8],
-    units: &[u8],
-    records: &[u8],
-) -> bool {
-    match asks {
-        Asks::Read(_) => {
-            console::write_out(system, desk)
-                && console::write_out(system, held)
-                && console::write_out(system, units)
-                && console::write_out(system, records)
+impl Areas {
+    // Writes the answer to a request: the desk after a call, and the reader's areas after a read. Whether standard output took it all.
+    fn tell(&self, system: &System, asks: Asks) -> bool {
+        match asks {
+            Asks::Read(_) => {
+                console::write_out(system, &self.desk)
+                    && console::write_out(system, &self.held)
+                    && console::write_out(system, &self.units)
+                    && console::write_out(system, &self.records)
+            }
+            Asks::LayHeld | Asks::Blank | Asks::LayDesk => true,
+            _ => console::write_out(system, &self.desk),
         }
-        Asks::LayHeld | Asks::Blank | Asks::LayDesk => true,
-        _ => console::write_out(system, desk),
     }
-}
 
-// Obeys a request, and answers it; says what the system had against standard output, where it did not take the answer.
-fn turn(
-    system: &System,
-    q: &[u8],
-    desk: &mut [u8],
-    held: &mut [u8],
-    units: &mut [u8],
-    records: &mut [u8],
-) -> Result<(), Said>
-    requires { (64 ≤ length q.now) × (length desk.old ≡ 6440) }
-{
-    obey(q, desk, held, units, records);
-    if tell(
-        system,
-        Asks::from(word_in(q, 0)),
-        desk,
-        held,
-        units,
-        records,
-    ) {
-        return Ok(());
+    // Obeys a request, and answers it; says what the system had against standard output, where it did not take the answer.
+    fn turn(&mut self, system: &System, q: &[u8]) -> Result<(), Said>
+        requires { 64 ≤ length q.now }
+    {
+        obey(
+            q,
+            &mut self.desk,
+            &mut self.held,
+            &mut self.units,
+            &mut self.records,
+        );
+        if self.tell(system, Asks::from(word_in(q, 0))) {
+            return Ok(());
+        }
+        console::say_failed(system, b"obey", b"standard output");
+        Err(Said)
     }
-    console::say_failed(system, b"obey", b"standard output");
-    Err(Said)
 }
 
 // Obeys standard input, request after request, to its end, and says how many they were.
 fn obey_all(system: &System) -> Result<(), Said> {
     let input = Source::Input(system.rt.stdin());
     let mut q = [0u8; 65536];
-    let mut desk = [0u8; 6440];
-    let mut held = [0x55u8; 65552];
-    let mut units = [0x55u8; 12304];
-    let mut records = [0x55u8; 49184];
+    let mut areas = Areas {
+        desk: [0u8; 6440],
+        held: [0x55u8; 65552],
+        units: [0x55u8; 12304],
+        records: [0x55u8; 49184],
+    };
     for k in 0..u64::MAX {
         let Some(n) = next(system, &input, &mut q)? else {
             console::say_count(b"obey", b"done: ", k, b" requests");
             break;
         };
-        turn(
-            system,
-            &q[..n],
-            &mut desk,
-            &mut held,
-            &mut units,
-            &mut records,
-        )?;
+        areas.turn(system, &q[..n])?;
     }
     Ok(())
 }

@@ -356,7 +356,7 @@ fn blank_all(held: &mut [u8], units: &mut [u8], records: &mut [u8])
     octets::fill(records, 0x55);
 }
 
-// Obeys a request.
+// Obeys a request. The areas are handed in one by one: what `obey` promises is of areas of any length, and asks that of the desk alone.
 pub fn obey(q: &[u8], desk: &mut [u8], held: &mut [u8], units: &mut [u8], records: &mut [u8])
     requires { (64 ≤ length q.now) × (length desk.old ≡ 6440) }
     ensures { record { desk = desk.exit.now; held = held.new; units = units.new; records = records.new } ≡ obeyed q.now (record { desk = desk.entry.now; held = held.old; units = units.old; records = records.old }) }

@@ -194,7 +194,8 @@ impl Run<'_> {
     }
 }
 
-// How many frames of this length are a hundredth of so many octets; 0 where these do not stay.
+// How many frames of this length are a hundredth of so many octets; 0 where these do not stay. A number, as `console::progress::say_far` takes it:
+// 0 is also what a recording of fewer than a hundred frames has, and the same is said of both.
 fn hundredth_of(plain: bool, size: u64, length: usize) -> u64 {
     if plain && length != 0 {
         size / length as u64 / 100
