@@ -98,7 +98,7 @@ pub enum Stop {
     Return,
 }
 
-// Where a word stands.
+// Where a word stands. Where there is none, an empty one: its place is promised too (`Places.Word`), and the next look goes on from there.
 #[derive(Clone, Copy)]
 pub struct Span {
     pub from: usize,
@@ -690,7 +690,7 @@ impl Draft {
         Ok(self.with_channel(c))
     }
 
-    // The draft with one lane more.
+    // The draft with one lane more. One function for both lists would be handed the list, its count and what is added, for these two lines.
     fn with_lane(self, l: Lane) -> Draft
         requires { self.lists.numbered < 8 }
         ensures { result ≡ with_lane l self }
