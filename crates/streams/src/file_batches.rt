@@ -15,7 +15,7 @@ pub enum Wrong {
     Cut,
 }
 
-// How many octets at the front are the next batch of a packet lane with this longest.
+// How many octets at the front are the next batch of a packet lane with this longest. The loop goes from packet to packet: no range counts that.
 pub fn gather(s: &[u8], longest: usize) -> usize
     ensures value { result ≡ gathered longest s.now }
     ensures upper_bound { result ≤ length s.now }

@@ -316,7 +316,8 @@ impl Frames<'_> {
         }
     }
 
-    // The turn of file k, whose windows are the k-th parts of these areas.
+    // The turn of file k, whose windows are the k-th parts of these areas. Two areas, and no array of windows: `Turns.TakenAt` says of all their octets
+    // which ones stay.
     pub fn turn_at(
         &self,
         inputs: &Inputs,
