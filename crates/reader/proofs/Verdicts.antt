@@ -118,7 +118,9 @@ module _ (r : Reader) (f : List ℕ) where
   -- Of an answer.
   pub found-ok : (w : Verdict) (x : Sighting) (m : ℕ) → Ok x ≡ said_of w → m ≡ missing_for r x → Ok (record { sighting = x; missing = m }) ≡ found_of r f w
   unfolding found_of
-  found-ok w x m e q = ap (λ (i : ℕ). Ok (record { sighting = x; missing = i })) (q ∙ ap (missing_by r) e ∙ missing-found w) ∙ ap (λ (y : Result Sighting ℕ). found_by y (on_look w r f).missing) e
+  found-ok w x m e q =
+      ap (λ (i : ℕ). Ok (record { sighting = x; missing = i })) (q ∙ ap (missing_by r) e ∙ missing-found w)
+      ∙ ap (λ (y : Result Sighting ℕ). found_by y (on_look w r f).missing) e
 
   pub found-err : (w : Verdict) (n : ℕ) → Err n ≡ said_of w → Err n ≡ found_of r f w
   unfolding found_of
@@ -154,7 +156,8 @@ module _ (r : Reader) (f : List ℕ) where
 
 module _ (r : Reader) (f h u c : List ℕ) where
   -- Where no area is short, what is found is what the checks of a read say.
-  pub found-lent : short_of (length h) (length u) (length c) ≡ false → (v : Result Found ℕ) → v ≡ found_of r f (looked r f) → v ≡ found_of r f (verdict r f h u c)
+  pub found-lent : short_of (length h) (length u) (length c) ≡ false → (v : Result Found ℕ) → v ≡ found_of r f (looked r f)
+      → v ≡ found_of r f (verdict r f h u c)
   unfolding areas_short
   found-lent e v q = q ∙ ap (found_of r f) (sym (verdict-looked r f h u c e))
 
