@@ -19,15 +19,16 @@ pub const RECORD_SIZE: usize = 24;
 pub const BATCH_SIZE: usize = 32768;
 
 // What a lane carries: packets that span frames, or access units (MAPA_SDU). The first is what a state of zeros has.
-#[derive(Clone, Copy)]
+#[derive(Clone, Copy, Default)]
 pub enum Kind {
+    #[default]
     Packets,
     Access,
 }
 
 // A virtual channel with a service (0 sequence-controlled, 1 expedited), how many octets its count has, and whether its
 // frames have an operational control field. The service stays a number: set-up refuses any other by 1, and an enum would ask that of its callers.
-#[derive(Clone, Copy)]
+#[derive(Clone, Copy, Default)]
 pub struct Channel {
     pub octets: u8,
     pub vc: u8,
@@ -36,7 +37,7 @@ pub struct Channel {
 }
 
 // A listed channel, by its place in the list; a map; what the lane carries; the longest unit; the protocol number.
-#[derive(Clone, Copy)]
+#[derive(Clone, Copy, Default)]
 pub struct Lane {
     pub longest: u16,
     pub channel: u8,
@@ -69,7 +70,7 @@ pub struct Expect {
 }
 
 // What it expects of each channel, counts beside counts: an array of the pairs would be copied piece by piece, for the gap in each.
-#[derive(Clone, Copy)]
+#[derive(Clone, Copy, Default)]
 pub struct Expects {
     pub counts: [u64; 8],
     pub known: [bool; 8],
@@ -77,7 +78,7 @@ pub struct Expects {
 
 // What a reader keeps of a lane: how many octets it holds, and how many frames of the lane carry them. A lane holds fewer than 8,192 octets, so
 // two octets are enough for each.
-#[derive(Clone, Copy)]
+#[derive(Clone, Copy, Default)]
 pub struct Slot {
     pub held: u16,
     pub span: u16,

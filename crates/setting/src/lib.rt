@@ -222,42 +222,21 @@ pub fn lane_at(s: Setting, c: usize, map: u8) -> Option<usize>
 pub fn no_channel() -> Channel
     ensures { result ≡ no_channel }
 {
-    Channel {
-        vc: 0,
-        service: 0,
-        octets: 0,
-        ocf: false,
-    }
+    Channel::default()
 }
 
 // A lane of zeros.
 pub fn no_lane() -> Lane
     ensures { result ≡ no_lane }
 {
-    Lane {
-        channel: 0,
-        map: 0,
-        kind: Kind::Packets,
-        longest: 0,
-        upid: 0,
-    }
-}
-
-// No count is expected.
-fn no_expects() -> Expects
-    ensures { result ≡ no_expects }
-{
-    Expects {
-        counts: [0; 8],
-        known: [false; 8],
-    }
+    Lane::default()
 }
 
 // The slot of a lane that holds nothing.
 pub fn no_slot() -> Slot
     ensures { result ≡ no_slot }
 {
-    Slot { held: 0, span: 0 }
+    Slot::default()
 }
 
 // What is kept of lane l.
@@ -298,24 +277,6 @@ pub fn with_expect(mut expects: Expects, c: usize, e: Expect) -> Expects
     expects
 }
 
-// A setting of zeros.
-#[tactic(auto, unfolding(rules::specs::Settings::no_setting))]
-fn no_setting() -> Setting
-    ensures { result ≡ no_setting }
-{
-    Setting {
-        length: 0,
-        craft: 0,
-        bit: 0,
-        insert: 0,
-        check: false,
-        listed: 0,
-        channels: [no_channel(); 8],
-        numbered: 0,
-        lanes: [no_lane(); 8],
-    }
-}
-
 // The reader that expects no count and holds no octets.
 #[tactic(auto, unfolding(rules::specs::Settings::fresh_reader))]
 pub fn fresh_reader(s: Setting) -> Reader
@@ -323,8 +284,8 @@ pub fn fresh_reader(s: Setting) -> Reader
 {
     Reader {
         setting: s,
-        expects: no_expects(),
-        slots: [no_slot(); 8],
+        expects: Expects::default(),
+        slots: [Slot::default(); 8],
     }
 }
 
@@ -337,6 +298,24 @@ pub fn fresh_writer(s: Setting) -> Writer
         setting: s,
         counts: [0; 8],
         next: [0; 8],
+    }
+}
+
+// A setting of zeros. (Setting::default() was tried, and the proof did not close: it tells arrays element by element.)
+#[tactic(auto, unfolding(rules::specs::Settings::no_setting))]
+fn no_setting() -> Setting
+    ensures { result ≡ no_setting }
+{
+    Setting {
+        length: 0,
+        craft: 0,
+        bit: 0,
+        insert: 0,
+        check: false,
+        listed: 0,
+        channels: [Channel::default(); 8],
+        numbered: 0,
+        lanes: [Lane::default(); 8],
     }
 }
 
