@@ -96,6 +96,9 @@ pub fn measure_at(octets: &[u8]) -> Measure
 {
     match octets {
         [] => Measure::Lacks(1),
+        // Nearly always it is a Space Packet: where that is asked first, the compiler puts the answer where it is used. Without this line, which says nothing that
+        // `measured_of` does not, a write of frames of 256 octets runs 9.7 % more instructions (3,037,022, and not 2,767,646, for 8 batches).
+        [a, ..] if *a / 32 == 0b000 => space_at(octets),
         [a, ..] => measured_of(*a, octets),
     }
 }
