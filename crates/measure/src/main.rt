@@ -133,7 +133,8 @@ fn glance(o: Looked) -> u64 {
     plus(o.missing, o.lane.map_or(0, |l| plus(l as u64, 1)))
 }
 
-// A take of each frame, after a look where the work asks for one.
+// A take of each frame, after a look where the work asks for one. A flag says so: where a closure did, the one that `pass` calls called it in its turn, and
+// that it may be was tried and not proved.
 fn take(looks: bool, s: Setting, area: &mut [u8]) {
     let mut held = [0u8; rules::HELD_SIZE];
     let mut units = [0u8; rules::UNITS_SIZE];

@@ -81,6 +81,7 @@ pub struct Turn {
 // ---- reading
 
 // Reads a frame of `size` octets, fewer where the recording ends: how many came, and none where the system failed.
+// The loop goes on by as many octets as each read brings, which no range or iterator has for its step.
 fn read_frame(system: &System, from: &Source, frame: &mut [u8], size: usize) -> Option<usize>
     requires { size ≤ length frame.old }
     ensures { IfSome result (λ n. n ≤ size) }
