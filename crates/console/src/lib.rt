@@ -28,11 +28,11 @@ fn plain(x: u8) -> u8
     if x < 32 || x == 127 { b'?' } else { x }
 }
 
-// How many of n octets a name's area of 4,096 takes.
-fn within(n: usize) -> usize
-    ensures { (result ≤ n) × (result ≤ 4096) × (result ≡ cond (n <? 4096) n 4096) }
+// How many of n octets are shown, where no more than so many are.
+fn within<const MOST: usize>(n: usize) -> usize
+    ensures { (result ≤ n) × (result ≤ MOST) × (result ≡ cond (n <? MOST) n MOST) }
 {
-    n.min(4096)
+    n.min(MOST)
 }
 
 // Puts a name to the front of an area so that it stays on one line; how many octets it has there.
@@ -40,7 +40,7 @@ fn put_name(area: &mut [u8], name: &[u8]) -> usize
     requires { length area.old ≡ 4096 }
     ensures { (result ≤ 4096) × (result ≡ cond (length name.now <? 4096) (length name.now) 4096) × (take result area.new ≡ shown (take result name.now)) }
 {
-    let n = within(name.len());
+    let n = within::<4096>(name.len());
     for i in 0..n {
         area[i] = plain(name[i]);
     }
@@ -56,16 +56,9 @@ pub fn say_front(program: &[u8], about: &[u8]) {
     io::write_all(2, &area[..n]);
 }
 
-// How many of a word's n octets are quoted.
-fn quote_size(n: usize) -> usize
-    ensures { (result ≤ n) × (result ≡ cond (60 <? n) 60 n) }
-{
-    n.min(60)
-}
-
 // Quotes a word that was found, its first 60 octets where it is longer.
 pub fn say_quote(word: &[u8]) {
-    let n = quote_size(word.len());
+    let n = within::<60>(word.len());
     let mut area = io::buffer();
     let k = put_name(&mut area, &word[..n]);
     io::write_all(2, b"\"");
@@ -125,7 +118,8 @@ pub fn say_failed(system: &System, program: &[u8], about: &[u8]) {
     io::write_all(2, b"\n");
 }
 
-// Writes all octets to standard output; stops at the first write that takes none or fails.
+// Writes all octets to standard output; stops at the first write that takes none or fails. The library's `write_all` goes on after a signal, and has
+// no number of the system's for a write that takes none: another word would be said.
 pub fn write_out(system: &System, octets: &[u8]) -> bool {
     let mut output = system.rt.stdout();
     let mut done: usize = 0;
@@ -161,12 +155,12 @@ pub fn arg(system: &System, i: usize, area: &mut [u8]) -> Option<usize>
 {
     match system.rt.arg(i, area) {
         Ok(n) => Some(n),
-        Err(FillError::NotPresent) => {
-            intake::keep_number(system, MISSING);
-            None
-        }
-        Err(FillError::TooLong) => {
-            intake::keep_number(system, TOO_LONG);
+        Err(e) => {
+            let number = match e {
+                FillError::NotPresent => MISSING,
+                FillError::TooLong => TOO_LONG,
+            };
+            intake::keep_number(system, number);
             None
         }
     }

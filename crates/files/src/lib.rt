@@ -1,5 +1,5 @@
 // Which file a file is, so that no program writes over what it reads. The system's answer goes along as a value; all that is decided by it has a
-// definition. Three functions ask the system.
+// definition. Four functions ask the system.
 #![tactic(auto)]
 
 ghost use Rattle.std.specs.Prelude.{◌≡◌};
@@ -59,60 +59,78 @@ fn answer(system: &System, got: io::Result<Metadata>) -> Option<Known> {
     }
 }
 
-// Another descriptor of a standard stream's open file: 0, 1 or 2.
-fn again(system: &System, n: i32) -> io::Result<OwnedFd> {
+// A standard stream.
+#[derive(Clone, Copy)]
+enum Stream {
+    Input,
+    Output,
+    Error,
+}
+
+// The standard stream that has this number, if one has.
+fn stream_of(n: i32) -> Option<Stream> {
     match n {
-        0 => system.rt.stdin().as_fd().try_clone_to_owned(),
-        1 => system.rt.stdout().as_fd().try_clone_to_owned(),
-        _ => system.rt.stderr().as_fd().try_clone_to_owned(),
+        0 => Some(Stream::Input),
+        1 => Some(Stream::Output),
+        2 => Some(Stream::Error),
+        _ => None,
+    }
+}
+
+// Another descriptor of a standard stream's open file.
+fn again(system: &System, stream: Stream) -> io::Result<OwnedFd> {
+    match stream {
+        Stream::Input => system.rt.stdin().as_fd().try_clone_to_owned(),
+        Stream::Output => system.rt.stdout().as_fd().try_clone_to_owned(),
+        Stream::Error => system.rt.stderr().as_fd().try_clone_to_owned(),
     }
 }
 
 // The name under which the system has a standard stream's open file.
-fn stream_name(n: i32) -> &'static str {
-    match n {
-        0 => "/proc/self/fd/0",
-        1 => "/proc/self/fd/1",
-        _ => "/proc/self/fd/2",
+fn stream_name(stream: Stream) -> &'static str {
+    match stream {
+        Stream::Input => "/proc/self/fd/0",
+        Stream::Output => "/proc/self/fd/1",
+        Stream::Error => "/proc/self/fd/2",
     }
 }
 
 // Why there is nothing of that name: that the stream is closed, where it is.
-fn why_not(system: &System, n: i32, e: io::Error) -> io::Error {
-    match again(system, n) {
+fn why_not(system: &System, stream: Stream, e: io::Error) -> io::Error {
+    match again(system, stream) {
         Ok(_) => e,
         Err(closed) => closed,
     }
 }
 
 // What the system says of a standard stream.
-fn look_at_stream(system: &System, n: i32) -> Option<Known> {
-    match fs::metadata(&system.rt, stream_name(n)) {
+fn look_at_stream(system: &System, stream: Stream) -> Option<Known> {
+    match fs::metadata(&system.rt, stream_name(stream)) {
         Ok(m) => answer(system, Ok(m)),
-        Err(e) => answer(system, Err(why_not(system, n, e))),
+        Err(e) => answer(system, Err(why_not(system, stream, e))),
     }
+}
+
+// What the system has against a descriptor that is not open; there is no file.
+fn not_open(system: &System) -> Option<Known> {
+    intake::keep_number(system, NOT_OPEN);
+    None
 }
 
 // The file of a standard stream: 0, 1 or 2. Of another number there is none.
 pub fn of_descriptor(system: &System, n: i32) -> Option<Known> {
-    match n {
-        0..=2 => look_at_stream(system, n),
-        _ => {
-            intake::keep_number(system, NOT_OPEN);
-            None
-        }
+    match stream_of(n) {
+        Some(stream) => look_at_stream(system, stream),
+        None => not_open(system),
     }
 }
 
 // The file that is read.
 pub fn of_source(system: &System, from: &Source) -> Option<Known> {
     match from {
-        Source::Input(_) => look_at_stream(system, 0),
+        Source::Input(_) => look_at_stream(system, Stream::Input),
         Source::Of(file) => answer(system, file.metadata()),
-        Source::Nothing => {
-            intake::keep_number(system, NOT_OPEN);
-            None
-        }
+        Source::Nothing => not_open(system),
     }
 }
 

@@ -3,7 +3,7 @@
 // Proved: what the area held is as it was, and what came stands behind it. Left open: that what came is what stands in the file.
 #![tactic(auto)]
 
-ghost use Rattle.std.specs.Prelude.{◌≡◌, ◌≤◌, min, length, IfSome, MatchOption, IsUtf8};
+ghost use Rattle.std.specs.Prelude.{◌≡◌, ◌≤◌, length, IfSome, MatchOption, IsUtf8};
 ghost use Rattle.intake.specs.Windows.{Refilled};
 ghost use Rattle.intake.specs.Sources.{is_something};
 
@@ -17,14 +17,16 @@ const NOT_OPEN: i32 = 9;
 
 const NO_TEXT: i32 = 84;
 
-// The system, and the number of what it had against the call that failed last; 0 before the first.
+// The system, and the number of what it had against the call that failed last: 0 before the first, and of what has no number. That is the system's own
+// number for no error, and is told as one, so as an Option it would become 0 again where it is read.
 #[derive(Drop)]
 pub struct System {
     pub rt: HostRuntime,
     failed: Cell<i32>,
 }
 
-// Where octets come from: standard input, an open file, or a file that could not be opened.
+// Where octets come from: standard input, an open file, or a file that could not be opened. That one is no Option around the others: what reads takes
+// it too and answers for it, so each caller that has one of the others would have to wrap it.
 #[derive(Drop)]
 pub enum Source {
     Input(Stdin),
@@ -32,7 +34,8 @@ pub enum Source {
     Nothing,
 }
 
-// What an area holds of a file: how many octets at its front, which octet of the file the first is, and whether all reads went well.
+// What an area holds of a file: how many octets at its front, which octet of the file the first is, and whether all reads went well. Of one that did
+// not `fill_up` promises the rest too, and `streams::moved` and `streams::begin` go on from it, so the flag is no Result.
 #[derive(Clone, Copy)]
 pub struct Window {
     pub have: usize,
@@ -43,15 +46,14 @@ pub struct Window {
 // The system, before its first call.
 pub fn system_of(rt: HostRuntime) -> System {
     System {
-        rt: rt,
+        rt,
         failed: Cell::new(0),
     }
 }
 
 // Keeps what the system had against a call.
 pub fn keep_failure(system: &System, e: io::Error) {
-    let number = e.raw_os_error().unwrap_or(0);
-    system.failed.set(number);
+    keep_number(system, e.raw_os_error().unwrap_or(0));
 }
 
 // Keeps a number of the system's: 0 where a call went well.
@@ -71,7 +73,7 @@ pub fn path_of<'a>(system: &System, path: &'a [u8]) -> Option<&'a str>
     match str::from_utf8(path) {
         Ok(text) => Some(text),
         Err(_) => {
-            system.failed.set(NO_TEXT);
+            keep_number(system, NO_TEXT);
             None
         }
     }
@@ -96,8 +98,7 @@ pub fn is_open(from: &Source) -> bool
     ensures { result ≡ is_something from.now }
 {
     match from {
-        Source::Input(_) => true,
-        Source::Of(_) => true,
+        Source::Input(_) | Source::Of(_) => true,
         Source::Nothing => false,
     }
 }
@@ -126,37 +127,18 @@ pub fn read_once(system: &System, from: &Source, area: &mut [u8]) -> Option<usiz
     }
 }
 
-// The lesser of two numbers.
-pub fn least(a: usize, b: usize) -> usize
-    ensures { result ≡ min a b }
-{
-    if a < b {
-        return a;
-    }
-    b
-}
-
 // Reads once, behind what the area holds.
 fn refill(system: &System, source: &Source, area: &mut [u8], w: Window) -> Window
     requires { w.have ≤ length area.old }
     ensures { Refilled w area.old result area.new }
 {
-    let from = w.have;
-    let end = area.len();
-    match read_once(system, source, &mut area[from..end]) {
-        None => Window {
-            have: from,
-            at: w.at,
-            good: false,
+    match read_once(system, source, &mut area[w.have..]) {
+        None => Window { good: false, ..w },
+        Some(came) => Window {
+            have: w.have + came,
+            good: true,
+            ..w
         },
-        Some(came) => {
-            let n = least(came, end - from);
-            Window {
-                have: from + n,
-                at: w.at,
-                good: true,
-            }
-        }
     }
 }
 
@@ -170,7 +152,7 @@ pub fn fill_up(system: &System, source: &Source, area: &mut [u8], w: Window) -> 
         let before = window.have;
         window = refill(system, source, area, window);
         if window.have == before {
-            return window;
+            break;
         }
     }
     window

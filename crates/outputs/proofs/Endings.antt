@@ -5,7 +5,7 @@ use mathlib.Core.Bool.{Bool, cond}
 use mathlib.Core.List.{List, ◌++◌}
 use lib.Dec.{lit≤}
 use lib.ListN.{length, take, drop, get_or, drop_of_length-le}
-use lib.Seq.{length-take-le, take_all, drop_at, drop-cons}
+use lib.Seq.{length-take-le, take_all, drop-cons}
 use native.Mathlib.Omega.{arith}
 use borrow.Author.Tests.{lt-ltb, le-ltb, eq-eqb, ne_eqb}
 use Rattle.rules.specs.Listing.{text, decimal}
@@ -14,37 +14,36 @@ use Rattle.listing_text.specs.Puts.{Put}
 use Rattle.unpack_text.specs.Lines.{Wrote}
 use Rattle.unpack_text.proofs.Writes.{wrote_text, wrote_more, wrote_then, wrote_length}
 use Rattle.unpack_text.proofs.Cuts.{wrote-fits, wrote_front}
-use Rattle.outputs.specs.declared.Name.{Name}
 use Rattle.outputs.specs.Names.{ending, mark, finished, Named, last_slash}
 
 module _ {name : List ℕ} {n : ℕ} {name' : List ℕ} {end : ℕ} where
-  pub lane-ending : (i : ℕ) → i < 8 → Wrote 25 (text ".lane" ++ decimal i) name n name' end → Wrote 25 (ending i) name n name' end
+  pub lane_ending : (i : ℕ) → i < 8 → Wrote 25 (text ".lane" ++ decimal i) name n name' end → Wrote 25 (ending i) name n name' end
   unfolding ending
-  lane-ending i h w = rw (lt-ltb i 8 h) w
+  lane_ending i h w = rw (lt-ltb i 8 h) w
 
-  pub table-ending : (i : ℕ) → 8 ≤ i → i ≡ 8 → Put (text ".units.csv") name n name' end → Wrote 25 (ending i) name n name' end
+  pub table_ending : (i : ℕ) → 8 ≤ i → i ≡ 8 → Put (text ".units.csv") name n name' end → Wrote 25 (ending i) name n name' end
   unfolding ending text
-  table-ending i h e p = rw (le-ltb i 8 h, eq-eqb i 8 e) (wrote_more 25 (lit≤ tt) (wrote_text p))
+  table_ending i h e p = rw (le-ltb i 8 h, eq-eqb i 8 e) (wrote_more 25 (lit≤ tt) (wrote_text p))
 
-  pub records-ending : (i : ℕ) → 8 ≤ i → (i ≡ 8 → ⊥) → Put (text ".records") name n name' end → Wrote 25 (ending i) name n name' end
+  pub records_ending : (i : ℕ) → 8 ≤ i → (i ≡ 8 → ⊥) → Put (text ".records") name n name' end → Wrote 25 (ending i) name n name' end
   unfolding ending text
-  records-ending i h e p = rw (le-ltb i 8 h, ne_eqb i 8 e) (wrote_more 25 (lit≤ tt) (wrote_text p))
+  records_ending i h e p = rw (le-ltb i 8 h, ne_eqb i 8 e) (wrote_more 25 (lit≤ tt) (wrote_text p))
 
 -- ---- a name
 
 -- Of a prefix that is longer than 4,096 octets as many, of another one all.
-pub cut-length : (prefix : List ℕ) → 4096 < length prefix → 4096 ≡ length (take 4096 prefix)
-cut-length prefix h = sym (length-take-le 4096 prefix (omega arith))
+pub cut_length : (prefix : List ℕ) → 4096 < length prefix → 4096 ≡ length (take 4096 prefix)
+cut_length prefix h = sym (length-take-le 4096 prefix (omega arith))
 
-pub cut-room : (prefix name : List ℕ) → 4096 < length prefix → 4096 ≤ length name → 0 + length (take 4096 prefix) ≤ length name
-cut-room prefix name h room = omega (arith, cut-length prefix h)
+pub cut_room : (prefix name : List ℕ) → 4096 < length prefix → 4096 ≤ length name → 0 + length (take 4096 prefix) ≤ length name
+cut_room prefix name h room = omega (arith, cut_length prefix h)
 
 module _ (prefix : List ℕ) {name name' : List ℕ} {end : ℕ} where
-  pub long-prefix : 4096 < length prefix → Put (take 4096 prefix) name 0 name' end → Wrote 4096 (take 4096 prefix) name 0 name' end
-  long-prefix h p = record { put = p; most = omega (arith, cut-length prefix h) }
+  pub long_prefix : 4096 < length prefix → Put (take 4096 prefix) name 0 name' end → Wrote 4096 (take 4096 prefix) name 0 name' end
+  long_prefix h p = record { put = p; most = omega (arith, cut_length prefix h) }
 
-  pub whole-prefix : length prefix ≤ 4096 → Put prefix name 0 name' end → Wrote 4096 (take 4096 prefix) name 0 name' end
-  whole-prefix h p = rw (take_all 4096 prefix h) (wrote_more 4096 h (wrote_text p))
+  pub whole_prefix : length prefix ≤ 4096 → Put prefix name 0 name' end → Wrote 4096 (take 4096 prefix) name 0 name' end
+  whole_prefix h p = rw (take_all 4096 prefix h) (wrote_more 4096 h (wrote_text p))
 
 -- Prefix, ending and mark, one put behind the other.
 pub named : (prefix : List ℕ) (i : ℕ) (old : Bool) (number : ℕ) {a₀ a₁ a₂ a₃ : List ℕ} {n at end : ℕ} → length a₀ ≡ 4147
@@ -62,28 +61,19 @@ named prefix i old number {a₀} {a₁} {a₂} {a₃} {n} {at} {end} l p q r =
       room = wrote-fits long (omega arith);
     }
 
--- The mark is what the other name has behind the finished one.
-pub mark-behind : {prefix : List ℕ} {i : ℕ} {m : List ℕ} (w : Name) → Named prefix i m w
-    → (w.at ≤ length (take w.end w.octets)) × (drop w.at (take w.end w.octets) ≡ m)
-mark-behind {prefix} {i} {m} w n =
-    let front : length (finished prefix i) ≡ w.at = sym (ap length n.short) ∙ length-take-le w.at w.octets (omega (arith, n.order, n.room)) in (
-      omega (arith, n.order, length-take-le w.end w.octets n.room),
-      ap (drop w.at) n.long ∙ drop_at (finished prefix i) m w.at front,
-    )
-
 -- ---- the last `/` of a prefix
 
 module _ (l : List ℕ) (i e : ℕ) (h : i < length l) where
-  pub slash-here : get_or l i 0 ≡ 47 → last_slash i e (drop i l) ≡ last_slash (suc i) (suc i) (drop (suc i) l)
+  pub slash_here : get_or l i 0 ≡ 47 → last_slash i e (drop i l) ≡ last_slash (suc i) (suc i) (drop (suc i) l)
   unfolding last_slash
-  slash-here q =
+  slash_here q =
       ap (last_slash i e) (drop-cons l i 0 h) ∙ ap (λ (b : Bool). last_slash (suc i) (cond b (suc i) e) (drop (suc i) l)) (eq-eqb _ _ q)
 
-  pub slash-not : (get_or l i 0 ≡ 47 → ⊥) → last_slash i e (drop i l) ≡ last_slash (suc i) e (drop (suc i) l)
+  pub slash_not : (get_or l i 0 ≡ 47 → ⊥) → last_slash i e (drop i l) ≡ last_slash (suc i) e (drop (suc i) l)
   unfolding last_slash
-  slash-not q =
+  slash_not q =
       ap (last_slash i e) (drop-cons l i 0 h) ∙ ap (λ (b : Bool). last_slash (suc i) (cond b (suc i) e) (drop (suc i) l)) (ne_eqb _ _ q)
 
-pub slash-end : (l : List ℕ) (i e : ℕ) → length l ≤ i → last_slash i e (drop i l) ≡ e
+pub slash_end : (l : List ℕ) (i e : ℕ) → length l ≤ i → last_slash i e (drop i l) ≡ e
 unfolding last_slash
-slash-end l i e h = rw (drop_of_length-le l h)
+slash_end l i e h = rw (drop_of_length-le l h)

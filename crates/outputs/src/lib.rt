@@ -93,6 +93,7 @@ fn put_mark(name: &mut [u8], n: usize, number: u64, old: bool) -> usize
 }
 
 // Puts a prefix to the front of an area, 4,096 octets at most: no word of a command line has more, and the system takes no name that has so many.
+#[tactic(auto, using(crate::proofs::Endings::cut_length, crate::proofs::Endings::cut_room, crate::proofs::Endings::long_prefix))]
 fn put_prefix(name: &mut [u8], prefix: &[u8]) -> usize
     requires { 4096 ≤ length name.old }
     ensures { Wrote 4096 (take 4096 prefix.now) name.old 0 name.new result }
@@ -112,15 +113,22 @@ struct Name {
     end: usize,
 }
 
-// Makes the name of output i's unfinished file, or of the earlier one that is put aside. The finished name is its front.
-fn name_of(prefix: &[u8], number: u64, i: usize, old: bool) -> Name
-    ensures { Named prefix.now i (mark old number) result }
-{
-    let mut octets = [0u8; 4147];
-    let n = put_prefix(&mut octets, prefix);
-    let at = put_ending(&mut octets, n, i);
-    let end = put_mark(&mut octets, at, number, old);
-    Name { octets, at, end }
+impl Name {
+    // The finished name.
+    fn finished(&self) -> &[u8]
+        requires { self.now.at ≤ 4147 }
+        ensures { result.now ≡ take self.now.at self.now.octets }
+    {
+        &self.octets[..self.at]
+    }
+
+    // That with the mark behind it.
+    fn marked(&self) -> &[u8]
+        requires { self.now.end ≤ 4147 }
+        ensures { result.now ≡ take self.now.end self.now.octets }
+    {
+        &self.octets[..self.end]
+    }
 }
 
 // Says that the last call of the system failed on this name.
@@ -128,10 +136,136 @@ fn say_failed(system: &System, name: &[u8]) {
     console::say_failed(system, b"unpack", name);
 }
 
-// Says that it failed on output i's unfinished file.
-pub fn say_part(system: &System, p: Plan, prefix: &[u8], i: usize) {
-    let w = name_of(prefix, p.number, i, false);
-    say_failed(system, &w.octets[..w.end]);
+// The outputs of a run: the system that has them, which there are, and what their names begin with.
+#[derive(Clone, Copy)]
+struct Run<'a> {
+    system: &'a System,
+    plan: Plan,
+    prefix: &'a [u8],
+}
+
+impl Run<'_> {
+    // Makes the name of output i's unfinished file, or of the earlier one that is put aside. The finished name is its front.
+    fn name_of(&self, i: usize, old: bool) -> Name
+        ensures { Named self.now.prefix.now i (mark old self.now.plan.number) result }
+    {
+        let mut octets = [0u8; 4147];
+        let n = put_prefix(&mut octets, self.prefix);
+        let at = put_ending(&mut octets, n, i);
+        let end = put_mark(&mut octets, at, self.plan.number, old);
+        Name { octets, at, end }
+    }
+
+    // Whether output i, if there is one, may take its name.
+    fn may_take(&self, i: usize, f: Kept) -> bool {
+        !has(self.plan, i) || is_free(self.system, self.name_of(i, false).finished(), f)
+    }
+
+    // Makes the unfinished file of output i. Says why where that fails.
+    fn make(&self, i: usize) -> Option<File> {
+        let name = self.name_of(i, false);
+        let file = create(self.system, name.marked());
+        if file.is_none() {
+            say_failed(self.system, name.marked());
+        }
+        file
+    }
+
+    // Says that the last call of the system failed on output i's unfinished file.
+    fn say_part(&self, i: usize) {
+        say_failed(self.system, self.name_of(i, false).marked());
+    }
+
+    // What has the name of output i leaves it: for the name of one put aside, or of an unfinished one. Whether there was something.
+    fn leave_name(&self, i: usize, old: bool) -> Result<bool, Failed> {
+        let name = self.name_of(i, old);
+        move_off(self.system, self.plan.number, old, name.marked(), name.at)
+    }
+
+    // The unfinished file of output i, or the one that was put aside, takes its name.
+    fn take_name(&self, i: usize, old: bool) -> Result<(), Failed> {
+        let name = self.name_of(i, old);
+        move_on(self.system, self.plan.number, old, name.marked(), name.at)
+    }
+
+    // Puts what has the name of output i aside, if there is such an output.
+    fn put_aside(&self, i: usize, s: &mut Stage) -> Result<(), Failed>
+        requires { i < 10 }
+    {
+        if !has(self.plan, i) {
+            return Ok(());
+        }
+        after_aside(s, i, self.leave_name(i, true))
+    }
+
+    // Gives output i its name, if there is such an output.
+    fn give_name(&self, i: usize, s: &mut Stage) -> Result<(), Failed>
+        requires { i < 10 }
+    {
+        if !has(self.plan, i) {
+            return Ok(());
+        }
+        after_given(s, i, self.take_name(i, false))
+    }
+
+    // Puts what has the names of outputs aside, the records first, and then gives each output its name, the records last, up to the first failure.
+    fn give_each(&self, s: &mut Stage) -> Result<(), Failed> {
+        for k in 0..10 {
+            self.put_aside(aside_turn(k), s)?;
+        }
+        for i in 0..10 {
+            self.give_name(i, s)?;
+        }
+        Ok(())
+    }
+
+    // Removes output i's unfinished file, or the earlier one that was put aside, where that can be done.
+    fn remove(&self, i: usize, old: bool) {
+        let name = self.name_of(i, old);
+        if let Some(path) = intake::path_of(self.system, name.marked()) {
+            let _ = went(self.system, fs::remove_file(&self.system.rt, path));
+        }
+    }
+
+    // Removes what was put aside.
+    fn forget_all(&self, s: Stage) {
+        for i in 0..10 {
+            if s.aside[i] {
+                self.remove(i, true);
+            }
+        }
+    }
+
+    // Takes names back, and gives them to what had them, the records last.
+    fn undo_all(&self, s: Stage) {
+        for i in 0..10 {
+            if s.given[i] {
+                let _ = self.leave_name(i, false);
+            }
+            if s.aside[i] {
+                let _ = self.take_name(i, true);
+            }
+        }
+    }
+
+    // Removes the unfinished files of the outputs before output n, where that can be done.
+    fn remove_first(&self, n: usize) {
+        for i in 0..n {
+            if has(self.plan, i) {
+                self.remove(i, false);
+            }
+        }
+    }
+}
+
+// Says that the last call of the system failed on output i's unfinished file.
+pub fn say_part(system: &System, plan: Plan, prefix: &[u8], i: usize) {
+    let run = Run {
+        system,
+        plan,
+        prefix,
+    };
+    run.say_part(i);
 }
 
 // ---- what is there already
@@ -190,15 +324,14 @@ fn is_free(system: &System, name: &[u8], f: Kept) -> bool {
     }
 }
 
-// Whether output i may take its name.
-fn may_take(system: &System, p: Plan, prefix: &[u8], i: usize, f: Kept) -> bool {
-    let w = name_of(prefix, p.number, i, false);
-    is_free(system, &w.octets[..w.at], f)
-}
-
 // Whether each output may take its name: none leads to a file that nothing may replace, by link or by name, and what is there is a regular file.
-pub fn may_take_all(system: &System, p: Plan, prefix: &[u8], f: Kept) -> bool {
-    (0..10).all(|i| !has(p, i) || may_take(system, p, prefix, i, f))
+pub fn may_take_all(system: &System, plan: Plan, prefix: &[u8], f: Kept) -> bool {
+    let run = Run {
+        system,
+        plan,
+        prefix,
+    };
+    (0..10).all(|i| run.may_take(i, f))
 }
 
 // ---- making and keeping
@@ -230,25 +363,19 @@ fn create(system: &System, name: &[u8]) -> Option<File> {
     }
 }
 
-// Makes the unfinished file of output i. Says why where that fails.
-fn make(system: &System, p: Plan, prefix: &[u8], i: usize) -> Option<File> {
-    let w = name_of(prefix, p.number, i, false);
-    let name = &w.octets[..w.end];
-    let file = create(system, name);
-    if file.is_none() {
-        say_failed(system, name);
-    }
-    file
-}
-
 // Makes each unfinished file. Where one fails, those that were made before it are removed, and there is none.
-pub fn make_all(system: &System, p: Plan, prefix: &[u8]) -> Option<[Option<File>; 10]> {
+pub fn make_all(system: &System, plan: Plan, prefix: &[u8]) -> Option<[Option<File>; 10]> {
+    let run = Run {
+        system,
+        plan,
+        prefix,
+    };
     let mut files = [None, None, None, None, None, None, None, None, None, None];
     for i in 0..10 {
-        if has(p, i) {
-            let file = make(system, p, prefix, i);
+        if has(plan, i) {
+            let file = run.make(i);
             if file.is_none() {
-                remove_first(system, p, prefix, i);
+                run.remove_first(i);
                 return None;
             }
             files[i] = file;
@@ -275,7 +402,7 @@ fn write_some(system: &System, file: &Option<File>, octets: &[u8]) -> Option<usi
     }
 }
 
-// Writes all octets to an output that was made; stops at the first write that takes none or fails.
+// Writes all octets to an output that was made; stops at the first write that takes none or fails, as `console::write_out` does, for the same reason.
 pub fn write_all(system: &System, file: &Option<File>, octets: &[u8]) -> bool {
     let mut done: usize = 0;
     while done < octets.len() {
@@ -299,14 +426,21 @@ fn keep(system: &System, file: Option<File>) -> Result<(), Failed> {
 }
 
 // Puts each output on its device and closes it.
-pub fn keep_all(system: &System, p: Plan, files: &mut [Option<File>; 10], prefix: &[u8]) -> bool {
-    for i in 0..10 {
-        if has(p, i) {
-            let file = files[i].take();
-            if keep(system, file).is_err() {
-                say_part(system, p, prefix, i);
-                return false;
-            }
+pub fn keep_all(
+    system: &System,
+    plan: Plan,
+    files: &mut [Option<File>; 10],
+    prefix: &[u8],
+) -> bool {
+    let run = Run {
+        system,
+        plan,
+        prefix,
+    };
+    for (i, file) in files.iter_mut().enumerate() {
+        if has(plan, i) && keep(system, file.take()).is_err() {
+            run.say_part(i);
+            return false;
         }
     }
     true
@@ -351,24 +485,6 @@ fn move_on(system: &System, number: u64, old: bool, long: &[u8], at: usize) -> R
         say_failed(system, long);
     }
     given
-}
-
-// What has the name of output i leaves it: for the name of one put aside, or of an unfinished one. Whether there was something.
-fn leave_name(
-    system: &System,
-    p: Plan,
-    prefix: &[u8],
-    i: usize,
-    old: bool,
-) -> Result<bool, Failed> {
-    let w = name_of(prefix, p.number, i, old);
-    move_off(system, p.number, old, &w.octets[..w.end], w.at)
-}
-
-// The unfinished file of output i, or the one that was put aside, takes its name.
-fn take_name(system: &System, p: Plan, prefix: &[u8], i: usize, old: bool) -> Result<(), Failed> {
-    let w = name_of(prefix, p.number, i, old);
-    move_on(system, p.number, old, &w.octets[..w.end], w.at)
 }
 
 // The output that is put aside in turn k: the records first, so that none stand beside lanes of another run.
@@ -416,44 +532,13 @@ fn after_given(s: &mut Stage, i: usize, given: Result<(), Failed>) -> Result<(),
     Ok(())
 }
 
-// Puts what has the name of output i aside, if there is such an output.
-fn put_aside(system: &System, p: Plan, prefix: &[u8], i: usize, s: &mut Stage) -> Result<(), Failed>
-    requires { i < 10 }
-{
-    if !has(p, i) {
-        return Ok(());
-    }
-    after_aside(s, i, leave_name(system, p, prefix, i, true))
-}
-
-// Gives output i its name, if there is such an output.
-fn give_name(system: &System, p: Plan, prefix: &[u8], i: usize, s: &mut Stage) -> Result<(), Failed>
-    requires { i < 10 }
-{
-    if !has(p, i) {
-        return Ok(());
-    }
-    after_given(s, i, take_name(system, p, prefix, i, false))
-}
-
-// Puts what has the names of outputs aside, the records first, and then gives each output its name, the records last, up to the first failure.
-fn give_each(system: &System, p: Plan, prefix: &[u8], s: &mut Stage) -> Result<(), Failed> {
-    for k in 0..10 {
-        put_aside(system, p, prefix, aside_turn(k), s)?;
-    }
-    for i in 0..10 {
-        give_name(system, p, prefix, i, s)?;
-    }
-    Ok(())
-}
-
 // How many octets of a prefix name its folder: those up to its last `/`.
 fn folder_size(prefix: &[u8]) -> usize
     ensures { (result ≡ last_slash 0 0 prefix.now) × (result ≤ length prefix.now) }
 {
     let mut end: usize = 0;
-    for i in 0..prefix.len() {
-        if prefix[i] == b'/' {
+    for (i, x) in prefix.iter().enumerate() {
+        if *x == b'/' {
             end = i + 1;
         }
     }
@@ -479,60 +564,32 @@ fn keep_names(system: &System, prefix: &[u8]) -> bool {
     }
 }
 
-// Removes output i's unfinished file, or the earlier one that was put aside, where that can be done.
-fn remove(system: &System, p: Plan, prefix: &[u8], i: usize, old: bool) {
-    let w = name_of(prefix, p.number, i, old);
-    if let Some(path) = intake::path_of(system, &w.octets[..w.end]) {
-        let _ = went(system, fs::remove_file(&system.rt, path));
-    }
-}
-
-// Removes what was put aside.
-fn forget_all(system: &System, p: Plan, prefix: &[u8], s: Stage) {
-    for i in 0..10 {
-        if s.aside[i] {
-            remove(system, p, prefix, i, true);
-        }
-    }
-}
-
-// Takes names back, and gives them to what had them, the records last.
-fn undo_all(system: &System, p: Plan, prefix: &[u8], s: Stage) {
-    for i in 0..10 {
-        if s.given[i] {
-            let _ = leave_name(system, p, prefix, i, false);
-        }
-        if s.aside[i] {
-            let _ = take_name(system, p, prefix, i, true);
-        }
-    }
-}
-
 // Gives each output its name, and puts the names on their device. What had the names is put aside first and removed at the end, or gets them again
 // where something fails.
-pub fn give_names(system: &System, p: Plan, prefix: &[u8]) -> bool {
+pub fn give_names(system: &System, plan: Plan, prefix: &[u8]) -> bool {
+    let run = Run {
+        system,
+        plan,
+        prefix,
+    };
     let mut s = no_stage();
-    let good = give_each(system, p, prefix, &mut s).is_ok() && keep_names(system, prefix);
+    let good = run.give_each(&mut s).is_ok() && keep_names(system, prefix);
     if good {
-        forget_all(system, p, prefix, s);
+        run.forget_all(s);
     } else {
-        undo_all(system, p, prefix, s);
+        run.undo_all(s);
     }
     good
 }
 
 // ---- a run that fails
 
-// Removes the unfinished files of the outputs before output n, where that can be done.
-fn remove_first(system: &System, p: Plan, prefix: &[u8], n: usize) {
-    for i in 0..n {
-        if has(p, i) {
-            remove(system, p, prefix, i, false);
-        }
-    }
-}
-
 // Removes the unfinished files that `make_all` made, where that still can be done. The program ends then, and closes them.
-pub fn remove_all(system: &System, p: Plan, prefix: &[u8]) {
-    remove_first(system, p, prefix, 10);
+pub fn remove_all(system: &System, plan: Plan, prefix: &[u8]) {
+    let run = Run {
+        system,
+        plan,
+        prefix,
+    };
+    run.remove_first(10);
 }

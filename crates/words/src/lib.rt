@@ -5,34 +5,25 @@
 pub mod pack_start;
 pub mod unpack_start;
 
-ghost use Rattle.std.specs.Prelude.{◌≡◌, ◌≤◌, length};
+ghost use Rattle.std.specs.Prelude.{◌≡◌, ◌==◌, ◌<◌, ◌≤◌, length, position, IfSome};
 ghost use Rattle.words.specs.Words.{begins as begins_with, is_word, is_option, is_dash, behind as behind_of};
 ghost use Rattle.words.specs.Asked.{word_of, no_asked, named, left_out, asked_next, start_of};
 ghost use Rattle.words.specs.Programs.{word_to};
 
 // Whether these octets begin with that word.
+#[tactic(auto, using(crate::proofs::Words::begins_is))]
 pub fn begins(s: &[u8], word: &[u8]) -> bool
     ensures { result ≡ begins_with word.now s.now }
 {
-    let mut i: usize = 0;
-    while i < word.len() {
-        if s.len() <= i {
-            return false;
-        }
-        if s[i] != word[i] {
-            return false;
-        }
-        i += 1;
-    }
-    true
+    s.starts_with(word)
 }
 
 // Whether these octets are that word.
-#[tactic(auto, unfolding(crate::specs::Words::is_word))]
+#[tactic(auto, using(crate::proofs::Words::same_is))]
 pub fn is_word(s: &[u8], word: &[u8]) -> bool
     ensures { result ≡ is_word word.now s.now }
 {
-    begins(s, word) && s.len() == word.len()
+    s == word
 }
 
 // Whether a word is an option.
@@ -51,18 +42,23 @@ pub fn is_dash(s: &[u8]) -> bool
     is_word(s, b"-")
 }
 
+// Where the first `=` of a word stands.
+fn equals_at(s: &[u8]) -> Option<usize>
+    ensures value { result ≡ position (λ x. x == 61) s.now }
+    ensures bound { IfSome result (λ i. i < length s.now) }
+{
+    s.iter().position(|x| *x == b'=')
+}
+
 // How many octets of a word stand up to its first `=`, with it: what stands behind names a file, where a word names one. 0 where it has none.
+#[tactic(auto, using(crate::proofs::Words::behind_some, crate::proofs::Words::behind_none))]
 pub fn behind(s: &[u8]) -> usize
     ensures { (result ≡ behind_of 0 s.now) × (result ≤ length s.now) }
 {
-    let mut i: usize = 0;
-    while i < s.len() {
-        if s[i] == b'=' {
-            return i + 1;
-        }
-        i += 1;
+    match equals_at(s) {
+        Some(i) => i + 1,
+        None => 0,
     }
-    0
 }
 
 // ---- what all words ask for

@@ -5,8 +5,5 @@ use Rattle.intake.proofs.fill_up.Goals as goal
 pub loop-window-init : goal.loop-window-init
 loop-window-init c = refilled-none _ _ c.requires
 
-pub returns-then-window-before : goal.returns-then-window-before
-returns-then-window-before c = refilled-then c.loop-window.invariant c.refill-window.ensures c.loop-window.auto.area
-
 pub loop-window-preserved : goal.loop-window-preserved
 loop-window-preserved c = refilled-then c.loop-window.invariant c.refill-window.ensures c.loop-window.auto.area

@@ -1,8 +1,8 @@
--- `outputs::name_of`: what its callees promise is enough.
+-- `outputs::Run::name_of`: what its callees promise is enough.
 use Rattle.outputs.proofs.Endings.{named}
 use Prim.Native.Nat.{ℕ}
 use lib.ListN.{length-replicate}
-use Rattle.outputs.proofs.name_of.Goals as goal
+use Rattle.outputs.proofs.Run.name_of.Goals as goal
 
 pub returns : goal.returns
 returns c =
