@@ -1,11 +1,11 @@
 -- What follows a prefix, put by its case, and the folder that a prefix names.
-use Prim.Native.Nat.{ℕ, suc, ◌+◌, ◌≤◌, ◌<◌}
-use mathlib.Core.Path.{◌≡◌, sym, ap, ◌∙◌}
-use mathlib.Core.Bool.{Bool, cond}
-use mathlib.Core.List.{List, ◌++◌}
+use Prim.Native.Nat.{ℕ, zero, suc, ◌+◌, ◌≤◌, ◌<◌}
+use mathlib.Core.Path.{◌≡◌, refl, sym, ap, ◌∙◌}
+use mathlib.Core.Bool.{Bool}
+use mathlib.Core.List.{List, [], ◌∷◌, ◌++◌}
 use lib.Dec.{lit≤}
-use lib.ListN.{length, take, drop, get_or, drop_of_length-le}
-use lib.Seq.{length-take-le, take_all, drop-cons}
+use lib.ListN.{length, take, get_or}
+use lib.Seq.{length-take-le, take_all}
 use native.Mathlib.Omega.{arith}
 use borrow.Author.Tests.{lt-ltb, le-ltb, eq-eqb, ne_eqb}
 use Rattle.rules.specs.Listing.{text, decimal}
@@ -63,17 +63,18 @@ named prefix i old number {a₀} {a₁} {a₂} {a₃} {n} {at} {end} l p q r =
 
 -- ---- the last `/` of a prefix
 
-module _ (l : List ℕ) (i e : ℕ) (h : i < length l) where
-  pub slash_here : get_or l i 0 ≡ 47 → last_slash i e (drop i l) ≡ last_slash (suc i) (suc i) (drop (suc i) l)
-  unfolding last_slash
-  slash_here q =
-      ap (last_slash i e) (drop-cons l i 0 h) ∙ ap (λ (b : Bool). last_slash (suc i) (cond b (suc i) e) (drop (suc i) l)) (eq-eqb _ _ q)
-
-  pub slash_not : (get_or l i 0 ≡ 47 → ⊥) → last_slash i e (drop i l) ≡ last_slash (suc i) e (drop (suc i) l)
-  unfolding last_slash
-  slash_not q =
-      ap (last_slash i e) (drop-cons l i 0 h) ∙ ap (λ (b : Bool). last_slash (suc i) (cond b (suc i) e) (drop (suc i) l)) (ne_eqb _ _ q)
-
-pub slash_end : (l : List ℕ) (i e : ℕ) → length l ≤ i → last_slash i e (drop i l) ≡ e
+pub slash_none : (s : List ℕ) (n e : ℕ) → ((k : ℕ) → k < length s → get_or s k 0 ≡ 47 → ⊥) → e ≡ last_slash n e s
 unfolding last_slash
-slash_end l i e h = rw (drop_of_length-le l h)
+slash_none [] n e h = refl
+slash_none (x ∷ xs) n e h =
+    rw (ne_eqb x 47 (h 0 (omega arith))) (slash_none xs (suc n) e (λ k l. h (suc k) (omega (arith, l))))
+
+pub slash_last : (s : List ℕ) (n e i : ℕ) → i < length s → get_or s i 0 ≡ 47
+    → ((k : ℕ) → i < k → k < length s → get_or s k 0 ≡ 47 → ⊥) → n + i + 1 ≡ last_slash n e s
+unfolding last_slash
+slash_last [] n e i l q h = absurd (omega (arith, l))
+slash_last (x ∷ xs) n e zero l q h =
+    rw (eq-eqb x 47 q)
+    (omega arith ∙ slash_none xs (suc n) (suc n) (λ k m. h (suc k) (omega arith) (omega (arith, m))))
+slash_last (x ∷ xs) n e (suc i) l q h =
+    omega arith ∙ slash_last xs (suc n) _ i (omega (arith, l)) q (λ k a b. h (suc k) (omega (arith, a)) (omega (arith, b)))

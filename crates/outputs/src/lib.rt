@@ -4,7 +4,7 @@
 // is called, and in which order they are taken is promised; what the system then does with a name is shown by runs.
 #![tactic(auto)]
 
-ghost use Rattle.std.specs.Prelude.{◌≡◌, ◌+◌, ◌≤◌, ◌<◌, length, take, drop, IfSome};
+ghost use Rattle.std.specs.Prelude.{◌≡◌, ◌≢◌, ℕ, ◌+◌, ◌≤◌, ◌<◌, length, take, drop, slice_index, IfSome, MatchOption};
 ghost use Rattle.unpack_text.specs.Lines.{Wrote};
 ghost use Rattle.outputs.specs.Names.{has_output, ending, mark, Named, plain_fit, fit_of, aside_turn, no_stage, put_aside, gave, went, last_slash};
 
@@ -12,7 +12,7 @@ use files::Known;
 use intake::{Source, System};
 use std::fs::{File, OpenOptions};
 use std::io::Write;
-use std::{fs, io};
+use std::{array, fs, io};
 
 // The number that the system has for a descriptor that is not open.
 const NOT_OPEN: i32 = 9;
@@ -105,7 +105,8 @@ fn put_prefix(name: &mut [u8], prefix: &[u8]) -> usize
     }
 }
 
-// A name: its octets, how many of them are the finished name, and how many are that with the mark behind it.
+// A name: its octets, how many of them are the finished name, and how many are that with the mark behind it. No memory is asked for, so it has an area
+// of its own, and says how much of that it takes.
 #[derive(Clone, Copy)]
 struct Name {
     octets: [u8; 4147],
@@ -370,7 +371,7 @@ pub fn make_all(system: &System, plan: Plan, prefix: &[u8]) -> Option<[Option<Fi
         plan,
         prefix,
     };
-    let mut files = [None, None, None, None, None, None, None, None, None, None];
+    let mut files = array::from_fn(|_| None);
     for i in 0..10 {
         if has(plan, i) {
             let file = run.make(i);
@@ -532,17 +533,19 @@ fn after_given(s: &mut Stage, i: usize, given: Result<(), Failed>) -> Result<(),
     Ok(())
 }
 
+// Where the last `/` of a prefix stands.
+fn slash_at(prefix: &[u8]) -> Option<usize>
+    ensures { MatchOption result ((k : ℕ) → k < length prefix.now → slice_index prefix.now k ≢ 47) (λ i. (i < length prefix.now) × (slice_index prefix.now i ≡ 47) × ((k : ℕ) → i < k → k < length prefix.now → slice_index prefix.now k ≢ 47)) }
+{
+    prefix.iter().rposition(|x| *x == b'/')
+}
+
 // How many octets of a prefix name its folder: those up to its last `/`.
+#[tactic(auto, using(crate::proofs::Endings::slash_none, crate::proofs::Endings::slash_last))]
 fn folder_size(prefix: &[u8]) -> usize
     ensures { (result ≡ last_slash 0 0 prefix.now) × (result ≤ length prefix.now) }
 {
-    let mut end: usize = 0;
-    for (i, x) in prefix.iter().enumerate() {
-        if *x == b'/' {
-            end = i + 1;
-        }
-    }
-    end
+    slash_at(prefix).map_or(0, |i| i + 1)
 }
 
 // Puts the names of a folder on its device.

@@ -50,7 +50,8 @@ fn equals_at(s: &[u8]) -> Option<usize>
     s.iter().position(|x| *x == b'=')
 }
 
-// How many octets of a word stand up to its first `=`, with it: what stands behind names a file, where a word names one. 0 where it has none.
+// How many octets of a word stand up to its first `=`, with it: what stands behind names a file, where a word names one. 0 where it has none: the
+// count is what the contract promises, and then the whole word stands behind.
 #[tactic(auto, using(crate::proofs::Words::behind_some, crate::proofs::Words::behind_none))]
 pub fn behind(s: &[u8]) -> usize
     ensures { (result ≡ behind_of 0 s.now) × (result ≤ length s.now) }
@@ -116,7 +117,7 @@ pub fn word_of(word: &[u8]) -> Word
     }
 }
 
-// The programs whose words are told here.
+// The programs whose words are told here. This is an enum and no closure: `Programs.word_to` says of each what its words are.
 #[derive(Clone, Copy)]
 pub enum Program {
     Unpack,
