@@ -1,8 +1,6 @@
 -- The checks of a frame, one question after another.
-use Rattle.std.specs.Prelude.{ℕ, ◌-◌, Bool, cond, not, ◌&&◌, ◌||◌, List, length}
+use Rattle.std.specs.Prelude.{ℕ, ◌-◌, Bool, cond, not, ◌&&◌, ◌||◌, List, length, Option, Some, None}
 use Rattle.rules.specs.declared.Setting.{Setting}
-use Rattle.std.specs.Prelude.{Option}
-use Rattle.std.specs.Prelude.{Some, None}
 use Rattle.rules.specs.declared.Verdict.{Verdict}
 use Rattle.rules.specs.declared.Verdict.TheVariants.{Refused, Idle, Counted, Read}
 use Rattle.rules.specs.declared.Lane.{Lane}

@@ -1,7 +1,6 @@
 -- What is found of a frame, by the rules' verdict.
-use Rattle.std.specs.Prelude.{◌≡◌, true, ℕ, ◌^◌, ◌<◌, List, length, Result, Ok, Err}
+use Rattle.std.specs.Prelude.{◌≡◌, true, ℕ, ◌^◌, ◌<◌, List, length, Result, Ok, Err, Some, None}
 use Rattle.rules.specs.declared.Setting.{Setting}
-use Rattle.std.specs.Prelude.{Some, None}
 use Rattle.rules.specs.declared.Verdict.{Verdict}
 use Rattle.rules.specs.Settings.{channel, lane, channel_of, zone_at, zone_for, setting_ok}
 use Rattle.rules.specs.Frames.{count_in, rule_in, pointer_in, points_to}

@@ -14,7 +14,8 @@ use Rattle.rules.specs.Settings.{channel, channel_of, number, zone}
 use Rattle.rules.specs.Calls.{set_up_reader, set_up_writer}
 use Rattle.rules.specs.Valid.{Good}
 use Rattle.rules.proofs.Counts.{counts_many}
-use Rattle.rules.proofs.Tests.{and_left, and_right, and_both}
+use Rattle.rules.proofs.Tests.{and_left, and_right}
+use Rattle.std.proofs.lemmas.Bool.{and_from}
 use Rattle.link.specs.Link.{Call, Frame, place_of, start_of, frame_by, Event, Writes, Copy, Stray, arrives, place_in, flown, sent, octets_in}
 use Rattle.link.specs.Due.{none_gone, due}
 use Rattle.link.specs.Demand.{kept_on, few_gone, frames_of, Run}
@@ -33,7 +34,7 @@ module _ (c : ℕ) where
   unfolding all_kept none_gone
   kept-none-gone [] h = refl
   kept-none-gone (f ∷ fs) h =
-      and_both (cond (f.channel =? c) f.kept true) (none_gone c fs) (by (f.channel =? c))
+      and_from (cond (f.channel =? c) f.kept true) (none_gone c fs) (by (f.channel =? c))
       (kept-none-gone fs (and_right f.kept _ h))
     where
       by : (t : Bool) → cond t f.kept true ≡ true
@@ -52,7 +53,7 @@ module _ (c : ℕ) where
       near false = refl
 
       by : (t k : Bool) → k ≡ true → ((t : Bool) → few_gone m t 0 (kept_on c fs) ≡ true) → few_gone m any 0 (cond t (k ∷ []) [] ++ kept_on c fs) ≡ true
-      by true true e r = and_both (not any || 0 <? m) _ (near any) (r true)
+      by true true e r = and_from (not any || 0 <? m) _ (near any) (r true)
       by true false e r = absurd (false≢true e)
       by false k e r = r any
 

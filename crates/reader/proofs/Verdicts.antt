@@ -22,13 +22,12 @@ use Rattle.rules.proofs.Valid.{good_reader}
 use Rattle.rules.proofs.Looks.{verdict-looked, looked-cond}
 use Rattle.rules.proofs.Promises.{Keeps, read_by}
 use Rattle.rules.proofs.Calls.{areas-long, Ordered, Ruled, verdict-cond, verdict-facts}
-use Rattle.std.specs.Prelude.{Result, Ok, Err}
+use Rattle.std.specs.Prelude.{Result, Ok, Err, Some, None}
 use Rattle.judge.specs.declared.Sight.{Sight}
 use Rattle.judge.specs.declared.Sighting.{Sighting}
 use Rattle.judge.specs.declared.Sighting.TheVariants.{Seen}
 use Rattle.judge.specs.Sights.{read_sight, sight_of, Fitting}
 use Rattle.judge.proofs.Sights.{counted-sight, read-sight}
-use Rattle.std.specs.Prelude.{Some, None}
 use Rattle.reader.specs.Reads.{short_of, short_refusal, counted_of, OnLane, SeenOn}
 use Rattle.reader.specs.declared.Found.{Found}
 use Rattle.reader.specs.Finds.{Sound, again_of, missing_for, found_by, found_of, shown_of}

@@ -1,9 +1,7 @@
 -- The one judgement of state and frame: what is found, and how a look shows it.
-use Rattle.std.specs.Prelude.{◌≡◌, true, cond, ℕ, ◌^◌, ◌<◌, List, Result, Ok, Err}
+use Rattle.std.specs.Prelude.{◌≡◌, true, cond, ℕ, ◌^◌, ◌<◌, List, Result, Ok, Err, Option, Some, None}
 use Rattle.rules.specs.declared.Class.{Class}
 use Rattle.rules.specs.declared.Looked.{Looked}
-use Rattle.std.specs.Prelude.{Option}
-use Rattle.std.specs.Prelude.{Some, None}
 use Rattle.rules.specs.declared.Reader.{Reader}
 use Rattle.rules.specs.declared.Verdict.{Verdict}
 use Rattle.rules.specs.Settings.{channel, reader_ok}

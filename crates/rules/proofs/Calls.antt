@@ -26,7 +26,8 @@ use Rattle.rules.specs.Writing.{batch_ok, frames}
 use Rattle.rules.specs.Reading.{gap, octets_of, Made, keeps}
 use Rattle.rules.specs.Refusals.{refusals, judged, judge}
 use Rattle.rules.specs.Calls.{refusal_of, by_number, set_up_reader, set_up_writer, write_refusals, written, write, areas_short, bare, laid_out, holding, made_by, read_on, repeats_at, again, on_verdict, read_refusals, verdict, read}
-use Rattle.rules.proofs.Tests.{or-none, given-zero}
+use Rattle.std.proofs.lemmas.Bool.{or_parts}
+use Rattle.rules.proofs.Tests.{given-zero}
 use Rattle.rules.proofs.Areas.{length-laid}
 use Rattle.rules.specs.Valid.{GoodKind, GoodSlot, GoodReader, GoodWriter}
 use Rattle.rules.proofs.Valid.{good_reader, good_writer, good_channel_of}
@@ -92,7 +93,7 @@ module _ (w : Writer) (l : ℕ) (batch insert ocf area : List ℕ) where
       let r₁₄ = given-zero _ _ r₁₃.1 in
       let r₁₅ = given-zero _ _ r₁₄.1 in
       let r₁₆ = given-zero _ _ r₁₅.1 in
-      let o = or-none _ _ r₁₅.0 in
+      let o = or_parts _ _ r₁₅.0 in
       record {
         good = good_writer w (not-false _ r₁.0);
         room = ltb-false _ _ r₂.0;
@@ -338,8 +339,8 @@ module _ (r : Reader) (f h : List ℕ) (l : ℕ) (g : GoodReader r) (lh : l < r.
 pub areas-long : (h u c : List ℕ) → areas_short h u c ≡ false → (length h ≡ held_size) × (units_size ≤ length u) × (records_size ≤ length c)
 unfolding areas_short
 areas-long h u c e =
-    let a = or-none _ _ e in
-    let b = or-none _ _ a.0 in
+    let a = or_parts _ _ e in
+    let b = or_parts _ _ a.0 in
     (eqb-true _ _ (not-false _ b.0), ltb-false _ _ b.1, ltb-false _ _ a.1)
 
 -- ---- a valid state stays valid, and what is handed out fits, over every read

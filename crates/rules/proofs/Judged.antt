@@ -8,8 +8,7 @@ use mathlib.Core.List.{List}
 use lib.ListN.{length, take}
 use borrow.Author.Tests.{ltb-true, eqb-true, eqb-false, not-false}
 use Rattle.rules.specs.declared.Setting.{Setting}
-use Rattle.std.specs.Prelude.{Option}
-use Rattle.std.specs.Prelude.{Some, None}
+use Rattle.std.specs.Prelude.{Option, Some, None}
 use Rattle.rules.specs.declared.Verdict.{Verdict}
 use Rattle.rules.specs.declared.Verdict.TheVariants.{Refused, Idle, Counted, Read, Repeat}
 use Rattle.rules.specs.Tests.{◌<?◌, ◌=?◌, ◌≠?◌, none, at, given}
@@ -18,7 +17,8 @@ use Rattle.rules.specs.Settings.{channel, lane, zone}
 use Rattle.rules.specs.Frames.{version, craft, source_bit, vc, map, end_of_header, length_field, bypass, command, spare, ocf_flag, count_length, pointer_in, check_holds, points_to}
 use Rattle.rules.specs.Refusals.{channel_at, lane_at, data_wrong, refusals_at, refusals, on_channel, passed, judged, judge}
 use Rattle.rules.specs.Valid.{Inside, Reads}
-use Rattle.rules.proofs.Tests.{and_left, or-none, Found, first_found, given_skip, given-none, given-zero}
+use Rattle.std.proofs.lemmas.Bool.{or_parts}
+use Rattle.rules.proofs.Tests.{and_left, Found, first_found, given_skip, given-none, given-zero}
 
 -- ---- the rows of the table, none of which applies
 
@@ -102,8 +102,8 @@ module _ (s : Setting) (f : List ℕ) where
   data-right : (c l : ℕ) → (lane s l).channel ≡ c → l < s.numbered → length f ≡ s.length → data_wrong s c l f ≡ false → Reads s f l
   unfolding data_wrong zone
   data-right c l q h n e =
-      let a = or-none _ _ (rw n at e) in
-      let b = or-none _ _ a.0 in
+      let a = or_parts _ _ (rw n at e) in
+      let b = or_parts _ _ a.0 in
       record {
         numbered = h;
         whole = n;

@@ -11,8 +11,7 @@ use Rattle.rules.specs.declared.Class.{Class}
 use Rattle.rules.specs.declared.Looked.{Looked}
 use Rattle.rules.specs.declared.Passed.{Passed}
 use Rattle.rules.specs.declared.Taken.{Taken}
-use Rattle.std.specs.Prelude.{Option}
-use Rattle.std.specs.Prelude.{Some, None}
+use Rattle.std.specs.Prelude.{Option, Some, None}
 use Rattle.rules.specs.declared.Verdict.{Verdict}
 use Rattle.rules.specs.Tests.{at, given}
 use Rattle.rules.specs.Settings.{channel, lane, channel_of, reader_ok, with_expect}

@@ -10,7 +10,7 @@ use borrow.Author.Tests.{eqb-true, eq-eqb, ne_eqb, not-false}
 use Rattle.rules.specs.declared.Setting.{Setting}
 use Rattle.rules.specs.declared.Reader.{Reader}
 use Rattle.rules.specs.declared.Writer.{Writer}
-use Rattle.std.specs.Prelude.{Result, Ok, Err, get_or, ◌-◌}
+use Rattle.std.specs.Prelude.{Result, Ok, Err, get_or, ◌-◌, Option, Some, None}
 use Rattle.rules.specs.declared.Refusal.{Refusal}
 use Rattle.rules.specs.declared.Class.{Class}
 use Rattle.rules.specs.declared.Answer.{Answer}
@@ -19,8 +19,6 @@ use Rattle.rules.specs.declared.Listener.{Listener}
 use Rattle.rules.specs.declared.Looked.{Looked}
 use Rattle.rules.specs.declared.Sender.{Sender}
 use Rattle.rules.specs.declared.Verdict.{Verdict}
-use Rattle.std.specs.Prelude.{Option}
-use Rattle.std.specs.Prelude.{Some, None}
 use Rattle.rules.specs.Tests.{◌=?◌, none, number_of, Row, given, answered}
 use Rattle.rules.specs.Settings.{channel, lane, setting_ok, fresh_reader, fresh_writer, no_reader, no_writer}
 use Rattle.rules.specs.Frames.{vc, map, bypass, command, count_in}

@@ -4,11 +4,11 @@ use Prim.Native.Nat.{ℕ, zero, suc, ◌≤◌, ◌<◌}
 use native.Mathlib.Nat.{not-suc-le-zero, le_antisymm, lt_of_not-le}
 use native.Mathlib.Decide.{dec_le}
 use native.Mathlib.Omega.{arith}
-use mathlib.Core.Bool.{Bool, true, false, cond, ◌&&◌, ◌||◌, and-eq-true_iff, true≢false}
+use mathlib.Core.Bool.{Bool, true, false, cond, ◌&&◌, and-eq-true_iff, true≢false}
 use mathlib.Core.List.{List, [], ◌∷◌}
 use lib.ListN.{get_or, replicate}
-use Rattle.std.specs.Prelude.{Option}
-use Rattle.std.specs.Prelude.{Some, None}
+use Rattle.std.proofs.lemmas.Bool.{and_from}
+use Rattle.std.specs.Prelude.{Option, Some, None}
 use Rattle.rules.specs.declared.Refusal.{Refusal}
 use Rattle.rules.specs.Tests.{all, every, before, first, number_of, Row, given}
 
@@ -27,18 +27,6 @@ and_left a b e = ((and-eq-true_iff a b).0 e).0
 pub and_right : (a b : Bool) → (a && b) ≡ true → b ≡ true
 and_right a b e = ((and-eq-true_iff a b).0 e).1
 
-pub and_both : (a b : Bool) → a ≡ true → b ≡ true → (a && b) ≡ true
-and_both a b p q = (and-eq-true_iff a b).1 (p, q)
-
--- Neither of two tests passes.
-pub or-none : (a b : Bool) → (a || b) ≡ false → (a ≡ false) × (b ≡ false)
-or-none true b e = absurd (true≢false e)
-or-none false b e = (refl, e)
-
-pub none_or : (a b : Bool) → a ≡ false → b ≡ false → (a || b) ≡ false
-none_or true b p q = absurd (true≢false p)
-none_or false b p q = q
-
 -- A list of one value has it at each place, and past its end where it is what stands for none.
 pub get_d_alike : {A : Type 0} (n i : ℕ) (a : A) → get_or (replicate n a) i a ≡ a
 get_d_alike zero i a = refl
@@ -55,7 +43,7 @@ all-at (t ∷ ts) (suc i) e = all-at ts i (and_right t (all ts) e)
 
 pub all_cons : (t : Bool) (ts : List Bool) → t ≡ true → all ts ≡ true → all (t ∷ ts) ≡ true
 unfolding all
-all_cons t ts p q = and_both t (all ts) p q
+all_cons t ts p q = and_from t (all ts) p q
 
 pub all_nil : all [] ≡ true
 unfolding all
@@ -71,7 +59,7 @@ module _ (p : ℕ → Bool) where
   pub at_every : (n : ℕ) → ((i : ℕ) → i < n → p i ≡ true) → every n p ≡ true
   unfolding every
   at_every zero h = refl
-  at_every (suc n) h = and_both (every n p) (p n) (at_every n (λ i l. h i (omega arith))) (h n (omega arith))
+  at_every (suc n) h = and_from (every n p) (p n) (at_every n (λ i l. h i (omega arith))) (h n (omega arith))
 
   pub every-not : (n i : ℕ) → i < n → p i ≡ false → every n p ≡ false
   every-not n i h e = go (every n p) refl

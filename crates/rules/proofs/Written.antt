@@ -13,9 +13,7 @@ use Rattle.rules.specs.declared.Channel.{Channel}
 use Rattle.rules.specs.declared.Lane.{Lane}
 use Rattle.rules.specs.declared.Setting.{Setting}
 use Rattle.rules.specs.declared.Writer.{Writer}
-use Rattle.std.specs.Prelude.{Ok}
-use Rattle.std.specs.Prelude.{Option}
-use Rattle.std.specs.Prelude.{Some, None}
+use Rattle.std.specs.Prelude.{Ok, Option, Some, None}
 use Rattle.rules.specs.declared.Verdict.TheVariants.{Counted, Read}
 use Rattle.rules.specs.Tests.{◌<?◌, ◌=?◌, ◌≠?◌, given}
 use Rattle.rules.specs.Octets.{be, num, Field, field, widths, packed, bits, flag, check_of}

@@ -1,6 +1,6 @@
 -- The calls as wholes: set-up, write and read, which is the call take, and look. Each is one equation between everything handed in and everything
 -- handed back or left in an area that was lent.
-use Rattle.std.specs.Prelude.{ℕ, ◌+◌, ◌*◌, Bool, cond, not, ◌||◌, List, [], ◌∷◌, length, Result, Ok, Err}
+use Rattle.std.specs.Prelude.{ℕ, ◌+◌, ◌*◌, Bool, cond, not, ◌||◌, List, [], ◌∷◌, length, Result, Ok, Err, Some, None}
 use Rattle.rules.specs.declared.Channel.{Channel}
 use Rattle.rules.specs.declared.Setting.{Setting}
 use Rattle.rules.specs.declared.Reader.{Reader}
@@ -12,7 +12,6 @@ use Rattle.rules.specs.declared.Taken.{Taken}
 use Rattle.rules.specs.declared.Listener.{Listener}
 use Rattle.rules.specs.declared.Sender.{Sender}
 use Rattle.rules.specs.declared.Looked.{Looked}
-use Rattle.std.specs.Prelude.{Some, None}
 use Rattle.rules.specs.declared.Verdict.{Verdict}
 use Rattle.rules.specs.declared.Gap.{Gap}
 use Rattle.rules.specs.Tests.{◌≤?◌, ◌<?◌, ◌≠?◌, Row, refuse, number_of, given, answered}

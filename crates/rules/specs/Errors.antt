@@ -1,13 +1,11 @@
 -- "Errors that look right": for each, frames whose answers show it. Then edges that the worked frames leave out. What is wanted was
 -- worked out by hand from the paper.
-use Rattle.std.specs.Prelude.{ℕ, zero, suc, ◌+◌, ◌*◌, ◌/◌, ◌%◌, true, false, List, [], ◌∷◌, ◌++◌, map, take, drop, set, replicate}
+use Rattle.std.specs.Prelude.{ℕ, zero, suc, ◌+◌, ◌*◌, ◌/◌, ◌%◌, true, false, List, [], ◌∷◌, ◌++◌, map, take, drop, set, replicate, Option, Some, None}
 use Rattle.rules.specs.declared.Kind.TheVariants.{Packets, Access}
 use Rattle.rules.specs.declared.Setting.{Setting}
 use Rattle.rules.specs.declared.Reader.{Reader}
 use Rattle.rules.specs.declared.Writer.{Writer}
 use Rattle.rules.specs.declared.Looked.{Looked}
-use Rattle.std.specs.Prelude.{Option}
-use Rattle.std.specs.Prelude.{Some, None}
 use Rattle.rules.specs.Tests.{given}
 use Rattle.rules.specs.Octets.{check_of}
 use Rattle.rules.specs.Settings.{no_channel, no_lane, no_reader, no_writer, fresh_reader, held_by, span_by, with_expect, with_slot}

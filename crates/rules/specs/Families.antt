@@ -1,12 +1,10 @@
 -- "Encapsulation packets" (document 02, A5): a table of what is measured, of walks and leads with both families, of what is too long, of batches and of
 -- settings. What is wanted was worked out by hand from the paper.
-use Rattle.std.specs.Prelude.{ℕ, List, [], ◌∷◌, ◌++◌, map, take, replicate}
+use Rattle.std.specs.Prelude.{ℕ, List, [], ◌∷◌, ◌++◌, map, take, replicate, Option, Some, None}
 use Rattle.rules.specs.declared.Kind.TheVariants.{Packets}
 use Rattle.rules.specs.declared.Family.TheVariants.{Space, Encapsulation}
 use Rattle.rules.specs.declared.Measure.{Measure}
 use Rattle.rules.specs.declared.Measure.TheVariants.{Lacks, Packet, Idle, Unreadable}
-use Rattle.std.specs.Prelude.{Option}
-use Rattle.std.specs.Prelude.{Some, None}
 use Rattle.rules.specs.Settings.{fresh_reader}
 use Rattle.rules.specs.Packets.{measure}
 use Rattle.rules.specs.Reading.{unit_of, lane_step}

@@ -1,10 +1,8 @@
 -- "The frame, octet by octet", in both directions.
-use Rattle.std.specs.Prelude.{ℕ, ◌-◌, Bool, true, cond, List, [], ◌∷◌, ◌++◌, length, take, drop}
+use Rattle.std.specs.Prelude.{ℕ, ◌-◌, Bool, true, cond, List, [], ◌∷◌, ◌++◌, length, take, drop, Option, Some, None}
 use Rattle.rules.specs.declared.Channel.{Channel}
 use Rattle.rules.specs.declared.Lane.{Lane}
 use Rattle.rules.specs.declared.Setting.{Setting}
-use Rattle.std.specs.Prelude.{Option}
-use Rattle.std.specs.Prelude.{Some, None}
 use Rattle.rules.specs.Tests.{◌=?◌}
 use Rattle.rules.specs.Octets.{be, num, Field, packed, flag, check_of, fields_of, field_in}
 use Rattle.rules.specs.Settings.{ocf_octets, count_at, insert_at, field_at, zone_at, zone_for, ocf_at, check_at}

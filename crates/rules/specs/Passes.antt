@@ -1,5 +1,5 @@
 -- "Operators decide after the checks whether a frame goes into this pass" (document 02, A7): what look and take make together.
-use Rattle.std.specs.Prelude.{◌≡◌, ◌⊎◌, ℕ, Bool, true, false, cond, ◌&&◌, List, [], ◌∷◌, get_or}
+use Rattle.std.specs.Prelude.{◌≡◌, ◌⊎◌, ℕ, Bool, true, false, cond, ◌&&◌, List, [], ◌∷◌, get_or, Option}
 use Rattle.std.proofs.Common.{inl, inr}
 use Rattle.rules.specs.declared.Setting.{Setting}
 use Rattle.rules.specs.declared.Reader.{Reader}
@@ -7,7 +7,6 @@ use Rattle.rules.specs.declared.Class.{Class}
 use Rattle.rules.specs.declared.Answer.{Answer}
 use Rattle.rules.specs.declared.Looked.{Looked}
 use Rattle.rules.specs.declared.Passed.{Passed}
-use Rattle.std.specs.Prelude.{Option}
 use Rattle.rules.specs.declared.Verdict.{Verdict}
 use Rattle.rules.specs.Tests.{first, none, at}
 use Rattle.rules.specs.Settings.{channel}

@@ -1,7 +1,7 @@
 -- What each call promises: a relation between everything that it is handed and everything that it hands back or leaves in an area lent.
 -- The answer is told in the paper's terms: "Where an answer is an enum, a definition sets out this paper's number and values for each of
 -- its cases. The promises use that definition."
-use Rattle.std.specs.Prelude.{◌≡◌, ℕ, ◌+◌, ◌*◌, Bool, false, cond, not, ◌||◌, List, [], ◌∷◌, length, Result, Ok, Err}
+use Rattle.std.specs.Prelude.{◌≡◌, ℕ, ◌+◌, ◌*◌, Bool, false, cond, not, ◌||◌, List, [], ◌∷◌, length, Result, Ok, Err, Option, Some, None}
 use Rattle.rules.specs.declared.Setting.{Setting}
 use Rattle.rules.specs.declared.Reader.{Reader}
 use Rattle.rules.specs.declared.Writer.{Writer}
@@ -12,8 +12,6 @@ use Rattle.rules.specs.declared.Taken.{Taken}
 use Rattle.rules.specs.declared.Looked.{Looked}
 use Rattle.rules.specs.declared.Listener.{Listener}
 use Rattle.rules.specs.declared.Sender.{Sender}
-use Rattle.std.specs.Prelude.{Option}
-use Rattle.std.specs.Prelude.{Some, None}
 use Rattle.rules.specs.declared.Gap.{Gap}
 use Rattle.rules.specs.Tests.{◌=?◌, none, Row, refuse, given}
 use Rattle.rules.specs.Areas.{laid, joined, part_size}

@@ -1,8 +1,6 @@
 -- How the rules test: comparisons of numbers, and the ways in which the paper joins tests.
-use Rattle.std.specs.Prelude.{ℕ, zero, suc, Bool, true, false, cond, not, ◌&&◌, List, [], ◌∷◌, leb, ltb, eqb, Result, Ok, Err}
+use Rattle.std.specs.Prelude.{ℕ, zero, suc, Bool, true, false, cond, not, ◌&&◌, List, [], ◌∷◌, leb, ltb, eqb, Result, Ok, Err, Option, Some, None}
 use Rattle.rules.specs.declared.Refusal.{Refusal}
-use Rattle.std.specs.Prelude.{Option}
-use Rattle.std.specs.Prelude.{Some, None}
 
 infix 68 ◌≤?◌ ◌<?◌ ◌=?◌ ◌≠?◌
 abbrev pub ◌≤?◌ : ℕ → ℕ → Bool

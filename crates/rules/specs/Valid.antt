@@ -1,14 +1,12 @@
 -- What a valid setting, a valid state and a frame that is Read are known to be, fact by fact: what functions inside may rely on once the
 -- checks have passed. Each follows from the rules (proofs of the same name).
-use Rattle.std.specs.Prelude.{◌≡◌, ℕ, ◌^◌, ◌≤◌, ◌<◌, true, List, length}
+use Rattle.std.specs.Prelude.{◌≡◌, ℕ, ◌^◌, ◌≤◌, ◌<◌, true, List, length, Option, Some, None}
 use Rattle.rules.specs.declared.Kind.{Kind}
 use Rattle.rules.specs.declared.Kind.TheVariants.{Packets, Access}
 use Rattle.rules.specs.declared.Setting.{Setting}
 use Rattle.rules.specs.declared.Slot.{Slot}
 use Rattle.rules.specs.declared.Reader.{Reader}
 use Rattle.rules.specs.declared.Writer.{Writer}
-use Rattle.std.specs.Prelude.{Option}
-use Rattle.std.specs.Prelude.{Some, None}
 use Rattle.rules.specs.Settings.{channel, lane, channel_of, expect, slot, count, number, zone, setting_ok}
 use Rattle.rules.specs.Frames.{rule_in, pointer_in, points_to}
 use Rattle.rules.specs.Refusals.{channel_at, lane_at, rule_fits}
