@@ -3,7 +3,7 @@
 
 ghost use Rattle.std.specs.Prelude.{◌≡◌, true, ◌&&◌, ◌^◌, ◌≤◌, ◌<◌, get_or, set, length, Bool};
 ghost use Rattle.rules.specs.Tests.{◌≤?◌, ◌<?◌, every};
-ghost use Rattle.rules.specs.Settings.{no_channel, no_lane, no_expects, no_slot, expect_on, expecting, channel, lane, number};
+ghost use Rattle.rules.specs.Settings.{no_channel, no_lane, no_slot, expect_on, expecting, channel, lane, number};
 ghost use Rattle.rules.specs.Settings.{ocf_octets, check_octets, zone_for, zone, ranges_ok, channel_ok, channels_agree, channels_ok};
 ghost use Rattle.rules.specs.Settings.{kind_ok, lane_ok, lanes_differ, lanes_ok, setting_ok, slot_ok, reader_ok, writer_ok};
 ghost use Rattle.rules.specs.Settings.{fresh_reader, fresh_writer, no_setting, no_reader, no_writer};
