@@ -199,6 +199,7 @@ fn put_sent(desk: &mut [u8], t: Sender)
 }
 
 // Puts what a set-up of the reader answers on the desk.
+// One function with `put_sent` would need a trait for the two states, with laws of where each is laid: longer than both.
 #[tactic(auto, unfolding(crate::specs::Requests::heard_on, crate::specs::Requests::answered))]
 fn put_heard(desk: &mut [u8], t: Listener)
     requires { length desk.old ≡ 6440 }
