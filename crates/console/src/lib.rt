@@ -154,7 +154,10 @@ pub fn arg(system: &System, i: usize, area: &mut [u8]) -> Option<usize>
     ensures { IfSome result (λ n. IsPrefixLen n area.new) }
 {
     match system.rt.arg(i, area) {
-        Ok(n) => Some(n),
+        Ok(n) => {
+            intake::keep_number(system, 0);
+            Some(n)
+        }
         Err(e) => {
             let number = match e {
                 FillError::NotPresent => MISSING,

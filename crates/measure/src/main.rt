@@ -167,7 +167,8 @@ impl Course {
         let t = writer::write(self.state, 0, batch, &[], &[0; 4], area);
         self.state = t.state;
         self.frames = plus(self.frames, 1);
-        self.sum = sum_of(&[self.sum, last(area, size / 2), last(area, size)]);
+        let octets = sum_of(&[last(area, size / 2), last(area, size)]);
+        self.sum = plus(self.sum, octets);
         t.outcome.is_ok() && t.state.next[0] != 0
     }
 

@@ -655,7 +655,7 @@ fn plan_next(system: &System, p: Plan, i: usize, s: Setting, once: bool) -> Plan
     let mut word = io::buffer();
     let Some(n) = console::arg(system, i, &mut word) else {
         say_failed(system, b"an argument");
-        return words::pack_start::bad_plan(p, Bad::NoWord);
+        return words::pack_start::bad_plan(p, Some(Bad::NoWord));
     };
     plan_word(p, i, &word[..n], s, once)
 }

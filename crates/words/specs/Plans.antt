@@ -20,14 +20,14 @@ fine (Some bad) = false
 unfoldable pub no_plan : Plan
 no_plan = record { insert = None; ocf = None; bad = None; lanes = false; units = false; named = replicate 8 false }
 
-abbrev pub bad_plan : Plan → Bad → Plan
-bad_plan p b = record { insert = p.insert; ocf = p.ocf; bad = Some b; lanes = p.lanes; units = p.units; named = p.named }
+abbrev pub bad_plan : Plan → Option Bad → Plan
+bad_plan p b = record { insert = p.insert; ocf = p.ocf; bad = b; lanes = p.lanes; units = p.units; named = p.named }
 
 -- "Each lane is then named once": the plan after a word that names lane l's file. That it is named is kept.
 unfoldable pub lane_plan : Plan → ℕ → Bool → Bool → Plan
 lane_plan p l access once =
-    cond (8 ≤? l) (bad_plan p bads.NoName)
-    (cond (once && get_or p.named l false) (bad_plan p bads.LaneTwice)
+    cond (8 ≤? l) (bad_plan p (Some bads.NoName))
+    (cond (once && get_or p.named l false) (bad_plan p (Some bads.LaneTwice))
     (record { insert = p.insert; ocf = p.ocf; bad = p.bad; lanes = true; units = access; named = set p.named l true }))
 
 -- The plan after word i with this name. A list is "the next word after the LANE=FILE of an access lane (options aside)"; insert and OCF octets
@@ -36,15 +36,15 @@ unfoldable pub plan_on : Plan → ℕ → Named → Bool → Bool → Plan
 plan_on p i (names.ToLane l) access once = lane_plan p l access once
 plan_on p i names.Lengths access once =
     cond p.units (record { insert = p.insert; ocf = p.ocf; bad = p.bad; lanes = p.lanes; units = false; named = p.named })
-    (bad_plan p bads.NoUnits)
+    (bad_plan p (Some bads.NoUnits))
 plan_on p i names.Insert access once =
     cond (is_none p.insert) (record { insert = Some i; ocf = p.ocf; bad = p.bad; lanes = p.lanes; units = false; named = p.named })
-    (bad_plan p bads.InsertTwice)
+    (bad_plan p (Some bads.InsertTwice))
 plan_on p i names.Ocf access once =
     cond (is_none p.ocf) (record { insert = p.insert; ocf = Some i; bad = p.bad; lanes = p.lanes; units = false; named = p.named })
-    (bad_plan p bads.OcfTwice)
+    (bad_plan p (Some bads.OcfTwice))
 plan_on p i names.Option access once = p
-plan_on p i names.Other access once = bad_plan p bads.NoName
+plan_on p i names.Other access once = bad_plan p (Some bads.NoName)
 
 -- ---- which files may be read
 

@@ -118,10 +118,9 @@ pub fn no_plan() -> Plan
 }
 
 // The same plan, but for what is wrong.
-pub fn bad_plan(p: Plan, bad: Bad) -> Plan
+pub fn bad_plan(p: Plan, bad: Option<Bad>) -> Plan
     ensures { result ≡ bad_plan p bad }
 {
-    let bad = Some(bad);
     Plan { bad, ..p }
 }
 
@@ -131,10 +130,10 @@ fn lane_plan(p: Plan, l: usize, access: bool, once: bool) -> Plan
     ensures { result ≡ lane_plan p l access once }
 {
     if 8 <= l {
-        return bad_plan(p, Bad::NoName);
+        return bad_plan(p, Some(Bad::NoName));
     }
     if once && p.named[l] {
-        return bad_plan(p, Bad::LaneTwice);
+        return bad_plan(p, Some(Bad::LaneTwice));
     }
     let mut q = p;
     q.named[l] = true;
@@ -152,16 +151,16 @@ pub fn planned(p: Plan, i: usize, name: Named, access: bool, once: bool) -> Plan
     match name {
         Named::ToLane(l) => lane_plan(p, l, access, once),
         Named::Lengths if p.units => q,
-        Named::Lengths => bad_plan(p, Bad::NoUnits),
+        Named::Lengths => bad_plan(p, Some(Bad::NoUnits)),
         Named::Insert if p.insert.is_none() => Plan {
             insert: Some(i),
             ..q
         },
-        Named::Insert => bad_plan(p, Bad::InsertTwice),
+        Named::Insert => bad_plan(p, Some(Bad::InsertTwice)),
         Named::Ocf if p.ocf.is_none() => Plan { ocf: Some(i), ..q },
-        Named::Ocf => bad_plan(p, Bad::OcfTwice),
+        Named::Ocf => bad_plan(p, Some(Bad::OcfTwice)),
         Named::Option => p,
-        Named::Other => bad_plan(p, Bad::NoName),
+        Named::Other => bad_plan(p, Some(Bad::NoName)),
     }
 }
 
