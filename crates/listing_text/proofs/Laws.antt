@@ -76,6 +76,14 @@ pub decimal_digit : (v : ℕ) → v < 10 → decimal v ≡ (48 + v) ∷ []
 unfolding decimal digits
 decimal_digit v h = rw (lt-ltb _ _ h)
 
+-- Below a hundred there are two.
+pub decimal_two : (v : ℕ) → 10 ≤ v → v < 100 → decimal v ≡ (48 + v / 10) ∷ [] ++ (48 + v % 10) ∷ []
+unfolding decimal digits
+decimal_two v l h = rw (le-ltb _ _ l, lt-ltb (v / 10) 10 (omega (arith, h)))
+
+pub length-decimal_two : (v : ℕ) → 10 ≤ v → v < 100 → length (decimal v) ≡ 2
+length-decimal_two v l h = ap length (decimal_two v l h)
+
 pub decimal_fits : (v from : ℕ) {size : ℕ} → from + 20 ≤ size → from + length (decimal v) ≤ size
 decimal_fits v from h = omega (arith, length-decimal v)
 

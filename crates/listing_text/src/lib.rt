@@ -21,11 +21,18 @@ pub fn put_octet(area: &mut [u8], from: usize, x: u8) -> usize
     from + 1
 }
 
-// Puts a number.
+// Puts a number. Most that are put have one digit or two, which are put without a buffer.
 pub fn put_decimal(area: &mut [u8], from: usize, v: u64) -> usize
     requires { from + length (decimal v) ≤ length area.old }
     ensures { Put (decimal v) area.old from area.new result }
 {
+    if v < 10 {
+        return put_octet(area, from, b'0' + v as u8);
+    }
+    if v < 100 {
+        let at = put_octet(area, from, b'0' + (v / 10) as u8);
+        return put_octet(area, at, b'0' + (v % 10) as u8);
+    }
     let mut buffer = Buffer::new();
     put_text(area, from, buffer.format(v).as_bytes())
 }
