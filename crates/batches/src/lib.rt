@@ -32,7 +32,7 @@ fn packets_to(longest: usize, batch: &[u8], from: usize, to: usize) -> Option<us
 fn back_to_back(longest: usize, batch: &[u8], from: usize) -> Option<usize>
     ensures { Stands longest batch.now from result }
 {
-    let first = packets_to(longest, batch, 0, from.min(batch.len()))?;
+    let first = packets_to(longest, batch, 0, octets::least(from, batch.len()))?;
     packets_to(longest, batch, first, batch.len())?;
     Some(first)
 }

@@ -23,7 +23,7 @@ fn measure_of(first: &[u8], second: &[u8]) -> Measure
     if 8 <= h {
         return packets::measure_at(first);
     }
-    let more = second.len().min(8 - h);
+    let more = octets::least(second.len(), 8 - h);
     let end = h + more;
     let mut front = [0u8; 8];
     octets::lay(&mut front, 0, first);

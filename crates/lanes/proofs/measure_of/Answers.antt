@@ -14,27 +14,27 @@ returns-then-h-ge8 c =
 pub slice_bounds-lay-end-3 : goal.slice_bounds-lay-end-3
 slice_bounds-lay-end-3 c =
     let a = c.args in
-    more-length a.first.now a.second.now c.min-more.ensures c.if-h-ge8.false
+    more-length a.first.now a.second.now c.least-more.ensures c.if-h-ge8.false
 
 pub lay-requires-2 : goal.lay-requires-2
 lay-requires-2 c =
     let a = c.args in
-    let m = more-length a.first.now a.second.now c.min-more.ensures c.if-h-ge8.false in
-    let l = first-laid a.first.now a.second.now c.min-more.ensures c.if-h-ge8.false c.lay.ensures in
-    omega (arith, m, l, c.min-more.ensures)
+    let m = more-length a.first.now a.second.now c.least-more.ensures c.if-h-ge8.false in
+    let l = first-laid a.first.now a.second.now c.least-more.ensures c.if-h-ge8.false c.lay.ensures in
+    omega (arith, m, l, c.least-more.ensures)
 
 pub slice_bounds-measure_at-end : goal.slice_bounds-measure_at-end
 slice_bounds-measure_at-end c =
     let a = c.args in
     sym
     (ap length
-    (front-laid a.first.now a.second.now c.min-more.ensures c.if-h-ge8.false
+    (front-laid a.first.now a.second.now c.least-more.ensures c.if-h-ge8.false
     c.lay.ensures c.lay-2.ensures)
-    ∙ front_length a.first.now a.second.now c.min-more.ensures c.if-h-ge8.false)
+    ∙ front_length a.first.now a.second.now c.least-more.ensures c.if-h-ge8.false)
 
 pub returns : goal.returns
 returns c =
     let a = c.args in
     c.measure_at-2.ensures
-    ∙ front-is a.first.now a.second.now c.min-more.ensures c.if-h-ge8.false
+    ∙ front-is a.first.now a.second.now c.least-more.ensures c.if-h-ge8.false
     c.lay.ensures c.lay-2.ensures
