@@ -9,8 +9,8 @@
 // document 01 prints, at the end of "Worked frames".
 #![tactic(auto)]
 
-ghost use Rattle.std.specs.Prelude.{◌≡◌, ◌+◌, ◌≤◌, ◌<◌, length};
-ghost use Rattle.std.specs.ControlFlow.{ForContinue};
+ghost use Rattle.std.specs.Prelude.{◌≡◌, ◌+◌, ◌≤◌, ◌<◌, None, length};
+ghost use Rattle.std.specs.ControlFlow.{ForContinue, MatchControlFlow};
 ghost use Rattle.rules.specs.Worked.{worked, packet_lane};
 ghost use Rattle.rules.specs.Calls.{read};
 ghost use Rattle.listing_text.specs.Puts.{Put};
@@ -110,9 +110,9 @@ fn print(system: &System, k: u64, a: Answer, text: &[u8]) -> bool
     console::write_out(system, text)
 }
 
-// Says what the system had against standard input or output, and ends the listing.
+// Says what the system had against standard input or output, and ends the listing, of which it is not said that it is done.
 fn failed(system: &System, about: &[u8]) -> Turn
-    ensures { ForContinue result (λ r. ⊥) }
+    ensures { MatchControlFlow result (λ r. ⊥) (λ listed. listed ≡ None) }
 {
     console::say_failed(system, b"list_worked", about);
     ControlFlow::Break(None)

@@ -1,5 +1,5 @@
--- What a window is before its first read, and which words name the file of an access lane.
-use Rattle.std.specs.Prelude.{Bool, true, false}
+-- What a window is before its first read, how the first pass goes, and which words name the file of an access lane.
+use Rattle.std.specs.Prelude.{Bool, true, false, Option, None}
 use Rattle.rules.specs.declared.Kind.{Kind}
 use Rattle.rules.specs.declared.Kind.TheVariants as kinds
 use Rattle.rules.specs.declared.Setting.{Setting}
@@ -7,10 +7,15 @@ use Rattle.rules.specs.Settings.{lane}
 use Rattle.intake.specs.declared.Window.{Window}
 use Rattle.words.specs.declared.pack_start.Named.{Named}
 use Rattle.words.specs.declared.pack_start.Named.TheVariants as names
+use Rattle.pack.specs.declared.Writing.{Writing}
 
 -- Nothing was read.
 unfoldable pub fresh_window : Window
 fresh_window = record { have = 0; at = 0; good = true }
+
+-- "Every file is looked through, file after file, before the first frame is written."
+unfoldable pub look_way : Option Writing
+look_way = None
 
 -- "The next word after the LANE=FILE of an access lane."
 unfoldable pub is_access : Kind → Bool

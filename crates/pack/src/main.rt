@@ -8,7 +8,7 @@
 ghost use Rattle.std.specs.Prelude.{◌≡◌, ◌<◌, is_some};
 ghost use Rattle.rules.specs.Settings.{lane, channel, ocf_octets};
 ghost use Rattle.pack.specs.Rounds.{form_of, next_place, any_more, has_next, next_turn, place_after, Stepped, Rounded, Passed};
-ghost use Rattle.pack.specs.Sources.{fresh_window, is_access, is_units};
+ghost use Rattle.pack.specs.Sources.{fresh_window, look_way, is_access, is_units};
 
 use files::Known;
 use intake::{System, Window};
@@ -415,6 +415,19 @@ fn say_of(system: &System, x: Source, slot: &Slot, fault: Fault) {
     say_fault(system, &slot.name[..a], &slot.list_name[..b], fault);
 }
 
+// The pass that looks: it writes nothing, says nothing of how far it is, and takes file after file.
+fn looking<'a>(system: &'a System, words: usize, insert: &'a [u8], ocf: &'a [u8]) -> Pass<'a>
+    ensures { result.writing ≡ look_way }
+{
+    Pass {
+        system,
+        words,
+        writing: None,
+        insert,
+        ocf,
+    }
+}
+
 impl Pass<'_> {
     // Says how far it is, where a frame was written with which that is due.
     fn say_progress(&self, before: u64, c: Course) {
@@ -739,13 +752,7 @@ impl Command<'_> {
     fn pack_files(&self, s: Setting, insert: &[u8], ocf: &[u8]) {
         let i = streams::within(s.insert, insert);
         let from = after(self.asked.places[0], self.words);
-        let look = Pass {
-            system: self.system,
-            words: self.words,
-            writing: None,
-            insert: &insert[..i],
-            ocf,
-        };
+        let look = looking(self.system, self.words, &insert[..i], ocf);
         let looked = look.run(s, from);
         if looked.fault.is_some() {
             return;

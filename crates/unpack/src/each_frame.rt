@@ -178,9 +178,9 @@ impl Out<'_> {
         self.hand_rows(g, n, units, records, &area[..end])
     }
 
-    // Writes the lines of n units to the table. Most reads give few, and an area is cleared before it is lent: the large one only where it is needed.
+    // Writes the lines of n units to the table, which is one that there is. Most reads give few, and an area is cleared before it is lent: the large one only where it is needed.
     fn put_table(&self, g: Origin, n: usize, units: &[u8], records: &[u8]) -> Went
-        requires { n ≤ 2048 }
+        requires { (self.now.sinks.table ≡ true) × (n ≤ 2048) }
     {
         if n <= 64 {
             let mut area = [0u8; 11136];

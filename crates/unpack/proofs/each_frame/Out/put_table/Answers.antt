@@ -6,4 +6,4 @@ use Rattle.unpack.proofs.each_frame.Out.put_table.Goals as goal
 
 pub put_lines-requires-2 : goal.put_lines-requires-2
 put_lines-requires-2 c =
-    let n = c.requires in (n, omega (arith, n, length-replicate {A = ℕ} 356352 0))
+    let n = c.requires.1 in (n, omega (arith, n, length-replicate {A = ℕ} 356352 0))
