@@ -152,8 +152,9 @@ fn judge_map(s: Setting, c: usize, k: u64, h: Head, frame: &[u8]) -> Result<Sigh
     ensures { by_number result ≡ sight_of s frame.now (judge_map s c frame.now (lane_at s c (map frame.now))) }
 {
     match setting::lane_at(s, c, h.map) {
+        None => Ok(counted(c, k)),
         Some(l) if h.command != 1 => judge_data(s, c, l, k, frame),
-        _ => Ok(counted(c, k)),
+        Some(_) => Ok(counted(c, k)),
     }
 }
 

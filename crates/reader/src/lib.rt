@@ -123,10 +123,13 @@ fn again(r: Reader, v: Sighting) -> Sighting
     requires { Sound r v }
     ensures { result ≡ again_of r v }
 {
-    match v {
-        Sighting::Seen(x) if gaps::repeats_at(r, x.channel, x.count) => Sighting::Repeat(x.channel),
-        _ => v,
+    let Sighting::Seen(x) = v else {
+        return v;
+    };
+    if gaps::repeats_at(r, x.channel, x.count) {
+        return Sighting::Repeat(x.channel);
     }
+    v
 }
 
 // What a frame is, where no area is lent: the state first, then the frame's checks, and only then whether it is a repeat.

@@ -14,7 +14,6 @@ use Rattle.judge.specs.Judging.{judge_map}
 use Rattle.judge.proofs.Places.{lane-found, lane-on}
 use Rattle.judge.proofs.Sights.{counted_is}
 use Rattle.judge.proofs.judge_map.Goals as goal
-use Rattle.judge.proofs.judge_map.Goals.{in_default-via-in-Some+else-h-ne1, in_default-via-in_default}
 
 pub lane_at-requires : goal.lane_at-requires
 lane_at-requires c = (good _ c.requires.0.ok).numbered
@@ -40,18 +39,23 @@ returns-in-Some c =
       ne_eqb _ _ c.if-h-ne1.true,
     ) c.judge_data.ensures
 
-pub returns-in_default : goal.returns-in_default
+pub returns-in-None : goal.returns-in-None
 unfolding judge_map head_of
-returns-in_default c =
+returns-in-None c =
+    let a = c.args in
+    let p = c.requires in
+    let m = ap (λ (x : Head). x.map) p.1 in
+    let e : judge_map a.s a.c a.frame.now (lane_at a.s a.c (map a.frame.now)) ≡ Verdict.Counted a.c =
+    rw (sym (ap (lane_at a.s a.c) m), sym c.lane_at.ensures, c.in-None.is) in
+    ap (λ (x : Sighting). Ok x) c.counted.ensures ∙ counted_is a.s a.frame.now a.c a.k p.2 ∙ ap (sight_of a.s a.frame.now) (sym e)
+
+pub returns-in-Some-2 : goal.returns-in-Some-2
+unfolding judge_map head_of
+returns-in-Some-2 c =
     let a = c.args in
     let p = c.requires in
     let m = ap (λ (x : Head). x.map) p.1 in
     let k = ap (λ (x : Head). x.command) p.1 in
     let e : judge_map a.s a.c a.frame.now (lane_at a.s a.c (map a.frame.now)) ≡ Verdict.Counted a.c =
-    rw (sym (ap (lane_at a.s a.c) m), sym c.lane_at.ensures) (
-    elim c.in_default.branch [
-      | in_default-via-in-Some+else-h-ne1 w ↦ rw (w.in-Some.is, sym k, eq-eqb _ _ w.if-h-ne1.false)
-      | in_default-via-in_default w ↦ rw w.in_default.is
-    ]
-    ) in
-    ap (λ (x : Sighting). Ok x) c.counted.ensures ∙ counted_is a.s a.frame.now a.c a.k p.2 ∙ ap (sight_of a.s a.frame.now) (sym e)
+    rw (sym (ap (lane_at a.s a.c) m), sym c.lane_at.ensures, c.in-Some-2.is, sym k, eq-eqb _ _ c.if-h-ne1.false) in
+    ap (λ (x : Sighting). Ok x) c.counted-in-Some-2.ensures ∙ counted_is a.s a.frame.now a.c a.k p.2 ∙ ap (sight_of a.s a.frame.now) (sym e)
