@@ -6,27 +6,27 @@ use Rattle.listing_text.proofs.put_decimal.Goals as goal
 
 pub put_octet-requires : goal.put_octet-requires
 put_octet-requires c =
-    let e : decimal c.args.v ≡ (48 + c.args.v) ∷ [] = decimal_digit c.args.v (search rules) in
+    let e : decimal c.args.v ≡ (48 + c.args.v) ∷ [] = decimal_digit c.args.v (omega arith) in
     rw e at c.requires
 
 pub returns-then-v-lt10 : goal.returns-then-v-lt10
 returns-then-v-lt10 c =
-    let e : decimal c.args.v ≡ (48 + c.args.v) ∷ [] = decimal_digit c.args.v (search rules) in
+    let e : decimal c.args.v ≡ (48 + c.args.v) ∷ [] = decimal_digit c.args.v (omega arith) in
     rw e c.put_octet.ensures
 
 pub put_octet-at-requires : goal.put_octet-at-requires
-put_octet-at-requires c = omega (arith, c.requires, length-decimal_two c.args.v (search rules) (search rules))
+put_octet-at-requires c = omega (arith, c.requires, length-decimal_two c.args.v (omega arith) (omega arith))
 
 pub put_octet-requires-then-v-lt100 : goal.put_octet-requires-then-v-lt100
 put_octet-requires-then-v-lt100 c =
-    let n = length-decimal_two c.args.v (search rules) (search rules) in
+    let n = length-decimal_two c.args.v (omega arith) (omega arith) in
     let p = c.put_octet-at.ensures in
     omega (arith, c.requires, n, p.ends, put-length p (omega (arith, c.requires, n)))
 
 pub returns-then-v-lt100 : goal.returns-then-v-lt100
 returns-then-v-lt100 c =
-    let n = length-decimal_two c.args.v (search rules) (search rules) in
-    rw (decimal_two c.args.v (search rules) (search rules))
+    let n = length-decimal_two c.args.v (omega arith) (omega arith) in
+    rw (decimal_two c.args.v (omega arith) (omega arith))
     (put_then _ _ _ _ _ _ _ _ (omega (arith, c.requires, n)) c.put_octet-at.ensures c.put_octet-then-v-lt100.ensures)
 
 pub put_text-requires : goal.put_text-requires
