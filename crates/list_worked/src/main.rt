@@ -22,10 +22,10 @@ use std::ops::ControlFlow;
 
 // The areas that the reader is lent.
 #[derive(Drop)]
-struct Areas {
-    held: [u8; rules::HELD_SIZE],
-    units: [u8; rules::UNITS_SIZE],
-    records: [u8; rules::RECORDS_SIZE],
+struct Areas<'a> {
+    held: &'a mut [u8],
+    units: &'a mut [u8],
+    records: &'a mut [u8],
 }
 
 // What a frame's read answers, and where its text ends.
@@ -87,15 +87,15 @@ fn put_opening(area: &mut [u8], k: u64) -> usize
 // Looks at frame k and takes it, with no virtual channel left out, and puts what is printed for it into `area`. An empty input has no frame.
 fn list_frame(k: u64, r: Reader, frame: &[u8], areas: &mut Areas, area: &mut [u8]) -> Printed
     requires { (1 ≤ length frame.now) × (98 ≤ length area.old) }
-    ensures { Listed k (read r frame.now areas.old.held areas.old.units areas.old.records) area.old result.taken.answer result.taken.state areas.new.held areas.new.units areas.new.records area.new result.end }
+    ensures { Listed k (read r frame.now areas.old.held.now areas.old.units.now areas.old.records.now) area.old result.taken.answer result.taken.state areas.new.held.now areas.new.units.now areas.new.records.now area.new result.end }
 {
     let p = reader::pass(
         [false; 63],
         r,
         frame,
-        &mut areas.held,
-        &mut areas.units,
-        &mut areas.records,
+        areas.held,
+        areas.units,
+        areas.records,
     );
     let taken = p.taken;
     let at = put_opening(area, k);
@@ -120,8 +120,8 @@ fn failed(system: &System, about: &[u8]) -> Turn
 
 // Lists frame k, which has these octets. After a whole frame the listing goes on from what is handed back.
 fn list_came(system: &System, k: u64, r: Reader, frame: &[u8], areas: &mut Areas) -> Turn
-    requires { Reached k r areas.old.held areas.old.units areas.old.records × (k < 18446744073709551615) × (1 ≤ length frame.now) }
-    ensures { ForContinue result (λ s. Reached (k + 1) s areas.new.held areas.new.units areas.new.records) }
+    requires { Reached k r areas.old.held.now areas.old.units.now areas.old.records.now × (k < 18446744073709551615) × (1 ≤ length frame.now) }
+    ensures { ForContinue result (λ s. Reached (k + 1) s areas.new.held.now areas.new.units.now areas.new.records.now) }
 {
     let mut area = [0u8; 98];
     let p = list_frame(k, r, frame, areas, &mut area);
@@ -138,8 +138,8 @@ fn list_came(system: &System, k: u64, r: Reader, frame: &[u8], areas: &mut Areas
 
 // Reads and lists frame k, if there is one.
 fn list_next(system: &System, input: &Source, k: u64, r: Reader, areas: &mut Areas) -> Turn
-    requires { Reached k r areas.old.held areas.old.units areas.old.records × (k < 18446744073709551615) }
-    ensures { ForContinue result (λ s. Reached (k + 1) s areas.new.held areas.new.units areas.new.records) }
+    requires { Reached k r areas.old.held.now areas.old.units.now areas.old.records.now × (k < 18446744073709551615) }
+    ensures { ForContinue result (λ s. Reached (k + 1) s areas.new.held.now areas.new.units.now areas.new.records.now) }
 {
     let mut frame = [0u8; 32];
     let none = Window {
@@ -167,10 +167,13 @@ fn say_end(listed: Option<u64>) {
 // Lists standard input to its end. A proved loop has to end: this one counts its frames, to a number that no run reaches.
 fn list_all(system: &System) {
     let input = Source::Input(system.rt.stdin());
+    let mut held = [0u8; rules::HELD_SIZE];
+    let mut units = [0u8; rules::UNITS_SIZE];
+    let mut records = [0u8; rules::RECORDS_SIZE];
     let mut areas = Areas {
-        held: [0u8; rules::HELD_SIZE],
-        units: [0u8; rules::UNITS_SIZE],
-        records: [0u8; rules::RECORDS_SIZE],
+        held: &mut held,
+        units: &mut units,
+        records: &mut records,
     };
     let mut state = reader::set_up(worked_setting()).state;
     for k in 0..u64::MAX {

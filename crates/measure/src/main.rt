@@ -200,13 +200,19 @@ fn write(s: Setting) {
     tell(course.frames, course.sum);
 }
 
+// Reads the input by batches of 32,768 octets, of which the first octets are summed. It has their area, so that no other work has it.
+fn pass_batches() {
+    let mut batch = [0u8; rules::BATCH_SIZE];
+    pass(&mut batch, |octets| last(octets, 1));
+}
+
 // ---- the program
 
 // The work that a word's first letter says: batches (pass by batches), check, fields (they are written), heads (they are read), read (a take), twice (a look,
 // then a take), write; else pass, which sums the first octets.
 fn work(letter: u8, s: Setting, area: &mut [u8]) {
     match letter {
-        b'b' => pass(&mut [0u8; rules::BATCH_SIZE], |octets| last(octets, 1)),
+        b'b' => pass_batches(),
         b'c' => pass(area, |frame| u64::from(fecf::check_of(frame))),
         b'f' => pass(area, |frame| numbers(s, frame)),
         b'h' => pass(area, fields),

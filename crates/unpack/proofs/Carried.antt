@@ -27,7 +27,7 @@ use Rattle.unpack.specs.declared.each_frame.Step.{Step}
 use Rattle.unpack.specs.declared.each_frame.Turn.{Turn}
 use Rattle.unpack_text.proofs.Cuts.{wrote_front}
 use Rattle.unpack.specs.Stages.{Stage, got, ruled, leaves, told, totals_after, advanced, through, begun, Reached}
-use Rattle.unpack.specs.Stages.{step_of, stage_of, Went, AreasFit, Gave, Handed, Handled, Turned, Finished, taken, taken_turn, halted_turn, first_turn}
+use Rattle.unpack.specs.Stages.{step_of, stage_of, Went, AreasFit, Gave, Handed, Handled, Turned, Finished, taken, taken_turn, halted_turn, first_turn, goes_on}
 use Rattle.std.proofs.Common.{Option, not}
 use Rattle.std.specs.Option.{unwrap_or}
 use Rattle.rules.specs.Tests.{◌=?◌}
@@ -226,3 +226,9 @@ handed-few {a = a} h =
     let s : Small (pass g.without g.reader h.frame g.held g.units g.records).taken.answer
     = pass_fits g.without g.reader h.frame g.held g.units g.records in
     omega (arith, s.units, ap (λ (x : Answer). x.units) h.answer)
+
+-- Where there may be more, a frame was whole; and there is a table where lines go to it.
+pub goes-whole : (t : Bool) (w : Went) → goes_on t w ≡ true → t ≡ true
+unfolding goes_on
+goes-whole true w e = refl
+goes-whole false w e = e

@@ -11,7 +11,7 @@ ghost use Rattle.rules.specs.Settings.{setting_ok, reader_ok};
 ghost use Rattle.unpack_text.specs.Lines.{title};
 ghost use Rattle.refusals.specs.Words.{totals_text};
 ghost use Rattle.unit_table.specs.Rows.{table_title, rows_text};
-ghost use Rattle.unpack.specs.Stages.{totals_after, step_of, stage_of, SameSizes, AreasFit, Gave, Handed, Handled, Turned, Finished, taken_turn, first_turn, ending_of, halted_turn, output_of};
+ghost use Rattle.unpack.specs.Stages.{totals_after, step_of, stage_of, SameSizes, AreasFit, Gave, Handed, Handled, Turned, Finished, taken_turn, first_turn, ending_of, halted_turn, output_of, goes_on};
 
 use intake::{Source, System};
 use refusals::Totals;
@@ -148,6 +148,14 @@ fn output_of(v: Verdict) -> Option<usize>
     }
 }
 
+// Whether there may be more after a frame that is whole or not; and whether lines go to a table that there is or is not.
+#[tactic(auto, unfolding(crate::specs::Stages::goes_on))]
+fn goes_on(whole: bool, went: Went) -> bool
+    ensures { result ≡ goes_on whole went }
+{
+    whole && went.is_ok()
+}
+
 impl Out<'_> {
     // Writes octets to output i. There is no output past the ten.
     fn write_to(&self, i: usize, octets: &[u8]) -> Went {
@@ -156,6 +164,12 @@ impl Out<'_> {
         } else {
             Err(Failure::NotWritten(i))
         }
+    }
+
+    // Writes units to output i and records to theirs.
+    fn put_units(&self, i: usize, units: &[u8], records: &[u8]) -> Went {
+        self.write_to(i, units)?;
+        self.write_to(9, records)
     }
 
     // Writes text to the table of units.
@@ -217,12 +231,11 @@ impl Out<'_> {
             return Ok(());
         }
         let lane = output_of(v).ok_or(Failure::NotWritten(10))?;
-        self.write_to(lane, units)?;
-        self.write_to(9, records)?;
-        if self.sinks.table {
+        let went = self.put_units(lane, units, records);
+        if goes_on(self.sinks.table, went) {
             self.put_table(g, a.units, units, records)
         } else {
-            Ok(())
+            went
         }
     }
 
@@ -252,7 +265,7 @@ impl Out<'_> {
 // ---- frame by frame
 
 // The turn in which a frame of n octets came, and what it gave was handed out.
-#[tactic(auto, unfolding(crate::specs::Stages::taken_turn, crate::specs::Stages::goes_on))]
+#[tactic(auto, unfolding(crate::specs::Stages::taken_turn))]
 fn turn_after(u: Turn, n: usize, p: Step, went: Went) -> Turn
     requires { u.count < 18446744073709551615 }
     ensures { result ≡ taken_turn u n p.state p.totals went }
@@ -263,7 +276,7 @@ fn turn_after(u: Turn, n: usize, p: Step, went: Went) -> Turn
         count: u.count + 1,
         came: Some(n),
         went,
-        more: n == u.state.setting.length && went.is_ok(),
+        more: goes_on(n == u.state.setting.length, went),
     }
 }
 

@@ -3,4 +3,4 @@ use Rattle.list_worked.specs.Runs.{Reached}
 use Rattle.list_worked.proofs.list_all.Given as goal
 
 abbrev pub invariant-loop-k : goal.invariant-loop-k
-invariant-loop-k l = Reached l.k l.state l.areas.held l.areas.units l.areas.records
+invariant-loop-k l = Reached l.k l.state l.areas.held.now l.areas.units.now l.areas.records.now

@@ -10,4 +10,4 @@ pub returns-then-frame-eq32 : goal.returns-then-frame-eq32
 returns-then-frame-eq32 c =
     let a = c.args in
     let m = a.areas.now in
-    carried a.k a.r m.held m.units m.records _ _ _ _ _ _ _ _ _ c.requires.0 c.if-frame-eq32.true c.list_frame-p.ensures
+    carried a.k a.r m.held.now m.units.now m.records.now _ _ _ _ _ _ _ _ _ c.requires.0 c.if-frame-eq32.true c.list_frame-p.ensures

@@ -15,5 +15,5 @@ returns c =
     let m = a.areas.now in
     let p = c.pass-p in
     listed a.k _ p.result.taken _ _ _ a.area.now _ _ _ _ c.requires.1
-    (p.ensures.got ∙ pass_all 63 a.r a.frame.now m.held m.units m.records)
+    (p.ensures.got ∙ pass_all 63 a.r a.frame.now m.held.now m.units.now m.records.now)
     c.put_opening-at.ensures c.put_line-end.ensures
