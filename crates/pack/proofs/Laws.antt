@@ -38,6 +38,14 @@ module _ (writing : Bool) (c₀ : Course) (f₀ : Files) (insert ocf : List ℕ)
   pub going : (n : ℕ) (p : Place) (areas lists : List ℕ) {k : ℕ} → p.next ≡ Some k → At n p areas lists → Going n p areas lists k
   going n p areas lists is at = subst (λ (o : Option ℕ). MatchOption o (Ended p) (λ k. Going n p areas lists k)) is at
 
+  -- After as many turns as are counted it is over.
+  pub ended : (n : ℕ) (p : Place) (areas lists : List ℕ) → n ≡ 18446744073709551615 → At n p areas lists → Ended p
+  ended n p areas lists e = go p.next
+    where
+      go : (o : Option ℕ) → MatchOption o (Ended p) (λ k. Going n p areas lists k) → Ended p
+      go None at = at
+      go (Some k) at = at.counted e
+
 module _ {writing : Bool} {c₀ : Course} {f₀ : Files} {insert ocf areas lists areas' lists' : List ℕ} {n k : ℕ} {p q : Place}
     (g : Going writing c₀ f₀ insert ocf n p areas lists k) (s : Stepped writing p k insert ocf areas lists q areas' lists') where
   over_by : (b : Bool) → has_next s.move.course (with_file p.files k s.move.source) ≡ b → (b ≡ true → n + 1 ≡ 18446744073709551615)
